@@ -1,0 +1,10 @@
+//! The vocabulary of the gate: small containers, tokens, and the syntax of Go that its layers share.
+#![tactic(auto)]
+
+pub mod boxed;
+pub mod list;
+pub mod memory;
+pub mod steps;
+pub mod syntax;
+pub mod text;
+pub mod token;

@@ -1,0 +1,10 @@
+//! The syntax of Go in this profile, after the grammar of the Go specification: an enum has a
+//! variant for each alternative of a rule, with a field for each part in the order of the parts. A
+//! chain of operators and a chain of what follows an operand are flat lists, so that no depth
+//! grows with the length of a file.
+pub mod declaration;
+pub mod expression;
+pub mod name;
+pub mod operator;
+pub mod statement;
+pub mod types;

@@ -1,0 +1,68 @@
+//! Files and declarations.
+use crate::list::List;
+use crate::syntax::expression::Expr;
+use crate::syntax::name::Name;
+use crate::syntax::statement::Block;
+use crate::syntax::types::{ParameterDecl, Signature, Type};
+use crate::text::Text;
+
+/// A source file.
+#[derive(Drop)]
+pub struct File {
+    pub package: Name,
+    pub imports: List<ImportSpec>,
+    pub decls: List<Decl>,
+}
+
+/// An import, and the byte offset of its path's first quote.
+#[derive(Drop)]
+pub struct ImportSpec {
+    pub name: Option<Name>,
+    pub path: Text,
+    pub place: u32,
+}
+
+/// A declaration at package level.
+#[derive(Drop)]
+pub enum Decl {
+    ConstGroup(List<ConstSpec>),
+    VarGroup(List<VarSpec>),
+    TypeGroup(List<TypeSpec>),
+    FuncDecl(Func),
+}
+
+/// Constants. One without values, which then has no type either, repeats type and values of the
+/// nearest earlier spec of its group that has values.
+#[cycle(syntax)]
+#[derive(Drop)]
+pub struct ConstSpec {
+    pub names: List<Name>,
+    pub type_: Option<Type>,
+    pub values: List<Expr>,
+}
+
+/// Variables, with a type, values or both.
+#[cycle(syntax)]
+#[derive(Drop)]
+pub struct VarSpec {
+    pub names: List<Name>,
+    pub type_: Option<Type>,
+    pub values: List<Expr>,
+}
+
+/// A type declaration, and whether `=` makes it an alias.
+#[derive(Drop)]
+pub struct TypeSpec {
+    pub name: Name,
+    pub alias: bool,
+    pub type_: Type,
+}
+
+/// A function, or with a receiver a method. A receiver is one parameter.
+#[derive(Drop)]
+pub struct Func {
+    pub receiver: Option<ParameterDecl>,
+    pub name: Name,
+    pub signature: Signature,
+    pub body: Option<Block>,
+}

@@ -1,0 +1,4 @@
+pub mod Faults
+pub mod Paths
+pub mod Sinks
+pub mod Stores

@@ -1,0 +1,7 @@
+//! What the gate reads from and writes to, each as a trait with a written meaning: stores of files
+//! and sinks of bytes, which count their faults, and the entry hook of workers.
+#![tactic(auto)]
+
+pub mod files;
+pub mod gate;
+pub mod sink;
