@@ -1,0 +1,5 @@
+pub mod Gathered
+pub mod Grown
+pub mod Ordered
+pub mod Taken
+pub mod Tested

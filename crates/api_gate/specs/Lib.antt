@@ -1,0 +1,5 @@
+pub mod Constants
+pub mod Delivery
+pub mod Features
+pub mod Outcome
+pub mod Words

@@ -1,0 +1,46 @@
+//! Writing: a text in pieces, and a decision to both sinks.
+ghost use Rattle.std.specs.Prelude.{◌≡◌, ◌⊎◌, ℕ};
+ghost use Rattle.go_outside.specs.Faults.{Rose};
+ghost use Rattle.go_outside.specs.Sinks.{AnswersWrite, SinkCause};
+ghost use Rattle.api_gate.specs.Delivery.{Delivered};
+
+use crate::decision::Decision;
+use crate::status::Status;
+use go_outside::sink::{Sink, SinkError};
+
+/// The most bytes that are written at once.
+pub const PIECE: usize = 65_536;
+
+const WRITE_LINE: &[u8] = b"apigate: write fault\n";
+
+/// Writes the bytes in pieces of at most `PIECE` bytes, none of them empty.
+pub fn write_pieces<S: Sink>(sink: &mut S, bytes: &[u8]) -> Result<(), SinkError>
+    ensures bytes { AnswersWrite (S.told sink.old) bytes.now (S.told sink.new) result }
+    ensures cause { SinkCause (S.faults sink.old) (S.faults sink.new) result }
+{
+    let mut at = 0usize;
+    while at < bytes.len() {
+        let end = if bytes.len() - at < PIECE { bytes.len() } else { at + PIECE };
+        if let Err(error) = sink.write(&bytes[at..end]) {
+            return Err(error);
+        }
+        at = end;
+    }
+    Ok(())
+}
+
+/// Writes the report to `out` and the fault line to `err`. After a fault on `out` the line of a
+/// write fault is tried once on `err`, and the status is that of a write fault.
+pub fn deliver<S: Sink, E: Sink>(out: &mut S, err: &mut E, decision: &Decision) -> Status
+    ensures written { Delivered decision.now result (S.told out.old) (S.told out.new) (E.told err.old) (E.told err.new) }
+    ensures cause { result ≡ Status.WriteFault → Rose (S.faults out.old) (S.faults out.new) ⊎ Rose (E.faults err.old) (E.faults err.new) }
+{
+    if let Err(_) = write_pieces(out, decision.output()) {
+        let _told = write_pieces(err, WRITE_LINE);
+        return Status::WriteFault;
+    }
+    if let Err(_) = write_pieces(err, decision.fault_line()) {
+        return Status::WriteFault;
+    }
+    decision.status()
+}

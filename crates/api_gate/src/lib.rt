@@ -1,0 +1,10 @@
+//! The gate's top call: words and a store of files in, a report or a fault line and a status out.
+#![tactic(auto)]
+
+pub mod constants;
+pub mod decision;
+pub mod deliver;
+pub mod features;
+pub mod names;
+pub mod status;
+pub mod words;
