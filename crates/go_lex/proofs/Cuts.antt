@@ -1,5 +1,5 @@
 -- A text has one cut into lexemes, which ends at its one bad place or at the end.
-use Rattle.std.proofs.Common.{◌≡◌, ℕ, zero, suc, ◌+◌, ◌-◌, ◌≤◌, List, [], ◌∷◌, ◌++◌, length, refl, sym, ap, ◌∙◌, subst, arith, length-append}
+use Rattle.std.proofs.Common.{◌≡◌, ℕ, ◌≤◌, List, [], ◌∷◌, ◌++◌, length, refl, sym, ap, ◌∙◌, subst, arith, length-append}
 use Rattle.go_model.specs.declared.token.LexemeKind.{LexemeKind}
 use Rattle.go_model.specs.Lexemes.{IsLexeme, Begins, BeginsLongest, BeginsNone, Lexeme, CutTo, here, next}
 use Rattle.go_lex.specs.Fronts.{start_of}

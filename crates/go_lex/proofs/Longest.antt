@@ -1,5 +1,5 @@
 -- The longest lexeme at the front of some bytes, by what its first byte tells.
-use Rattle.std.proofs.Common.{◌≡◌, ℕ, zero, suc, ◌+◌, ◌-◌, ◌<◌, ◌≤◌, Bool, true, false, cond, List, [], ◌∷◌, ◌++◌, length, get_or, take, drop, Option, Some, None, refl, sym, ap, ◌∙◌, subst, arith, one-add, length-drop}
+use Rattle.std.proofs.Common.{◌≡◌, ℕ, zero, suc, ◌+◌, ◌-◌, ◌<◌, ◌≤◌, Bool, true, false, cond, List, [], ◌∷◌, ◌++◌, length, get_or, take, drop, Some, None, refl, sym, ap, ◌∙◌, subst, arith, one-add, length-drop}
 use Rattle.std.specs.Prelude.{bytes_eq, codes}
 use Rattle.std.specs.List.{prefix_len}
 use Rattle.std.proofs.lemmas.List.Sums.{prefix_len-le-length}
@@ -9,7 +9,7 @@ use Rattle.go_model.specs.declared.token.TokenKind.TheVariants.{Assign, IntLit}
 use Rattle.go_model.specs.declared.token.LexemeKind.{LexemeKind}
 use Rattle.go_model.specs.declared.token.LexemeKind.TheVariants as lexeme
 use Rattle.go_model.specs.Lists.{Passes}
-use Rattle.go_model.specs.Lexemes.{is_name_byte, is_digit, kind_in, operators, name_kind, IsLexeme, blank, newline, operator, name, zero_literal, decimal_literal, Begins, BeginsLongest, BeginsNone}
+use Rattle.go_model.specs.Lexemes.{is_name_byte, is_digit, kind_in, operators, name_kind, IsLexeme, blank, newline, operator, name, zero_literal, decimal_literal, Begins, BeginsNone}
 use Rattle.go_lex.specs.declared.scan.Start.{Start}
 use Rattle.go_lex.specs.declared.scan.Start.TheVariants.{Blank, Newline, Equals, Letter, Zero, Digit, Other}
 use Rattle.go_lex.specs.Fronts.{start_of, IsFront}

@@ -1,9 +1,8 @@
 -- What a lexeme's first byte tells.
-use Rattle.std.proofs.Common.{◌≡◌, ℕ, Bool, true, false, cond, refl, arith}
+use Rattle.std.proofs.Common.{◌≡◌, ℕ, true, refl, arith}
 use Rattle.std.proofs.lemmas.Bool.Decides.{nat_tests}
-use Rattle.go_model.specs.Lexemes.{is_blank, is_letter, is_digit, is_first_digit}
-use Rattle.go_lex.specs.declared.scan.Start.{Start}
-use Rattle.go_lex.specs.declared.scan.Start.TheVariants.{Blank, Newline, Equals, Letter, Zero, Digit, Other}
+use Rattle.go_model.specs.Lexemes.{is_blank, is_letter, is_first_digit}
+use Rattle.go_lex.specs.declared.scan.Start.TheVariants.{Blank, Newline, Equals, Letter, Zero, Digit}
 use Rattle.go_lex.specs.Fronts.{start_of}
 
 pub blank_starts : (b : ℕ) → is_blank b ≡ true → start_of b ≡ Blank

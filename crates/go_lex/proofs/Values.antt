@@ -1,5 +1,5 @@
 -- An integer literal consists of digits.
-use Rattle.std.proofs.Common.{◌≡◌, ℕ, Bool, true, false, cond, List, [], ◌∷◌, Option, Some, None, refl, sym, ap, ◌∙◌, arith}
+use Rattle.std.proofs.Common.{◌≡◌, ℕ, Bool, true, false, cond, List, [], ◌∷◌, Option, Some, refl, sym, ap, ◌∙◌, arith}
 use Rattle.std.specs.Prelude.{bytes_eq, unwrap_or}
 use Rattle.std.proofs.lemmas.Bool.Decides.{nat_tests}
 use Rattle.go_model.specs.declared.token.TokenKind.{TokenKind}
@@ -7,7 +7,7 @@ use Rattle.go_model.specs.declared.token.TokenKind.TheVariants.{Ident, IntLit}
 use Rattle.go_model.specs.declared.token.LexemeKind.{LexemeKind}
 use Rattle.go_model.specs.declared.token.LexemeKind.TheVariants as lexeme
 use Rattle.go_model.specs.Lists.{Passes}
-use Rattle.go_model.specs.Lexemes.{is_digit, is_first_digit, KindTable, kind_in, keywords, operators, name_kind, IsLexeme, blank, newline, operator, name, zero_literal, decimal_literal}
+use Rattle.go_model.specs.Lexemes.{is_digit, is_first_digit, KindTable, kind_in, keywords, name_kind, IsLexeme, blank, newline, operator, name, zero_literal, decimal_literal}
 use Rattle.go_lex.proofs.Longest.{operator_is}
 
 -- an integer literal's kind, as a test

@@ -53,8 +53,8 @@ pub fn one_list()
 {}
 
 /// What a lexeme's first byte tells of it.
-#[derive(Clone, Copy, Debug, PartialEq, Eq)]
-pub enum Start {
+#[derive(Clone, Copy)]
+enum Start {
     Blank,
     Newline,
     Equals,
@@ -65,10 +65,10 @@ pub enum Start {
 }
 
 /// The longest lexeme that some bytes begin with.
-#[derive(Clone, Copy, Debug, PartialEq, Eq)]
-pub struct Front {
-    pub kind: LexemeKind,
-    pub len: usize,
+#[derive(Clone, Copy)]
+struct Front {
+    kind: LexemeKind,
+    len: usize,
 }
 
 #[tactic(auto, unfolding(crate::specs::Fronts::start_of))]
@@ -86,7 +86,7 @@ fn start_of(b: u8) -> Start
     }
 }
 
-/// How many bytes at the front may go on a name.
+/// How many bytes at the front can go on a name.
 fn name_len(bytes: &[u8]) -> usize
     ensures value { result ≡ prefix_len is_name_byte bytes.now }
     ensures within { result ≤ length bytes.now }
@@ -156,6 +156,7 @@ impl Emitter {
         }
     }
 
+    /// One more token, and whether it ends a line.
     fn emit_token(
         &mut self,
         alloc: Global,
@@ -165,8 +166,8 @@ impl Emitter {
     ) -> Result<(), NoMemory>
         requires short { start + length text.now ≤ 4194304 }
         requires lexeme { IsLexeme (lexeme.Token kind) text.now }
-        ensures tokens { OnOk result (self.new.tokens ≡ self.old.tokens ++ record { kind = kind; start = start; end = start + length text.now; inserted = false; value = token_value kind text.now } ∷ []) }
-        ensures pending { OnOk result (self.new.pending ≡ (if ends_line kind then Some (start + length text.now) else None)) }
+        ensures tokens { OnOk result (self.new.tokens ≡ self.old.tokens ++ lexeme_tokens (lexeme.Token kind) text.now start self.old.pending) }
+        ensures pending { OnOk result (self.new.pending ≡ pending_after (lexeme.Token kind) (start + length text.now) self.old.pending) }
     {
         let end = start + text.len() as u32;
         let value = token_value(alloc, kind, text)?;
@@ -211,6 +212,7 @@ fn token_value(alloc: Global, kind: TokenKind, text: &[u8]) -> Result<TokenValue
     }
 }
 
+/// After a token of these kinds a newline inserts a semicolon.
 fn ends_line(kind: TokenKind) -> bool
     ensures { result ≡ ends_line kind }
 {
@@ -232,4 +234,175 @@ fn ends_line(kind: TokenKind) -> bool
             | TokenKind::RightBracket
             | TokenKind::RightBrace
     )
+}
+
+#[cfg(test)]
+mod tests {
+    use super::*;
+    use std::test::Fail;
+
+    fn kinds(alloc: Global, tokens: &[Token]) -> Result<Vec<TokenKind>, Fail> {
+        let mut kinds = Vec::new(alloc);
+        for token in tokens {
+            kinds.push(token.kind)?;
+        }
+        Ok(kinds)
+    }
+
+    #[test]
+    fn places_tokens_and_inserted_semicolons(rt: HostRuntime) -> Result<(), Fail> {
+        let tokens = scan(rt.alloc(), b"package p\n\n\tconst X = 5")?;
+        let wanted = [
+            (TokenKind::PackageWord, 0, 7, false),
+            (TokenKind::Ident, 8, 9, false),
+            (TokenKind::Semicolon, 9, 9, true),
+            (TokenKind::ConstWord, 12, 17, false),
+            (TokenKind::Ident, 18, 19, false),
+            (TokenKind::Assign, 20, 21, false),
+            (TokenKind::IntLit, 22, 23, false),
+            (TokenKind::Semicolon, 23, 23, true),
+        ];
+        assert_eq!(rt; tokens.items().len(), wanted.len());
+        for (token, want) in tokens.items().iter().zip(wanted.iter()) {
+            assert_eq!(rt; (token.kind, token.start, token.end, token.inserted), *want);
+        }
+        Ok(())
+    }
+
+    #[test]
+    fn takes_the_longest_lexeme(rt: HostRuntime) -> Result<(), Fail> {
+        let cases = [
+            (b"".as_slice(), [].as_slice()),
+            (b" \t\n\n".as_slice(), [].as_slice()),
+            (
+                b"012\n".as_slice(),
+                [TokenKind::IntLit, TokenKind::IntLit, TokenKind::Semicolon].as_slice(),
+            ),
+            (
+                b"1a".as_slice(),
+                [TokenKind::IntLit, TokenKind::Ident, TokenKind::Semicolon].as_slice(),
+            ),
+            (
+                b"a1\n\n".as_slice(),
+                [TokenKind::Ident, TokenKind::Semicolon].as_slice(),
+            ),
+            (
+                b"const\nX=".as_slice(),
+                [TokenKind::ConstWord, TokenKind::Ident, TokenKind::Assign].as_slice(),
+            ),
+            (
+                b"constX".as_slice(),
+                [TokenKind::Ident, TokenKind::Semicolon].as_slice(),
+            ),
+            (
+                b"return".as_slice(),
+                [TokenKind::ReturnWord, TokenKind::Semicolon].as_slice(),
+            ),
+        ];
+        for (text, wanted) in cases {
+            let tokens = scan(rt.alloc(), text)?;
+            assert_eq!(rt;
+                kinds(rt.alloc(), tokens.items())?.as_slice(),
+                wanted,
+                "{text:?}"
+            );
+        }
+        Ok(())
+    }
+
+    #[test]
+    fn knows_the_keywords(rt: HostRuntime) -> Result<(), Fail> {
+        let text =
+            b"break case chan const continue default defer else fallthrough for func go goto if \
+            import interface map package range return select struct switch type var";
+        let wanted = [
+            TokenKind::BreakWord,
+            TokenKind::CaseWord,
+            TokenKind::ChanWord,
+            TokenKind::ConstWord,
+            TokenKind::ContinueWord,
+            TokenKind::DefaultWord,
+            TokenKind::DeferWord,
+            TokenKind::ElseWord,
+            TokenKind::FallthroughWord,
+            TokenKind::ForWord,
+            TokenKind::FuncWord,
+            TokenKind::GoWord,
+            TokenKind::GotoWord,
+            TokenKind::IfWord,
+            TokenKind::ImportWord,
+            TokenKind::InterfaceWord,
+            TokenKind::MapWord,
+            TokenKind::PackageWord,
+            TokenKind::RangeWord,
+            TokenKind::ReturnWord,
+            TokenKind::SelectWord,
+            TokenKind::StructWord,
+            TokenKind::SwitchWord,
+            TokenKind::TypeWord,
+            TokenKind::VarWord,
+        ];
+        let tokens = scan(rt.alloc(), text)?;
+        assert_eq!(rt;
+            kinds(rt.alloc(), tokens.items())?.as_slice(),
+            wanted.as_slice()
+        );
+        Ok(())
+    }
+
+    #[test]
+    fn gives_values_up_to_the_widest(rt: HostRuntime) -> Result<(), Fail> {
+        let cases = [
+            (b"0".as_slice(), Some(0)),
+            (b"90".as_slice(), Some(90)),
+            (
+                b"170141183460469231731687303715884105727".as_slice(),
+                Some(i128::MAX),
+            ),
+            (b"170141183460469231731687303715884105728".as_slice(), None),
+            (b"340282366920938463463374607431768211456".as_slice(), None),
+        ];
+        for (text, wanted) in cases {
+            let tokens = scan(rt.alloc(), text)?;
+            let got = match tokens.items() {
+                [
+                    Token {
+                        value: TokenValue::Number(value),
+                        ..
+                    },
+                    _,
+                ] => Some(*value),
+                [
+                    Token {
+                        value: TokenValue::Wide,
+                        ..
+                    },
+                    _,
+                ] => None,
+                _ => Some(-1),
+            };
+            assert_eq!(rt; got, wanted, "{text:?}");
+        }
+        Ok(())
+    }
+
+    #[test]
+    fn refuses_at_the_first_byte_of_no_lexeme(rt: HostRuntime) {
+        let cases = [
+            (b"a\0".as_slice(), 1),
+            (b"a\r\n".as_slice(), 1),
+            (b"\xef\xbb\xbfa".as_slice(), 0),
+            (b"a_b".as_slice(), 1),
+            (b"a \xc3\xa9".as_slice(), 2),
+            (b"a // c\n".as_slice(), 2),
+            (b"const X = 5;".as_slice(), 11),
+        ];
+        for (text, place) in cases {
+            assert_eq!(rt;
+                scan(rt.alloc(), text).err(),
+                Some(LexError::BadToken(place)),
+                "{text:?}"
+            );
+        }
+    }
 }

@@ -1,4 +1,4 @@
-use Rattle.std.proofs.Common.{◌≡◌, ◌<◌, ◌≤◌, arith}
+use Rattle.std.proofs.Common.{arith}
 use Rattle.go_model.specs.Tokens.{decimal_value}
 use Rattle.go_lex.proofs.Digits.{front_smaller, passes_at}
 use Rattle.go_lex.proofs.number.narrow_value.Goals as goal
