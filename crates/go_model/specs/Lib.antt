@@ -1,2 +1,4 @@
+pub mod Lexemes
 pub mod Lists
+pub mod Tokens
 pub mod formers

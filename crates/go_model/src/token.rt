@@ -91,6 +91,15 @@ pub enum TokenKind {
     Colon,
 }
 
+/// What a lexeme is, in the cut of a file into white space and tokens: white space that only
+/// separates tokens, what acts like a newline, or a token.
+#[derive(Clone, Copy, Debug, PartialEq, Eq)]
+pub enum LexemeKind {
+    Blank,
+    Newline,
+    Token(TokenKind),
+}
+
 /// What a token says besides its kind. Keywords, operators, floating and imaginary literals say
 /// nothing.
 #[derive(Drop)]
