@@ -25,3 +25,7 @@ write_line = codes "apigate: write fault\n"
 
 abbrev pub memory_line : List ℕ
 memory_line = codes "apigate: out of memory\n"
+
+-- the fault line for input of a form that isn't built yet
+abbrev pub not_yet_line : List ℕ
+not_yet_line = codes "apigate: input of a form not built yet\n"

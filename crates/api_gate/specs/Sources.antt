@@ -9,11 +9,15 @@ use Rattle.go_model.specs.Tokens.{IsTokens}
 use Rattle.api_gate.specs.declared.source.Source.{Source}
 use Rattle.api_gate.specs.Constants.{constants_of}
 
--- the bytes are the tokens of an outline that declares these constants
-pub record IsSource (bytes : List ℕ) (source : Source) : Type 0 where
-  pub tokens : List Token
-  pub outline : File
-  pub cut : IsTokens bytes tokens
-  pub derived : IsOutline tokens outline
+-- the syntax tree has this package name and declares these constants
+pub record Declares (outline : File) (source : Source) : Type 0 where
   pub package_name : source.package_name ≡ outline.«package».text
   pub constants : Some source.constants ≡ constants_of outline.decls
+
+-- the tokens have a tree, and it declares these
+abbrev pub IsParsed : List Token → Source → Type 0
+IsParsed tokens source = (outline : File) × IsOutline tokens outline × Declares outline source
+
+-- the bytes have tokens with such a tree
+abbrev pub IsSource : List ℕ → Source → Type 0
+IsSource bytes source = (tokens : List Token) × IsTokens bytes tokens × IsParsed tokens source

@@ -1,7 +1,7 @@
 //! A source file of the first form.
 ghost use Rattle.std.specs.Prelude.{◌≡◌, ◌≤◌, IfOk, Err, length};
 ghost use Rattle.api_gate.specs.declared.source.Source.{Source};
-ghost use Rattle.api_gate.specs.Sources.{IsSource};
+ghost use Rattle.api_gate.specs.Sources.{Declares, IsParsed, IsSource};
 
 use crate::constants::{Constant, constants_of};
 use go_lex::error::LexError;
@@ -10,6 +10,7 @@ use go_model::list::List;
 use go_model::memory::NoMemory;
 use go_model::syntax::declaration::File;
 use go_model::text::Text;
+use go_model::token::Token;
 use go_parse::error::ParseError;
 use go_parse::outline::{one_tree, parse_outline};
 use std::alloc::Global;
@@ -28,4 +29,55 @@ pub enum SourceError {
     /// It isn't of the first form.
     NotYet,
     NoMemory,
+}
+
+impl From<NoMemory> for SourceError {
+    ghost use Rattle.std.specs.Prelude.{◌≡◌};
+    ghost use Rattle.api_gate.specs.declared.source.SourceError.TheVariants.{NoMemory};
+
+    ghost from_gives = { λ _ e. e ≡ NoMemory };
+
+    fn from(_: NoMemory) -> SourceError {
+        SourceError::NoMemory
+    }
+}
+
+fn source_of(alloc: Global, outline: &File) -> Result<Source, SourceError>
+    ensures ok { IfOk result (Declares outline.now) }
+    ensures not_yet { result ≡ Err SourceError.NotYet → (s : Source) → Declares outline.now s → ⊥ }
+{
+    let Some(constants) = constants_of(alloc, outline.decls.items())? else {
+        return Err(SourceError::NotYet);
+    };
+    Ok(Source {
+        package_name: Text::of(alloc, outline.package.text.bytes())?,
+        constants,
+    })
+}
+
+fn parse_source(alloc: Global, tokens: &[Token]) -> Result<Source, SourceError>
+    ensures ok { IfOk result (IsParsed tokens.now) }
+    ensures not_yet { result ≡ Err SourceError.NotYet → (s : Source) → IsParsed tokens.now s → ⊥ }
+{
+    one_tree();
+    match parse_outline(alloc, tokens) {
+        Err(ParseError::NoMemory) => Err(SourceError::NoMemory),
+        Err(ParseError::Syntax) => Err(SourceError::NotYet),
+        Ok(outline) => source_of(alloc, &outline),
+    }
+}
+
+/// What the bytes of a source file declare. `NotYet` comes exactly where they aren't of the first
+/// form.
+pub fn read_source(alloc: Global, bytes: &[u8]) -> Result<Source, SourceError>
+    requires { length bytes.now ≤ 4194304 }
+    ensures ok { IfOk result (IsSource bytes.now) }
+    ensures not_yet { result ≡ Err SourceError.NotYet → (s : Source) → IsSource bytes.now s → ⊥ }
+{
+    one_list();
+    match scan(alloc, bytes) {
+        Err(LexError::NoMemory) => Err(SourceError::NoMemory),
+        Err(LexError::BadToken(_)) => Err(SourceError::NotYet),
+        Ok(tokens) => parse_source(alloc, tokens.items()),
+    }
 }

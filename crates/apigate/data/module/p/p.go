@@ -1,0 +1,3 @@
+package p
+
+const X = 5
