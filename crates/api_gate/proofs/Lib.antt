@@ -1,3 +1,7 @@
+pub mod FirstFormEntries
+pub mod FirstFormListings
+pub mod FirstFormNames
+pub mod FirstFormSteps
 pub mod Gathered
 pub mod Grown
 pub mod Ordered

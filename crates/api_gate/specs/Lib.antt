@@ -1,5 +1,10 @@
 pub mod Constants
 pub mod Delivery
 pub mod Features
+pub mod FirstForm
+pub mod FirstFormReading
 pub mod Outcome
+pub mod Packages
+pub mod Runs
+pub mod Sources
 pub mod Words
