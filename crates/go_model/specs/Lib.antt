@@ -1,2 +1,4 @@
 pub mod Lists
+pub mod Outline
+pub mod Terminals
 pub mod formers
