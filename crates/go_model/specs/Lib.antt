@@ -1,4 +1,6 @@
 pub mod Lexemes
 pub mod Lists
+pub mod Outline
+pub mod Terminals
 pub mod Tokens
 pub mod formers

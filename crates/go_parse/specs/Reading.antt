@@ -1,0 +1,109 @@
+-- What a reading by recursive descent finds: the first step is a tree of a front of the terminals, and
+-- what is left after it.
+use Rattle.std.specs.Prelude.{ℕ, zero, suc, Bool, true, false, if◌then◌else◌, List, [], ◌∷◌, ◌++◌, length, drop, Option, Some, None}
+use denote.Enum.Bare.{sameb}
+use Rattle.go_model.specs.contracts.token.TokenKind.{the_type}
+use Rattle.go_model.specs.declared.syntax.expression.Literal.{Literal}
+use Rattle.go_model.specs.declared.syntax.expression.Literal.TheVariants as literal
+use Rattle.go_model.specs.declared.syntax.name.Name.{Name}
+use Rattle.go_model.specs.declared.token.TokenKind.{TokenKind}
+use Rattle.go_model.specs.declared.token.TokenKind.TheVariants as kind
+use Rattle.go_model.specs.Terminals.{Terminal, Sign, Identifier, Basic, Odd}
+
+-- what is found, and what is left
+abbrev pub Found : Type 0 → Type 0
+Found A = Option (A × List Terminal)
+
+abbrev pub Reader : Type 0 → Type 0
+Reader A = List Terminal → Found A
+
+abbrev pub bind : {A B : Type 0} → Found A → (A → Reader B) → Found B
+bind None f = None
+bind (Some p) f = f p.0 p.1
+
+-- what one turn of a loop does
+pub data Next (A : Type 0) : Type 0 where
+  Stop : Next A
+  Fail : Next A
+  More : A → List Terminal → Next A
+
+abbrev pub after : {A : Type 0} → Found A → Next A
+after None = Fail
+after (Some p) = More p.0 p.1
+
+abbrev pub turn : {A : Type 0} → (A → Reader A) → A → List Terminal → Next A → Found A
+turn go acc ts Stop = Some (acc, ts)
+turn go acc ts Fail = None
+turn go acc ts (More a rest) = go a rest
+
+unfoldable pub loop : {A : Type 0} → (A → List Terminal → Next A) → ℕ → A → Reader A
+loop step zero acc ts = Some (acc, ts)
+loop step (suc n) acc ts = turn (loop step n) acc ts (step acc ts)
+
+-- turns until one stops
+unfoldable pub run : {A : Type 0} → (A → List Terminal → Next A) → A → Reader A
+run step acc ts = loop step (length ts) acc ts
+
+-- one item more
+abbrev pub put : {A : Type 0} → List A → Next A → Next (List A)
+put acc Stop = Stop
+put acc Fail = Fail
+put acc (More a ts) = More (acc ++ a ∷ []) ts
+
+abbrev pub step_of : {A : Type 0} → (List Terminal → Next A) → List A → List Terminal → Next (List A)
+step_of item acc ts = put acc (item ts)
+
+-- the keyword or operator that a terminal is
+abbrev pub sign_of : Terminal → Option TokenKind
+sign_of (Sign k at) = Some k
+sign_of _ = None
+
+abbrev pub sign_at : List Terminal → Option TokenKind
+sign_at [] = None
+sign_at (t ∷ ts) = sign_of t
+
+abbrev pub silent_sign : TokenKind → Option TokenKind
+silent_sign kind.Ident = None
+silent_sign kind.IntLit = None
+silent_sign kind.FloatLit = None
+silent_sign kind.ImagLit = None
+silent_sign kind.RuneLit = None
+silent_sign kind.StrLit = None
+silent_sign k = Some k
+
+abbrev pub same_kind : TokenKind → TokenKind → Bool
+same_kind = sameb the_type
+
+abbrev pub is_sign : TokenKind → Option TokenKind → Bool
+is_sign k None = false
+is_sign k (Some j) = same_kind j k
+
+-- whether this keyword or operator is next
+abbrev pub begins : TokenKind → List Terminal → Bool
+begins k ts = is_sign k (sign_at ts)
+
+unfoldable pub expect : TokenKind → Reader (Unit {0})
+expect k ts = if begins k ts then Some (tt, drop 1 ts) else None
+
+abbrev pub found_at : {A : Type 0} → Option A → List Terminal → Found A
+found_at None ts = None
+found_at (Some a) ts = Some (a, ts)
+
+-- the name that a terminal is
+abbrev pub name_of : Terminal → Option Name
+name_of (Identifier n) = Some n
+name_of _ = None
+
+abbrev pub name : Reader Name
+name [] = None
+name (t ∷ ts) = found_at (name_of t) ts
+
+-- the integer literal that a terminal is
+abbrev pub integer_of : Terminal → Option Literal
+integer_of (Basic (literal.Int n) place) = Some (literal.Int n)
+integer_of (Basic literal.Wide place) = Some literal.Wide
+integer_of _ = None
+
+abbrev pub integer : Reader Literal
+integer [] = None
+integer (t ∷ ts) = found_at (integer_of t) ts
