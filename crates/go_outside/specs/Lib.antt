@@ -1,4 +1,5 @@
 pub mod Faults
+pub mod MemorySink
 pub mod Paths
 pub mod Sinks
 pub mod Stores

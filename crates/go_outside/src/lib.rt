@@ -4,4 +4,5 @@
 
 pub mod files;
 pub mod gate;
+pub mod memory_sink;
 pub mod sink;
