@@ -1,5 +1,6 @@
 -- What a sink in memory is: the bytes taken, its room, and its count of faults.
-use Rattle.std.specs.Prelude.{ℕ, ◌+◌, ◌-◌, ◌^◌, ◌≤◌, nat_le, min, if◌then◌else◌, List, [], ◌++◌, length}
+use Rattle.std.specs.Prelude.{ℕ, ◌+◌, ◌≤◌, nat_le, if◌then◌else◌, List, [], ◌++◌, length}
+use Rattle.go_outside.specs.Faults.{one_more}
 
 pub record State : Type 0 where
   pub bytes : List ℕ
@@ -14,10 +15,6 @@ pub record IsWithin (taken capacity room : ℕ) : Type 0 where
 -- nothing was taken, and nothing failed
 abbrev pub empty : ℕ → State
 empty capacity = record { bytes = []; capacity = capacity; faults = 0 }
-
--- a count of faults that rises by one, and stands still at the last value of its type
-abbrev pub one_more : ℕ → ℕ
-one_more faults = min (faults + 1) (2 ^ 64 - 1)
 
 -- a piece is taken whole where there is room for it, and else not at all, which is a fault
 abbrev pub written : State → List ℕ → State

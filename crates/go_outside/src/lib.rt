@@ -4,5 +4,7 @@
 
 pub mod files;
 pub mod gate;
+pub mod host_files;
+pub mod host_sink;
 pub mod memory_sink;
 pub mod sink;
