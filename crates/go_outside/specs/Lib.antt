@@ -1,5 +1,7 @@
 pub mod Faults
+pub mod MemoryFiles
 pub mod MemorySink
 pub mod Paths
 pub mod Sinks
+pub mod SortedPairs
 pub mod Stores

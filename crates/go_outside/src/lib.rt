@@ -6,5 +6,7 @@ pub mod files;
 pub mod gate;
 pub mod host_files;
 pub mod host_sink;
+pub mod memory_files;
 pub mod memory_sink;
+mod paths;
 pub mod sink;
