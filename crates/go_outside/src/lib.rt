@@ -2,6 +2,9 @@
 //! and sinks of bytes, which count their faults, and the entry hook of workers.
 #![tactic(auto)]
 
+mod call_numbers;
+pub mod failing_files;
+pub mod failing_sink;
 pub mod files;
 pub mod gate;
 pub mod host_files;
