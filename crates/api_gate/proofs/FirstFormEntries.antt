@@ -1,19 +1,16 @@
 -- Entries of folders: what stands in a listing of a store of the first form.
-use Rattle.std.proofs.Common.{◌≡◌, ◌≢◌, ◌≤◌, ◌<◌, ◌+◌, ◌-◌, ◌⊎◌, ℕ, zero, suc, Bool, true, false, not, nat_eq, Option, Some, None, List, [], ◌∷◌, ◌++◌, length, take, drop, get_or, refl, sym, ap, ◌∙◌, subst, arith, inl, inr, append_assoc, length-append, Bor}
+use Rattle.std.proofs.Common.{◌≡◌, ◌≢◌, ◌≤◌, ◌<◌, ◌+◌, ℕ, suc, Bool, true, false, not, nat_eq, Option, Some, None, List, [], ◌∷◌, ◌++◌, length, take, drop, get_or, refl, sym, ap, ◌∙◌, arith, append_assoc, length-append, Bor}
 use Rattle.std.specs.Prelude.{bytes_eq, if◌then◌else◌}
 use Rattle.std.specs.List.{prefix_len, list_all}
-use Rattle.std.proofs.lemmas.Slice.Eq.{bytes_eq-Decides}
 use Rattle.std.proofs.lemmas.List.{take-append-drop, take_at, drop_at, take_all}
 use Rattle.std.proofs.Math.Seq.{drop-cons}
 use Rattle.std.proofs.lemmas.List.Sums.{prefix_len-le-length, prefix_len_stops}
 use Rattle.std.proofs.lemmas.Bool.{eqb-true, eq-eqb, and_parts, and_from}
-use Rattle.go_model.specs.Lists.{Has, Once}
 use Rattle.go_outside.specs.declared.files.Entry.{Entry}
 use Rattle.go_outside.specs.declared.files.EntryKind.TheVariants as kind
 use Rattle.go_outside.specs.Paths.{Path, after, after_slash, within, not_slash, entry_at, entry_of_rest, entry_of}
-use Rattle.go_outside.specs.Stores.{IsListing}
-use Rattle.api_gate.specs.FirstForm.{under, go_mod, is_lower}
-use Rattle.api_gate.specs.FirstFormReading.{FindsName, file_entry, folder_entry, IsFolder, IsFile, AreRoot, AreLone}
+use Rattle.api_gate.specs.FirstForm.{under}
+use Rattle.api_gate.specs.FirstFormReading.{FindsName, file_entry, folder_entry, IsFile, AreLone}
 use Rattle.api_gate.proofs.FirstFormNames.{not_true, false_of, no_slash, front_on, front_off}
 
 single : {A : Type 0} (xs : List A) (x : A) → 1 ≤ length xs → length xs < 2 → x ≡ get_or xs 0 x → xs ≡ x ∷ []

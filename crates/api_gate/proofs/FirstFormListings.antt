@@ -1,5 +1,5 @@
 -- The listings of a store of the first form, and the form that they make.
-use Rattle.std.proofs.Common.{◌≡◌, ◌≢◌, ◌≤◌, ◌⊎◌, ℕ, Bool, true, false, Option, Some, None, List, [], ◌∷◌, ◌++◌, length, refl, sym, ap, ◌∙◌, subst, inl, inr}
+use Rattle.std.proofs.Common.{◌≡◌, ◌≢◌, ◌⊎◌, ℕ, true, Option, Some, None, List, [], ◌∷◌, ◌++◌, refl, sym, ap, ◌∙◌, subst, inl, inr}
 use Rattle.std.specs.List.{list_all}
 use Rattle.std.specs.FinMap.{get}
 use Rattle.std.proofs.lemmas.Bool.{and_parts, and_from}
@@ -10,7 +10,7 @@ use Rattle.go_outside.specs.declared.files.EntryKind.TheVariants as kind
 use Rattle.go_outside.specs.Paths.{Path, not_slash, entry_of}
 use Rattle.go_outside.specs.Stores.{Contents, IsTold, IsListing}
 use Rattle.api_gate.specs.declared.first_form.FirstForm.{FirstForm}
-use Rattle.api_gate.specs.FirstForm.{under, go_mod, is_lower, line_of, IsLowerCase, IsFolderName, IsFileName, IsFirstForm}
+use Rattle.api_gate.specs.FirstForm.{under, go_mod, is_lower, line_of, IsFolderName, IsFileName, IsFirstForm}
 use Rattle.api_gate.specs.FirstFormReading.{file_entry, folder_entry, AreRoot, AreLone, IsRoot, IsLone, HasBytes, IsModule}
 use Rattle.api_gate.proofs.FirstFormEntries.{some_same, not_slash_of, file_at, folder_at, file_is, folder_is, inside}
 

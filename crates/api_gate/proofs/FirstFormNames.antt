@@ -1,15 +1,15 @@
 -- Names and paths: what the tests find is what the definitions say.
-use Rattle.std.proofs.Common.{◌≡◌, ◌≢◌, ◌≤◌, ◌<◌, ◌+◌, ◌-◌, ◌⊎◌, ℕ, zero, suc, Bool, true, false, not, ◌&&◌, nat_eq, List, [], ◌∷◌, ◌++◌, length, take, drop, get_or, refl, sym, ap, ◌∙◌, subst, arith, inl, inr, Decides, append_assoc, length-append}
+use Rattle.std.proofs.Common.{◌≡◌, ◌≢◌, ◌≤◌, ◌-◌, ◌⊎◌, ℕ, Bool, true, false, not, ◌&&◌, nat_eq, List, [], ◌∷◌, ◌++◌, length, take, drop, get_or, refl, sym, ap, ◌∙◌, subst, arith, inl, inr, Decides, length-append}
 use Rattle.std.specs.Prelude.{bytes_eq, codes}
 use mathlib.Core.Bool.{true≢false}
-use Rattle.std.specs.List.{list_all, slice_split, join_with_byte, All, count_by}
+use Rattle.std.specs.List.{list_all, slice_split, join_with_byte, All}
 use Rattle.std.proofs.lemmas.Bool.{eqb-true, and_parts, and_from}
 use Rattle.std.proofs.lemmas.Slice.Eq.{bytes_eq-Decides}
 use Rattle.std.proofs.lemmas.List.{take-append-drop, take_at, drop_at}
 use Rattle.std.proofs.lemmas.List.Elements.{All-nil, All-cons}
 use Rattle.std.proofs.lemmas.List.Splits.{join_with_byte-slice_split, length-slice_split, slice_split_none, slice_split_at}
 use Rattle.go_model.specs.Lists.{Has}
-use Rattle.api_gate.specs.FirstForm.{is_element_byte, may_begin, is_element, IsModulePath, IsPublicPath, is_lower, IsLowerCase, IsFileName, line_of}
+use Rattle.api_gate.specs.FirstForm.{is_element_byte, may_begin, is_element, IsPublicPath, is_lower, IsLowerCase, IsFileName, line_of}
 use Rattle.api_gate.specs.FirstFormReading.{is_public_element, is_slash, IsLine}
 
 pub not_true : (b : Bool) → b ≡ false → b ≡ true → ⊥

@@ -1,19 +1,16 @@
 -- What each step finds, where the store tells its contents.
-use Rattle.std.proofs.Common.{◌≡◌, ◌≢◌, ◌⊎◌, ℕ, Option, Some, None, List, [], ◌∷◌, Result, Ok, Err, refl, sym, ap, ◌∙◌, subst, inl, inr, Bor}
-use Rattle.std.specs.FinMap.{get}
-use Rattle.std.specs.Prelude.{IfOk}
+use Rattle.std.proofs.Common.{◌≡◌, ◌≢◌, ℕ, Option, Some, None, List, Result, Ok, Err, refl, sym, ap, ◌∙◌, subst, inl, inr, Bor}
 use Rattle.go_outside.specs.declared.files.Entry.{Entry}
 use Rattle.go_outside.specs.declared.files.FilesError.{FilesError}
 use Rattle.go_outside.specs.declared.files.FilesError.TheVariants as files
 use Rattle.go_outside.specs.Faults.{Told}
 use Rattle.go_outside.specs.Paths.{Path, entry_of}
-use Rattle.go_outside.specs.Stores.{Contents, IsTold, IsListing, AnswersList}
+use Rattle.go_outside.specs.Stores.{Contents, IsTold, AnswersList}
 use Rattle.api_gate.specs.declared.first_form.FirstForm.{FirstForm}
 use Rattle.api_gate.specs.declared.first_form.FirstFormError.{FirstFormError}
 use Rattle.api_gate.specs.declared.first_form.FirstFormError.TheVariants.{NotYet, ReadFault, NoMemory}
 use Rattle.api_gate.specs.FirstForm.{under, go_mod, line_of, IsFirstForm}
-use Rattle.api_gate.specs.FirstFormReading.{error_of, Finds, FindsName, Copies, file_entry, folder_entry, IsLine, AreRoot, AreLone, IsRoot, IsLone, HasBytes, IsModule}
-use Rattle.api_gate.proofs.FirstFormEntries.{some_same}
+use Rattle.api_gate.specs.FirstFormReading.{error_of, Finds, FindsName, Copies, file_entry, IsLine, AreRoot, AreLone, IsRoot, IsLone, HasBytes, IsModule}
 use Rattle.api_gate.proofs.FirstFormListings.{some_not_none, root_listed, root_entries, lone_listed, lone_entries, same_bytes, same_folder, same_file, root_of, module_of, lone_of, source_of, form_of}
 
 pub told_as : {A : Type 0} (o : Option A) (P Q : A → Type 0) → ((a : A) → P a → Q a) → Told o P → Told o Q

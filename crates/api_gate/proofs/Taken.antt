@@ -1,7 +1,9 @@
 -- Bytes that a sink takes in pieces.
-use Rattle.std.proofs.Common.{◌≡◌, ℕ, zero, suc, ◌+◌, ◌-◌, ◌≤◌, List, [], ◌∷◌, ◌++◌, length, take, drop, Option, Some, None, Result, Ok, Err, refl, sym, ap, ◌∙◌, subst, append_assoc, arith, length-drop, length-take-le}
-use Rattle.go_outside.specs.Sinks.{Takes, TakesSome, AnswersWrite}
+use Rattle.std.proofs.Common.{◌≡◌, ℕ, zero, suc, ◌+◌, ◌-◌, ◌≤◌, List, [], ◌∷◌, ◌++◌, length, take, drop, Option, Some, None, Result, Ok, Err, refl, sym, ap, ◌∙◌, subst, append_assoc, inl, inr, arith, length-drop, length-take-le}
+use Rattle.go_outside.specs.Faults.{Rose}
+use Rattle.go_outside.specs.Sinks.{Takes, TakesSome, AnswersWrite, SinkCause}
 use Rattle.go_outside.specs.declared.sink.SinkError.{SinkError}
+use Rattle.api_gate.specs.Delivery.{Tried}
 
 append_nothing : (xs : List ℕ) → xs ++ [] ≡ xs
 append_nothing [] = refl
@@ -51,11 +53,7 @@ takes_front old mid new bytes at end h within first second =
     (at + second.0, omega arith, takes_piece old mid new bytes at (at + second.0) (omega arith) first
       (subst (λ (w : List ℕ). Takes mid w new) (take_of_take second.0 (end - at) (drop at bytes) small ∙ ap (λ n. take n (drop at bytes)) (omega arith)) second.2))
 
-take_all : (xs : List ℕ) → take (length xs) xs ≡ xs
-take_all [] = refl
-take_all (x ∷ xs) = ap (λ ys. x ∷ ys) (take_all xs)
-
--- whatever a write answers, a front was taken
-pub takes_some : (old new : Option (List ℕ)) (bytes : List ℕ) (r : Result (Unit {0}) SinkError) → AnswersWrite old bytes new r → TakesSome old bytes new
-takes_some old new bytes (Ok u) h = (length bytes, omega arith, subst (λ (w : List ℕ). Takes old w new) (sym (take_all bytes)) h)
-takes_some old new bytes (Err e) h = h
+-- what an attempt to write leaves
+pub tried : (rose : Type 0) (old new : Option (List ℕ)) (bytes : List ℕ) (before now : ℕ) (r : Result (Unit {0}) SinkError) → AnswersWrite old bytes new r → SinkCause before now r → (Rose before now → rose) → Tried rose old bytes new
+tried rose old new bytes before now (Ok u) h c f = inl h
+tried rose old new bytes before now (Err e) h c f = inr (f c, h)

@@ -11,6 +11,7 @@ use Rattle.go_model.specs.declared.syntax.expression.Expr.TheVariants as expr
 use Rattle.go_model.specs.declared.syntax.expression.Literal.{Literal}
 use Rattle.go_model.specs.declared.syntax.expression.Literal.TheVariants as literal
 use Rattle.go_model.specs.declared.syntax.name.Name.{Name}
+use Rattle.go_model.specs.declared.syntax.types.Type.{Type}
 use Rattle.api_gate.specs.declared.constants.Constant.{Constant}
 
 abbrev pub whole_number : Literal → Option ℤ
@@ -30,8 +31,13 @@ abbrev pub constant_by : List Name → List Expr → Option Constant
 constant_by (name ∷ []) (value ∷ []) = named name (value_of value)
 constant_by names values = None
 
+-- one constant without a type
+abbrev pub untyped : Option Type → Option Constant → Option Constant
+untyped None c = c
+untyped (Some t) c = None
+
 abbrev pub constant_of_spec : ConstSpec → Option Constant
-constant_of_spec spec = constant_by spec.names spec.values
+constant_of_spec spec = untyped spec.type_ (constant_by spec.names spec.values)
 
 -- the one constant of a declaration
 abbrev pub constant_of : Decl → Option Constant

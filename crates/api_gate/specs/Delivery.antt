@@ -1,5 +1,6 @@
 -- How a decision is written to the two sinks.
-use Rattle.std.specs.Prelude.{◌≡◌, ◌⊎◌, ℕ, List, [], Option, codes}
+-- Source: this project's reports and exit statuses, docs/definitions.md, "Runs".
+use Rattle.std.specs.Prelude.{◌≡◌, ◌⊎◌, ℕ, List, [], Option}
 use Rattle.api_gate.specs.declared.status.Status.{Status}
 use Rattle.api_gate.specs.declared.status.Status.TheVariants as status
 use Rattle.api_gate.specs.declared.decision.Decision.{Decision}
@@ -28,12 +29,18 @@ status_of (Refused line) = status.Refused
 status_of ReadFault = status.ReadFault
 status_of NoMemory = status.NoMemory
 
--- a front of the output was taken and the line of a write fault, or a front of it, was tried; or
--- the output was taken whole and a front of the fault line
-abbrev pub WriteFailed : Decision → Option (List ℕ) → Option (List ℕ) → Option (List ℕ) → Option (List ℕ) → Type 0
-WriteFailed d out out' err err' = (TakesSome out (output_of d) out' × TakesSome err write_line err') ⊎ (Takes out (output_of d) out' × TakesSome err (fault_of d) err')
+-- a sink took a text whole, or failed after a front of it
+abbrev pub Tried : Type 0 → Option (List ℕ) → List ℕ → Option (List ℕ) → Type 0
+Tried rose old text new = Takes old text new ⊎ (rose × TakesSome old text new)
 
--- both texts were written whole, or a write failed
-abbrev pub Delivered : Decision → Status → Option (List ℕ) → Option (List ℕ) → Option (List ℕ) → Option (List ℕ) → Type 0
-Delivered d status.WriteFault out out' err err' = WriteFailed d out out' err err'
-Delivered d got out out' err err' = (got ≡ status_of d) × Takes out (output_of d) out' × Takes err (fault_of d) err'
+-- the output failed after a front of its text, and then the line of a write fault was tried; or the
+-- output was taken whole, and the error output failed after a front of the fault line
+abbrev pub WriteFailed : List ℕ → List ℕ → Type 0 → Type 0 → Option (List ℕ) → Option (List ℕ) → Option (List ℕ) → Option (List ℕ) → Type 0
+WriteFailed output fault out_rose err_rose out out' err err' =
+    (out_rose × TakesSome out output out' × Tried err_rose err write_line err') ⊎ (err_rose × Takes out output out' × TakesSome err fault err')
+
+-- both texts were written whole, or a write failed; the facts say that the count of faults rose of
+-- the output and of the error output
+abbrev pub Delivered : Decision → Status → Type 0 → Type 0 → Option (List ℕ) → Option (List ℕ) → Option (List ℕ) → Option (List ℕ) → Type 0
+Delivered d status.WriteFault out_rose err_rose out out' err err' = WriteFailed (output_of d) (fault_of d) out_rose err_rose out out' err err'
+Delivered d got out_rose err_rose out out' err err' = (got ≡ status_of d) × Takes out (output_of d) out' × Takes err (fault_of d) err'

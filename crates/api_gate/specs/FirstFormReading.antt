@@ -1,4 +1,5 @@
 -- What the steps find that read a store of the first form, each by itself.
+-- proofs/FirstFormListings.antt shows that the parts make a form (`form_of`), and that a form has the parts.
 use Rattle.std.specs.Prelude.{◌≡◌, ◌≤◌, ◌⊎◌, ◌&&◌, ℕ, Bool, not, nat_eq, bytes_eq, codes, Option, Some, None, List, [], ◌∷◌, length, Result, Ok, Err}
 use Rattle.std.specs.Borrow.{Bor}
 use Rattle.std.specs.FinMap.{get}
@@ -41,13 +42,15 @@ FindsName P (Some name) = P name.now
 abbrev pub is_public_element : List ℕ → Bool
 is_public_element element = is_element element && not (bytes_eq element (codes "internal"))
 
+-- the byte that parts the elements of a path
 abbrev pub is_slash : ℕ → Bool
 is_slash b = nat_eq b 47
 
--- an entry that is a file, and one that is a folder
+-- an entry that is a file
 abbrev pub file_entry : List ℕ → Entry
 file_entry name = record { name = name; kind = kind.File }
 
+-- an entry that is a folder
 abbrev pub folder_entry : List ℕ → Entry
 folder_entry name = record { name = name; kind = kind.Folder }
 

@@ -2,7 +2,7 @@
 -- clauses speak of: `IsOutcome` says what the definitions give, and `Ran` what a run may do.
 -- Source: this project's reports and exit statuses, docs/definitions.md, "Runs".
 use Rattle.std.specs.Prelude.{◌≡◌, ◌⊎◌, ℕ, List, [], ◌∷◌, Option}
-use Rattle.go_outside.specs.Sinks.{Takes, TakesSome}
+use Rattle.go_outside.specs.Sinks.{Takes}
 use Rattle.go_outside.specs.Stores.{Contents}
 use Rattle.api_gate.specs.declared.decision.Decision.{Decision}
 use Rattle.api_gate.specs.declared.decision.Decision.TheVariants as decision
@@ -10,9 +10,9 @@ use Rattle.api_gate.specs.declared.features.PackageConstants.{PackageConstants}
 use Rattle.api_gate.specs.declared.status.Status.{Status}
 use Rattle.api_gate.specs.declared.status.Status.TheVariants as status
 use Rattle.api_gate.specs.declared.words.Request.{Request}
-use Rattle.api_gate.specs.Delivery.{output_of, fault_of, status_of}
+use Rattle.api_gate.specs.Delivery.{output_of, fault_of, status_of, WriteFailed}
 use Rattle.api_gate.specs.Features.{IsReport}
-use Rattle.api_gate.specs.Outcome.{words_line, not_yet_line, read_line, write_line, memory_line}
+use Rattle.api_gate.specs.Outcome.{words_line, not_yet_line, read_line, memory_line}
 use Rattle.api_gate.specs.Packages.{IsPackage}
 use Rattle.api_gate.specs.Words.{IsRequest}
 
@@ -47,10 +47,10 @@ pub data IsOutcome (words : List (List ℕ)) (m : Contents) (o : Outcome) : Type
   ends_reported : (p : PackageConstants) (text : List ℕ) → Asks words m p → IsReport (one p) text → o ≡ reported text → IsOutcome words m o
 
 -- a decision says what the definitions give, but for a fault of reading or want of memory
-abbrev pub Decides : List (List ℕ) → Contents → Decision → Type 0
-Decides words m decision.ReadFault = Unit {0}
-Decides words m decision.NoMemory = Unit {0}
-Decides words m d = IsOutcome words m (record { output = output_of d; fault = fault_of d; status = status_of d })
+abbrev pub AgreesWith : List (List ℕ) → Contents → Decision → Type 0
+AgreesWith words m decision.ReadFault = Unit {0}
+AgreesWith words m decision.NoMemory = Unit {0}
+AgreesWith words m d = IsOutcome words m (record { output = output_of d; fault = fault_of d; status = status_of d })
 
 -- an outcome of the definitions, or that of a fault of reading or want of memory
 pub data MayEnd (words : List (List ℕ)) (m : Contents) (o : Outcome) : Type 0 where
@@ -58,27 +58,39 @@ pub data MayEnd (words : List (List ℕ)) (m : Contents) (o : Outcome) : Type 0 
   by_fault : o ≡ record { output = []; fault = read_line; status = status.ReadFault } → MayEnd words m o
   by_memory : o ≡ record { output = []; fault = memory_line; status = status.NoMemory } → MayEnd words m o
 
--- a front of the output was taken and the line of a write fault, or a front of it, was tried; or
--- the output was taken whole and a front of the fault line
-abbrev pub Failed : Outcome → Option (List ℕ) → Option (List ℕ) → Option (List ℕ) → Option (List ℕ) → Type 0
-Failed o out out' err err' = (TakesSome out o.output out' × TakesSome err write_line err') ⊎ (Takes out o.output out' × TakesSome err o.fault err')
+-- what a run may write on the two sinks, by its status; the facts say that the count of faults rose
+-- of the output and of the error output
+abbrev pub Ran : List (List ℕ) → Contents → Status → Type 0 → Type 0 → Option (List ℕ) → Option (List ℕ) → Option (List ℕ) → Option (List ℕ) → Type 0
+Ran words m status.ReadFault out_rose err_rose out out' err err' = Takes out [] out' × Takes err read_line err'
+Ran words m status.NoMemory out_rose err_rose out out' err err' = Takes out [] out' × Takes err memory_line err'
+Ran words m status.WriteFault out_rose err_rose out out' err err' = (o : Outcome) × MayEnd words m o × WriteFailed o.output o.fault out_rose err_rose out out' err err'
+Ran words m got out_rose err_rose out out' err err' = (o : Outcome) × IsOutcome words m o × (got ≡ o.status) × Takes out o.output out' × Takes err o.fault err'
 
--- what a run may write on the two sinks, by its status
-abbrev pub Ran : List (List ℕ) → Contents → Status → Option (List ℕ) → Option (List ℕ) → Option (List ℕ) → Option (List ℕ) → Type 0
-Ran words m status.ReadFault out out' err err' = Takes out [] out' × Takes err read_line err'
-Ran words m status.NoMemory out out' err err' = Takes out [] out' × Takes err memory_line err'
-Ran words m status.WriteFault out out' err err' = (o : Outcome) × MayEnd words m o × Failed o out out' err err'
-Ran words m got out out' err err' = (o : Outcome) × IsOutcome words m o × (got ≡ o.status) × Takes out o.output out' × Takes err o.fault err'
+-- nothing, or the report of some package
+abbrev pub IsOutput : List ℕ → Type 0
+IsOutput text = (text ≡ []) ⊎ ((p : PackageConstants) × IsReport (one p) text)
+
+-- no fault line, or one of those that are fixed
+abbrev pub IsFaultLine : List ℕ → Type 0
+IsFaultLine line = (line ≡ []) ⊎ (line ≡ words_line) ⊎ (line ≡ not_yet_line) ⊎ (line ≡ read_line) ⊎ (line ≡ memory_line)
 
 -- what a run writes over any store, told or not: but for a report, nothing goes to the output
-abbrev pub Wrote : Status → Option (List ℕ) → Option (List ℕ) → Option (List ℕ) → Option (List ℕ) → Type 0
-Wrote status.Pass out out' err err' = (report : List ℕ) × Takes out report out' × Takes err [] err'
-Wrote status.Broken out out' err err' = ⊥
-Wrote status.Words out out' err err' = Takes out [] out' × Takes err words_line err'
-Wrote status.Refused out out' err err' = Takes out [] out' × ((line : List ℕ) × Takes err line err')
-Wrote status.ReadFault out out' err err' = Takes out [] out' × Takes err read_line err'
-Wrote status.WriteFault out out' err err' = (report : List ℕ) × TakesSome out report out' × ((line : List ℕ) × TakesSome err line err')
-Wrote status.NoMemory out out' err err' = Takes out [] out' × Takes err memory_line err'
+abbrev pub Wrote : Status → Type 0 → Type 0 → Option (List ℕ) → Option (List ℕ) → Option (List ℕ) → Option (List ℕ) → Type 0
+Wrote status.Pass out_rose err_rose out out' err err' = ((p : PackageConstants) × (text : List ℕ) × IsReport (one p) text × Takes out text out') × Takes err [] err'
+Wrote status.Broken out_rose err_rose out out' err err' = ⊥
+Wrote status.Words out_rose err_rose out out' err err' = Takes out [] out' × Takes err words_line err'
+Wrote status.Refused out_rose err_rose out out' err err' = Takes out [] out' × Takes err not_yet_line err'
+Wrote status.ReadFault out_rose err_rose out out' err err' = Takes out [] out' × Takes err read_line err'
+Wrote status.WriteFault out_rose err_rose out out' err err' = (output : List ℕ) × (fault : List ℕ) × IsOutput output × IsFaultLine fault × WriteFailed output fault out_rose err_rose out out' err err'
+Wrote status.NoMemory out_rose err_rose out out' err err' = Takes out [] out' × Takes err memory_line err'
+
+-- a decision writes only what `Wrote` allows
+abbrev pub IsFixed : Decision → Type 0
+IsFixed (decision.Report text) = (p : PackageConstants) × IsReport (one p) text
+IsFixed decision.Words = Unit {0}
+IsFixed (decision.Refused line) = line ≡ not_yet_line
+IsFixed decision.ReadFault = Unit {0}
+IsFixed decision.NoMemory = Unit {0}
 
 -- where the definitions give a report and no count of faults rose, the report was written, or no
 -- memory was left
@@ -86,9 +98,9 @@ abbrev pub IsComplete : List (List ℕ) → Contents → Status → (rose : Type
 IsComplete words m got rose = (text : List ℕ) → IsOutcome words m (reported text) → (rose → ⊥) → (got ≡ status.Pass) ⊎ (got ≡ status.NoMemory)
 
 -- what the features of a folder's module tree decide, but for a fault of reading or want of memory
-abbrev pub DecidesFeatures : Contents → List ℕ → Decision → Type 0
-DecidesFeatures m dir (decision.Report text) = (p : PackageConstants) × IsPackage m dir p × IsReport (one p) text
-DecidesFeatures m dir decision.Words = ⊥
-DecidesFeatures m dir (decision.Refused line) = ((p : PackageConstants) → IsPackage m dir p → ⊥) × (line ≡ not_yet_line)
-DecidesFeatures m dir decision.ReadFault = Unit {0}
-DecidesFeatures m dir decision.NoMemory = Unit {0}
+abbrev pub AgreesWithFeatures : Contents → List ℕ → Decision → Type 0
+AgreesWithFeatures m dir (decision.Report text) = (p : PackageConstants) × IsPackage m dir p × IsReport (one p) text
+AgreesWithFeatures m dir decision.Words = ⊥
+AgreesWithFeatures m dir (decision.Refused line) = ((p : PackageConstants) → IsPackage m dir p → ⊥) × (line ≡ not_yet_line)
+AgreesWithFeatures m dir decision.ReadFault = Unit {0}
+AgreesWithFeatures m dir decision.NoMemory = Unit {0}

@@ -1,7 +1,7 @@
 -- What a source file declares, by its tokens and its syntax.
 -- Source: Go specification, "Source file organization" and "Constant declarations", in the first
 -- form of this project.
-use Rattle.std.specs.Prelude.{◌≡◌, ℕ, List, Some}
+use Rattle.std.specs.Prelude.{◌≡◌, ℕ, List, [], Some}
 use Rattle.go_model.specs.declared.syntax.declaration.File.{File}
 use Rattle.go_model.specs.declared.token.Token.{Token}
 use Rattle.go_model.specs.Outline.{IsOutline}
@@ -9,8 +9,9 @@ use Rattle.go_model.specs.Tokens.{IsTokens}
 use Rattle.api_gate.specs.declared.source.Source.{Source}
 use Rattle.api_gate.specs.Constants.{constants_of}
 
--- the syntax tree has this package name and declares these constants
+-- the syntax tree has no import, has this package name and declares these constants
 pub record Declares (outline : File) (source : Source) : Type 0 where
+  pub no_import : outline.imports ≡ []
   pub package_name : source.package_name ≡ outline.«package».text
   pub constants : Some source.constants ≡ constants_of outline.decls
 

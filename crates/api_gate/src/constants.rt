@@ -50,6 +50,9 @@ fn named(alloc: Global, name: &Name, value: Option<i128>) -> Result<Option<Const
 fn constant_of_spec(alloc: Global, spec: &ConstSpec) -> Result<Option<Constant>, NoMemory>
     ensures { IfOk result (λ o. o ≡ constant_of_spec spec.now) }
 {
+    if let Some(_) = &spec.type_ {
+        return Ok(None);
+    }
     let ([name], [expr]) = (spec.names.items(), spec.values.items()) else {
         return Ok(None);
     };

@@ -1,5 +1,5 @@
 //! Writing: a text in pieces, and a decision to both sinks.
-ghost use Rattle.std.specs.Prelude.{◌≡◌, ◌⊎◌, ℕ};
+ghost use Rattle.std.specs.Prelude.{◌≡◌, ◌≤◌, ◌<◌, ◌⊎◌, ℕ, length};
 ghost use Rattle.go_outside.specs.Faults.{Rose};
 ghost use Rattle.go_outside.specs.Sinks.{AnswersWrite, SinkCause};
 ghost use Rattle.api_gate.specs.Delivery.{Delivered};
@@ -13,6 +13,16 @@ pub const PIECE: usize = 65_536;
 
 const WRITE_LINE: &[u8] = b"apigate: write fault\n";
 
+// The one write: no piece is empty, and none is longer than `PIECE`.
+fn write_piece<S: Sink>(sink: &mut S, piece: &[u8]) -> Result<(), SinkError>
+    requires some { 0 < length piece.now }
+    requires few { length piece.now ≤ 65536 }
+    ensures bytes { AnswersWrite (S.told sink.old) piece.now (S.told sink.new) result }
+    ensures cause { SinkCause (S.faults sink.old) (S.faults sink.new) result }
+{
+    sink.write(piece)
+}
+
 /// Writes the bytes in pieces of at most `PIECE` bytes, none of them empty.
 pub fn write_pieces<S: Sink>(sink: &mut S, bytes: &[u8]) -> Result<(), SinkError>
     ensures bytes { AnswersWrite (S.told sink.old) bytes.now (S.told sink.new) result }
@@ -21,7 +31,7 @@ pub fn write_pieces<S: Sink>(sink: &mut S, bytes: &[u8]) -> Result<(), SinkError
     let mut at = 0usize;
     while at < bytes.len() {
         let end = if bytes.len() - at < PIECE { bytes.len() } else { at + PIECE };
-        if let Err(error) = sink.write(&bytes[at..end]) {
+        if let Err(error) = write_piece(sink, &bytes[at..end]) {
             return Err(error);
         }
         at = end;
@@ -32,7 +42,8 @@ pub fn write_pieces<S: Sink>(sink: &mut S, bytes: &[u8]) -> Result<(), SinkError
 /// Writes the report to `out` and the fault line to `err`. After a fault on `out` the line of a
 /// write fault is tried once on `err`, and the status is that of a write fault.
 pub fn deliver<S: Sink, E: Sink>(out: &mut S, err: &mut E, decision: &Decision) -> Status
-    ensures written { Delivered decision.now result (S.told out.old) (S.told out.new) (E.told err.old) (E.told err.new) }
+    ensures written { Delivered decision.now result (Rose (S.faults out.old) (S.faults out.new)) (Rose (E.faults err.old) (E.faults err.new)) (S.told out.old) (S.told out.new) (E.told err.old) (E.told err.new) }
+    ensures counts { (S.faults out.old ≤ S.faults out.new) × (E.faults err.old ≤ E.faults err.new) }
     ensures cause { result ≡ Status.WriteFault → Rose (S.faults out.old) (S.faults out.new) ⊎ Rose (E.faults err.old) (E.faults err.new) }
 {
     if let Err(_) = write_pieces(out, decision.output()) {

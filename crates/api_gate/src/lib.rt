@@ -12,3 +12,6 @@ pub mod run;
 pub mod source;
 pub mod status;
 pub mod words;
+
+/// The stores, sinks and hooks that a run is handed.
+pub use go_outside as outside;

@@ -72,6 +72,7 @@ pub fn load_package<F: Files>(
     ensures ok { Told (F.told files.old) (λ m. IfOk result (IsPackage m dir.now)) }
     ensures not_yet { Told (F.told files.old) (λ m. result ≡ Err FirstFormError.NotYet → (p : PackageConstants) → IsPackage m dir.now p → ⊥) }
     ensures cause { FirstFormCause (F.faults files.old) (F.faults files.new) result }
+    ensures same { F.told files.new ≡ F.told files.old }
 {
     one_first_form();
     let form = match load_first_form(alloc, files, dir) {

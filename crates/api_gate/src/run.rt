@@ -1,9 +1,10 @@
 //! The top call.
-ghost use Rattle.std.specs.Prelude.{◌≡◌, ◌≢◌, ◌⊎◌, List, ℕ, map, string_bytes};
+ghost use Rattle.std.specs.Prelude.{◌≡◌, ◌≢◌, ◌≤◌, ◌⊎◌, List, [], ℕ, map, string_bytes};
 ghost use Rattle.go_outside.specs.Faults.{Told, Rose};
+ghost use Rattle.go_outside.specs.Sinks.{Takes};
 ghost use Rattle.go_outside.specs.Stores.{Contents};
 ghost use Rattle.api_gate.specs.Outcome.{not_yet_line};
-ghost use Rattle.api_gate.specs.Runs.{Outcome, IsOutcome, Decides, DecidesFeatures, Ran, Wrote, IsComplete};
+ghost use Rattle.api_gate.specs.Runs.{Outcome, IsOutcome, AgreesWith, AgreesWithFeatures, IsFixed, Ran, Wrote, IsComplete};
 ghost use Rattle.api_gate.specs.Words.{IsRequest};
 
 use crate::decision::Decision;
@@ -35,9 +36,12 @@ fn not_yet(alloc: Global) -> Decision
 
 // The features of the module tree in a folder.
 fn features<F: Files>(alloc: Global, files: &mut F, dir: &[u8]) -> Decision
-    ensures told { Told (F.told files.old) (λ m. DecidesFeatures m dir.now result) }
+    ensures told { Told (F.told files.old) (λ m. AgreesWithFeatures m dir.now result) }
     ensures read { result ≡ Decision.ReadFault → Rose (F.faults files.old) (F.faults files.new) }
     ensures words { result ≢ Decision.Words }
+    ensures fixed { IsFixed result }
+    ensures same { F.told files.new ≡ F.told files.old }
+    ensures counts { F.faults files.old ≤ F.faults files.new }
 {
     match load_package(alloc, files, dir) {
         Err(FirstFormError::NotYet) => not_yet(alloc),
@@ -52,10 +56,13 @@ fn features<F: Files>(alloc: Global, files: &mut F, dir: &[u8]) -> Decision
 
 // What a run is to write.
 fn decide<F: Files>(alloc: Global, words: &[String], files: &mut F) -> Decision
-    ensures told { Told (F.told files.old) (λ m. Decides (map string_bytes words.now) m result) }
+    ensures told { Told (F.told files.old) (λ m. AgreesWith (map string_bytes words.now) m result) }
     ensures read { result ≡ Decision.ReadFault → Rose (F.faults files.old) (F.faults files.new) }
     ensures words { result ≡ Decision.Words → (r : Request) → IsRequest (map string_bytes words.now) r → ⊥ }
     ensures bad_words { ((r : Request) → IsRequest (map string_bytes words.now) r → ⊥) → (result ≡ Decision.Words) ⊎ (result ≡ Decision.NoMemory) }
+    ensures fixed { IsFixed result }
+    ensures same { F.told files.new ≡ F.told files.old }
+    ensures counts { F.faults files.old ≤ F.faults files.new }
 {
     match read_words(alloc, words) {
         Err(NoMemory) => Decision::NoMemory,
@@ -72,30 +79,35 @@ fn decide<F: Files>(alloc: Global, words: &[String], files: &mut F) -> Decision
 /// this call, or stands at its last value. `NoMemory` may come at any time. `words` are those after
 /// the program's name.
 pub fn run<R: Threads + Sync, F: Files, S: Sink, E: Sink, G: Gate + Sync, L: Copy + Send>(
-    _rt: &R,
+    rt: &R,
     alloc: Global,
     words: &[String],
     files: &mut F,
     out: &mut S,
     err: &mut E,
-    _gate: &G,
-    _steps: &mut Steps<L>,
+    gate: &G,
+    steps: &mut Steps<L>,
 ) -> Status
     // Where the store tells its files, the report and the status are those of the definitions, or
     // the status is that of a fault or of want of memory.
-    ensures outcome { Told (F.told files.old) (λ m. Ran (map string_bytes words.now) m result (S.told out.old) (S.told out.new) (E.told err.old) (E.told err.new)) }
+    ensures outcome { Told (F.told files.old) (λ m. Ran (map string_bytes words.now) m result (Rose (S.faults out.old) (S.faults out.new)) (Rose (E.faults err.old) (E.faults err.new)) (S.told out.old) (S.told out.new) (E.told err.old) (E.told err.new)) }
     ensures complete { Told (F.told files.old) (λ m. IsComplete (map string_bytes words.now) m result (Rose (F.faults files.old) (F.faults files.new) ⊎ Rose (S.faults out.old) (S.faults out.new) ⊎ Rose (E.faults err.old) (E.faults err.new))) }
 
     // Over any store.
-    ensures wrote { Wrote result (S.told out.old) (S.told out.new) (E.told err.old) (E.told err.new) }
+    ensures wrote { Wrote result (Rose (S.faults out.old) (S.faults out.new)) (Rose (E.faults err.old) (E.faults err.new)) (S.told out.old) (S.told out.new) (E.told err.old) (E.told err.new) }
     ensures words { result ≡ Status.Words → (r : Request) → IsRequest (map string_bytes words.now) r → ⊥ }
-    ensures bad_words { ((r : Request) → IsRequest (map string_bytes words.now) r → ⊥) → (result ≡ Status.Words) ⊎ (result ≡ Status.WriteFault) ⊎ (result ≡ Status.NoMemory) }
+    ensures bad_words { ((r : Request) → IsRequest (map string_bytes words.now) r → ⊥) → ((result ≡ Status.Words) ⊎ (result ≡ Status.WriteFault) ⊎ (result ≡ Status.NoMemory)) × Takes (S.told out.old) [] (S.told out.new) }
     ensures read { result ≡ Status.ReadFault → Rose (F.faults files.old) (F.faults files.new) }
     ensures write { result ≡ Status.WriteFault → Rose (S.faults out.old) (S.faults out.new) ⊎ Rose (E.faults err.old) (E.faults err.new) }
 
-    // No package is checked.
-    ensures steps { _steps.new ≡ _steps.old }
+    // What stays the same, and what never falls. No package is checked.
+    ensures same { F.told files.new ≡ F.told files.old }
+    ensures counts { (F.faults files.old ≤ F.faults files.new) × (S.faults out.old ≤ S.faults out.new) × (E.faults err.old ≤ E.faults err.new) }
+    ensures steps { steps.new ≡ steps.old }
 {
+    // Nothing is checked yet, so no worker is started and the hook hears of nothing.
+    let _ = (rt, gate);
+    let _ = steps;
     one_outcome();
     let decision = decide(alloc, words, files);
     deliver(out, err, &decision)
@@ -108,3 +120,6 @@ pub fn one_outcome()
     one_package();
     one_report();
 }
+
+#[cfg(test)]
+mod tests;

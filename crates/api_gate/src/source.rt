@@ -46,6 +46,9 @@ fn source_of(alloc: Global, outline: &File) -> Result<Source, SourceError>
     ensures ok { IfOk result (Declares outline.now) }
     ensures not_yet { result ≡ Err SourceError.NotYet → (s : Source) → Declares outline.now s → ⊥ }
 {
+    if !outline.imports.items().is_empty() {
+        return Err(SourceError::NotYet);
+    }
     let Some(constants) = constants_of(alloc, outline.decls.items())? else {
         return Err(SourceError::NotYet);
     };

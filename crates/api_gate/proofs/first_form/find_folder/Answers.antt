@@ -1,4 +1,4 @@
-use Rattle.std.proofs.Common.{rules, ◌≡◌, ◌≢◌, ◌≤◌, ◌<◌, ◌+◌, ◌⊎◌, inl, inr, ◌∷◌, ◌++◌, [], List, ℕ, Bool, true, false, length, drop, take, arith, sym, ap, ◌∙◌, refl, subst, Decides}
+use Rattle.std.proofs.Common.{List, subst}
 use Rattle.go_outside.specs.declared.files.Entry.{Entry}
 use Rattle.api_gate.specs.FirstFormReading.{FindsName, AreRoot}
 use Rattle.api_gate.proofs.FirstFormSteps.{root_step, root_failed}

@@ -1,5 +1,5 @@
-use Rattle.std.proofs.Common.{rules, ◌≡◌, ◌≢◌, ◌≤◌, ◌<◌, ◌+◌, ◌⊎◌, inl, inr, ◌∷◌, ◌++◌, [], List, ℕ, Bool, true, false, length, drop, take, arith, sym, ap, ◌∙◌, refl, subst, Decides}
-use Rattle.api_gate.proofs.FirstFormSteps.{module_step, module_failed}
+use Rattle.std.proofs.Common.{◌∙◌}
+use Rattle.api_gate.proofs.FirstFormSteps.{module_failed}
 use Rattle.api_gate.proofs.first_form.find_path.Goals as goal
 
 pub returns-in-Err-clause-found : goal.returns-in-Err-clause-found

@@ -1,4 +1,4 @@
-use Rattle.std.proofs.Common.{rules, ◌≡◌, ◌≢◌, ◌≤◌, ◌<◌, ◌+◌, ◌⊎◌, inl, inr, ◌∷◌, ◌++◌, [], List, ℕ, Bool, true, false, length, drop, take, arith, sym, ap, ◌∙◌, refl, subst, Decides}
+use Rattle.std.proofs.Common.{sym, ◌∙◌}
 use Rattle.api_gate.proofs.FirstFormNames.{element_of}
 use Rattle.api_gate.proofs.first_form.is_element.Goals as goal
 

@@ -1,4 +1,4 @@
-use Rattle.std.proofs.Common.{rules, ◌≡◌, ◌≢◌, ◌≤◌, ◌<◌, ◌+◌, ◌⊎◌, inl, inr, ◌∷◌, ◌++◌, [], List, ℕ, Bool, true, false, length, drop, take, arith, sym, ap, ◌∙◌, refl, subst, Decides}
+use Rattle.std.proofs.Common.{sym}
 use mathlib.Core.Bool.{true≢false}
 use Rattle.api_gate.proofs.FirstFormNames.{file_named, not_named}
 use Rattle.api_gate.proofs.first_form.is_file_name.Goals as goal

@@ -1,4 +1,3 @@
-use Rattle.std.proofs.Common.{rules, ◌≡◌, ◌≢◌, ◌≤◌, ◌<◌, ◌+◌, ◌⊎◌, inl, inr, ◌∷◌, ◌++◌, [], List, ℕ, Bool, true, false, length, drop, take, arith, sym, ap, ◌∙◌, refl, subst, Decides}
 use Rattle.api_gate.proofs.FirstFormNames.{public_pathed}
 use Rattle.api_gate.proofs.first_form.is_public_path.Goals as goal
 

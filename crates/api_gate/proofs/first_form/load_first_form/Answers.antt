@@ -1,5 +1,5 @@
-use Rattle.std.proofs.Common.{rules, ◌≡◌, ◌≢◌, ◌≤◌, ◌<◌, ◌+◌, ◌⊎◌, inl, inr, ◌∷◌, ◌++◌, [], List, ℕ, Bool, true, false, length, drop, take, arith, sym, ap, ◌∙◌, refl, subst, Decides}
-use Rattle.std.proofs.Common.{Err, Ok}
+use Rattle.std.proofs.Common.{sym, ap, ◌∙◌}
+use Rattle.std.proofs.Common.{Err}
 use Rattle.go_outside.specs.Stores.{Contents}
 use Rattle.api_gate.specs.FirstForm.{under}
 use Rattle.api_gate.specs.FirstFormReading.{Finds, IsModule, IsLone, HasBytes}

@@ -1,5 +1,5 @@
-use Rattle.std.proofs.Common.{rules, ◌≡◌, ◌≢◌, ◌≤◌, ◌<◌, ◌+◌, ◌⊎◌, inl, inr, ◌∷◌, ◌++◌, [], List, ℕ, Bool, true, false, length, drop, take, arith, sym, ap, ◌∙◌, refl, subst, Decides}
-use Rattle.api_gate.proofs.FirstFormNames.{line_named, no_front, no_back, no_path}
+use Rattle.std.proofs.Common.{refl}
+use Rattle.api_gate.proofs.FirstFormNames.{line_named}
 use Rattle.api_gate.proofs.first_form.path_of.Goals as goal
 
 pub returns-then-is_public_path : goal.returns-then-is_public_path
