@@ -1,8 +1,7 @@
 -- Clashes among pairs that are sorted by path.
-use Rattle.std.proofs.Common.{◌≡◌, ◌≢◌, ℕ, ◌+◌, ◌<◌, ◌≤◌, ◌⊎◌, inl, inr, Bool, true, false, nat_eq, is_some, MatchBool, Result, Ok, Err, IfOk, List, [], ◌∷◌, ◌++◌, length, get_or, count_by, refl, sym, ap, ◌∙◌, subst, arith}
+use Rattle.std.proofs.Common.{◌≡◌, ◌≢◌, ℕ, ◌+◌, ◌<◌, ◌≤◌, inl, inr, Bool, true, false, nat_eq, is_some, MatchBool, Result, Ok, Err, IfOk, List, [], ◌∷◌, ◌++◌, length, get_or, refl, sym, ap, ◌∙◌, subst, arith}
 use Rattle.std.specs.Cmp.Lexicographic.{pointwise}
 use Rattle.std.proofs.lemmas.Slice.Eq.{bytes_eq-Decides}
-use Rattle.go_model.specs.Lists.{Has}
 use Rattle.go_model.specs.declared.memory.NoMemory.{NoMemory}
 use Rattle.go_outside.specs.declared.memory_files.FilePair.{FilePair}
 use Rattle.go_outside.specs.Paths.{Path, within}
@@ -39,9 +38,9 @@ above_other pairs f at x h up point none a =
       | inl low ↦ not_under pairs f r.0 at k.0 a.0 point low here
       | inr high ↦ not_both
           (before_from (path_at pairs at a.0) (path_at pairs k.0 a.0) (f ++ 48 ∷ []) (sorted_up pairs at k.0 a.0 up high k.1)
-              (subst (λ (w : Path). is_before w (f ++ 48 ∷ []) ≡ true) (sym here) (slash_before f r.0)))
+          (subst (λ (w : Path). is_before w (f ++ 48 ∷ []) ≡ true) (sym here) (slash_before f r.0)))
           (past_slash f (path_at pairs at a.0) (point.1 at a.0 (omega arith) h)
-              (λ rest e. within_never f (get_or pairs at x).path none rest (path_default pairs at x a.0 h ∙ e)))
+          (λ rest e. within_never f (get_or pairs at x).path none rest (path_default pairs at x a.0 h ∙ e)))
     ]
 
 abbrev is_path : Path → FilePair → Bool
@@ -63,20 +62,20 @@ alone : (pairs : List FilePair) (at k : ℕ) (d : FilePair) → IsSorted pairs �
     → (at + 1 < length pairs → (d : FilePair) → path_at pairs at d ≡ path_at pairs (at + 1) d → ⊥)
     → k < length pairs → k ≢ at → path_at pairs k d ≡ path_at pairs at d → ⊥
 alone pairs at k d up clear inside next h other same = elim (by_place k at) [
-    | inl low ↦ clear k d low (inl (twice_at pairs k at d low inside same))
-    | inr high ↦ (
-        let more : at + 1 ≤ k = elim (by_place at k) [ inl lt ↦ omega arith | inr le ↦ absurd (other (omega arith)) ] in
-        next (omega arith) d (same_path (path_at pairs at d) (path_at pairs (at + 1) d)
-            (subst (λ (w : Path). is_before w (path_at pairs (at + 1) d) ≡ false) same (sorted_up pairs (at + 1) k d up more h))
-            (sorted_up pairs at (at + 1) d up (omega arith) (omega arith))))
-  ]
+  | inl low ↦ clear k d low (inl (twice_at pairs k at d low inside same))
+  | inr high ↦ (
+      let more : at + 1 ≤ k = elim (by_place at k) [ inl lt ↦ omega arith | inr le ↦ absurd (other (omega arith)) ] in
+      next (omega arith) d (same_path (path_at pairs at d) (path_at pairs (at + 1) d)
+      (subst (λ (w : Path). is_before w (path_at pairs (at + 1) d) ≡ false) same (sorted_up pairs (at + 1) k d up more h))
+      (sorted_up pairs at (at + 1) d up (omega arith) (omega arith))))
+]
 
 -- a path that the next place doesn't repeat stands once, where none before it clashes
 pub once_at : (pairs : List FilePair) (at : ℕ) (x : FilePair) → IsSorted pairs → IsClearBelow pairs at → at < length pairs
     → (at + 1 < length pairs → (d : FilePair) → path_at pairs at d ≡ path_at pairs (at + 1) d → ⊥) → IsTwice pairs (path_at pairs at x) → ⊥
 once_at pairs at x up clear inside next twice =
     let few = count_one (is_path (path_at pairs at x)) pairs at
-        (λ k d h other. no_path (path_at pairs at x) (path_at pairs k d) (λ e. alone pairs at k d up clear inside next h other (e ∙ path_default pairs at x d inside))) in
+    (λ k d h other. no_path (path_at pairs at x) (path_at pairs k d) (λ e. alone pairs at k d up clear inside next h other (e ∙ path_default pairs at x d inside))) in
     absurd (omega (arith, few, twice))
 
 -- whether a path and a slash begin another is told by the pair at the place
@@ -92,16 +91,16 @@ pub clash_by : (pairs : List FilePair) (at : ℕ) (x d : FilePair) (b : Bool) �
     → MatchBool b (Clashes pairs (path_at pairs at d)) (Clashes pairs (path_at pairs at d) → ⊥)
 clash_by pairs at x d true up clear h next above = inr (subst (IsAbove pairs) (path_default pairs at x d h) above)
 clash_by pairs at x d false up clear h next never = λ k. elim k [
-    | inl twice ↦ once_at pairs at d up clear h next twice
-    | inr above ↦ never (subst (IsAbove pairs) (path_default pairs at d x h) above)
-  ]
+  | inl twice ↦ once_at pairs at d up clear h next twice
+  | inr above ↦ never (subst (IsAbove pairs) (path_default pairs at d x h) above)
+]
 
 -- no path clashes below the next place
 pub clear_more : (pairs : List FilePair) (at : ℕ) → IsClearBelow pairs at → ((d : FilePair) → Clashes pairs (path_at pairs at d) → ⊥) → IsClearBelow pairs (at + 1)
 clear_more pairs at clear here k d lt = elim (by_place k at) [
-    | inl low ↦ clear k d low
-    | inr high ↦ (let e : at ≡ k = omega arith in subst (λ n. Clashes pairs (path_at pairs n d) → ⊥) e (here d))
-  ]
+  | inl low ↦ clear k d low
+  | inr high ↦ (let e : at ≡ k = omega arith in subst (λ n. Clashes pairs (path_at pairs n d) → ⊥) e (here d))
+]
 
 pub clash_of : (pairs : List FilePair) (at : ℕ) (x : FilePair) (q : Path) (r : Result Bool NoMemory) → q ≡ path_at pairs at x → IsSorted pairs → IsClearBelow pairs at → at < length pairs
     → (at + 1 < length pairs → (d : FilePair) → path_at pairs at d ≡ path_at pairs (at + 1) d → ⊥)

@@ -1,5 +1,5 @@
 -- The paths that have one entry in a folder.
-use Rattle.std.proofs.Common.{◌≡◌, ◌≢◌, ℕ, zero, suc, ◌+◌, ◌≤◌, Bool, true, false, not, nat_eq, if◌then◌else◌, cond, Some, List, [], ◌∷◌, ◌++◌, length, take, refl, sym, ap, ◌∙◌, subst, arith, append_assoc, length-append}
+use Rattle.std.proofs.Common.{◌≡◌, ◌≢◌, ℕ, suc, ◌+◌, Bool, true, false, not, nat_eq, if◌then◌else◌, cond, Some, [], ◌∷◌, ◌++◌, length, take, refl, sym, ap, ◌∙◌, arith, append_assoc, length-append}
 use mathlib.Core.Bool.{true≢false}
 use Rattle.std.specs.List.{prefix_len}
 use Rattle.std.proofs.lemmas.Bool.Decides.{Decides-eqb}
@@ -106,5 +106,5 @@ folder_again f q e more k h =
     let off = (folder_by r.0 n (nat_eq n (length r.0)) refl (λ s. k (sym kept ∙ s))).1 in
     let folder : kind.Folder ≡ e.kind = ap (λ (b : Bool). if b then kind.File else kind.Folder) (sym off) ∙ kept in
     let len : prefix_len not_slash (e.name ++ 47 ∷ more) ≡ length e.name =
-        ap (λ w. prefix_len not_slash (w ++ 47 ∷ more)) (sym name) ∙ again r.0 more ∙ sym (length-prefix_len not_slash r.0) ∙ ap length name in
+    ap (λ w. prefix_len not_slash (w ++ 47 ∷ more)) (sym name) ∙ again r.0 more ∙ sym (length-prefix_len not_slash r.0) ∙ ap length name in
     ap (entry_of f) (sym (join f e.name more)) ∙ entry_from f (e.name ++ 47 ∷ more) ∙ ap Some (again_at e.name more _ len ∙ ap (made e.name) folder)

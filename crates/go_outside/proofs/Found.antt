@@ -1,10 +1,10 @@
 -- What a search among pairs whose paths rise has found.
-use Rattle.std.proofs.Common.{◌≡◌, ℕ, zero, suc, ◌+◌, ◌<◌, ◌≤◌, ◌⊎◌, inl, inr, true, false, Option, Some, None, List, [], ◌∷◌, length, get_or, refl, sym, ap, ◌∙◌, subst, arith}
+use Rattle.std.proofs.Common.{◌≡◌, ℕ, ◌<◌, ◌≤◌, inl, inr, true, Some, None, List, length, get_or, sym, ap, ◌∙◌, subst, arith}
 use Rattle.std.specs.FinMap.{get}
 use Rattle.go_outside.specs.declared.memory_files.FilePair.{FilePair}
 use Rattle.go_outside.specs.Paths.{Path}
 use Rattle.go_outside.specs.MemoryFiles.{contents_of}
-use Rattle.go_outside.specs.SortedPairs.{is_before, path_at, IsSorted, IsRising, IsFirstFrom}
+use Rattle.go_outside.specs.SortedPairs.{is_before, path_at, IsRising, IsFirstFrom}
 use Rattle.go_outside.proofs.Order.{before_differs, not_both}
 use Rattle.go_outside.proofs.Lists.{by_place}
 use Rattle.go_outside.proofs.Sorted.{default_is}
@@ -25,9 +25,9 @@ same_place pairs q at j x d h is e s = ap (λ (w : FilePair). w.path) (is ∙ de
 -- the pair at the place has another path
 pub found_other : (pairs : List FilePair) (q : Path) (at : ℕ) (x : FilePair) → at < length pairs → x ≡ get_or pairs at x → IsRising pairs → IsFirstFrom pairs q at → (x.path ≡ q → ⊥) → get (contents_of pairs) q ≡ None
 found_other pairs q at x h is up point other = get_none pairs q (λ j d lt s. elim (by_place j at) [
-    | inl low ↦ before_differs (path_at pairs j d) q (point.0 j d (omega arith) low) s
-    | inr high ↦ elim (by_place at j) [
-        | inl more ↦ not_both (subst (λ (w : Path). is_before (path_at pairs at d) w ≡ true) s (up at j d more lt)) (point.1 at d (omega arith) h)
-        | inr less ↦ other (same_place pairs q at j x d h is (omega arith) s)
-      ]
-  ])
+  | inl low ↦ before_differs (path_at pairs j d) q (point.0 j d (omega arith) low) s
+  | inr high ↦ elim (by_place at j) [
+    | inl more ↦ not_both (subst (λ (w : Path). is_before (path_at pairs at d) w ≡ true) s (up at j d more lt)) (point.1 at d (omega arith) h)
+    | inr less ↦ other (same_place pairs q at j x d h is (omega arith) s)
+  ]
+])

@@ -1,6 +1,6 @@
 -- The entries of a folder, as far as a place among pairs whose paths rise.
-use Rattle.std.proofs.Common.{◌≡◌, ◌≢◌, ℕ, ◌+◌, ◌<◌, ◌≤◌, ◌⊎◌, inl, inr, true, false, Option, Some, None, List, [], ◌∷◌, ◌++◌, length, refl, sym, ap, ◌∙◌, subst, arith}
-use Rattle.go_model.specs.Lists.{Has, Once}
+use Rattle.std.proofs.Common.{◌≡◌, ℕ, ◌<◌, ◌≤◌, inl, inr, true, false, Some, None, List, [], ◌∷◌, ◌++◌, length, refl, sym, ap, ◌∙◌, subst, arith}
+use Rattle.go_model.specs.Lists.{Has}
 use Rattle.go_outside.specs.declared.files.Entry.{Entry}
 use Rattle.go_outside.specs.declared.memory_files.FilePair.{FilePair}
 use Rattle.go_outside.specs.Paths.{Path, entry_of}
@@ -75,7 +75,7 @@ so_far_past pairs folder at entries up inside none far = record {
     | inl low ↦ far.listed.complete q g (s.0, s.1, low, s.3) h
     | inr high ↦ absurd (not_both
         (before_from (path_at pairs at s.1) (path_at pairs s.0 s.1) (folder ++ 48 ∷ []) (sorted_up pairs at s.0 s.1 up high s.2)
-            (subst (λ (w : Path). is_before w (folder ++ 48 ∷ []) ≡ true) (sym s.3) (entry_before folder q g h)))
+        (subst (λ (w : Path). is_before w (folder ++ 48 ∷ []) ≡ true) (sym s.3) (entry_before folder q g h)))
         (past_slash folder (path_at pairs at s.1) (far.reached at s.1 (omega arith) inside) (entry_never folder (path_at pairs at s.1) (none s.1))))
   ];
   once = far.listed.once;

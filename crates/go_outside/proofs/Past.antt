@@ -1,5 +1,5 @@
 -- Among pairs whose paths rise, those of one entry of a folder stand together.
-use Rattle.std.proofs.Common.{◌≡◌, ◌≢◌, ℕ, ◌+◌, ◌<◌, ◌≤◌, ◌⊎◌, inl, inr, true, false, Some, List, [], ◌∷◌, ◌++◌, length, refl, sym, ap, ◌∙◌, subst, arith}
+use Rattle.std.proofs.Common.{◌≡◌, ◌≢◌, ℕ, ◌+◌, ◌<◌, ◌≤◌, inl, inr, true, false, Some, List, [], ◌∷◌, ◌++◌, length, sym, ap, ◌∙◌, subst, arith}
 use Rattle.go_outside.specs.declared.files.Entry.{Entry}
 use Rattle.go_outside.specs.declared.files.EntryKind.TheVariants as kind
 use Rattle.go_outside.specs.declared.memory_files.FilePair.{FilePair}
@@ -26,7 +26,6 @@ key_of folder e = ((folder ++ 47 ∷ []) ++ e.name) ++ 48 ∷ []
 
 module _ (pairs : List FilePair) (folder : Path) (at : ℕ) (e : Entry) (next : ℕ) (up : IsRising pairs) (inside : at < length pairs)
     (is : (d : FilePair) → entry_of folder (path_at pairs at d) ≡ Some e) (deep : e.kind ≢ kind.File) (point : IsFirstFrom pairs (key_of folder e) next) where
-
   abbrev name : Path
   name = (folder ++ 47 ∷ []) ++ e.name
 
@@ -40,9 +39,9 @@ module _ (pairs : List FilePair) (folder : Path) (at : ℕ) (e : Entry) (next : 
 
   past_here : (d : FilePair) → at < next
   past_here d = elim (by_place at next) [
-      | inl lt ↦ lt
-      | inr le ↦ absurd (not_both (under (path_at pairs at d) (is d)) (point.1 at d le inside))
-    ]
+    | inl lt ↦ lt
+    | inr le ↦ absurd (not_both (under (path_at pairs at d) (is d)) (point.1 at d le inside))
+  ]
 
   -- a path between both keys has the entry
   same_between : (q : Path) → is_before q (name ++ 47 ∷ []) ≡ false → is_before q (key_of folder e) ≡ true → (d : FilePair) → entry_of folder q ≡ Some e

@@ -1,13 +1,13 @@
 -- Pairs in the order of their paths.
-use Rattle.std.proofs.Common.{◌≡◌, ℕ, zero, suc, ◌+◌, ◌<◌, ◌≤◌, true, false, List, [], ◌∷◌, length, get_or, refl, sym, ap, ◌∙◌, subst, arith}
+use Rattle.std.proofs.Common.{◌≡◌, ℕ, zero, suc, ◌+◌, ◌<◌, ◌≤◌, false, List, [], ◌∷◌, length, get_or, refl, ap, arith}
 use Rattle.std.specs.Cmp.{IsStrictWeakOrder}
 use Rattle.std.specs.List.Sorted.{IsPartitionedBy}
 use Rattle.std.proofs.lemmas.Cmp.{nat_list_cmp_total}
 use Rattle.std.proofs.lemmas.List.Sorted.{ranks_by, sorted_far}
 use Rattle.go_outside.specs.declared.memory_files.FilePair.{FilePair}
 use Rattle.go_outside.specs.Paths.{Path}
-use Rattle.go_outside.specs.SortedPairs.{is_before, path_at, IsSorted, IsRising, IsFirstFrom}
-use Rattle.go_outside.proofs.Order.{one_way, before_itself, before_from, not_both}
+use Rattle.go_outside.specs.SortedPairs.{is_before, path_at, IsSorted, IsRising}
+use Rattle.go_outside.proofs.Order.{one_way, before_from}
 
 pub by_path : IsStrictWeakOrder (λ (p q : FilePair). is_before p.path q.path)
 by_path = ranks_by nat_list_cmp_total (λ (p : FilePair). p.path)

@@ -1,16 +1,16 @@
 -- What pairs whose paths rise tell, and what a listing of them says of it.
-use Rattle.std.proofs.Common.{◌≡◌, ◌≢◌, ◌↔◌, ℕ, ◌+◌, ◌<◌, ◌≤◌, ◌⊎◌, inl, inr, Bool, true, false, Option, Some, None, List, [], ◌∷◌, length, map, get_or, refl, sym, ap, ◌∙◌, subst, arith}
+use Rattle.std.proofs.Common.{◌≡◌, ◌≢◌, ℕ, ◌<◌, inl, inr, Bool, true, false, Option, Some, None, List, [], length, get_or, refl, sym, ap, ◌∙◌, subst, arith}
 use Rattle.std.specs.FinMap.{get}
 use Rattle.std.specs.List.Sorted.{IsPermutation}
 use Rattle.std.proofs.lemmas.List.Sorted.{IsPermutation-sym, sum_by-IsPermutation}
 use Rattle.std.specs.Cmp.Lexicographic.{pointwise}
-use Rattle.std.proofs.Common.{cond, nat_eq, count_by}
+use Rattle.std.proofs.Common.{cond, nat_eq}
 use Rattle.go_model.specs.Lists.{Has}
 use Rattle.go_outside.specs.declared.files.Entry.{Entry}
 use Rattle.go_outside.specs.declared.memory_files.FilePair.{FilePair}
 use Rattle.go_outside.specs.Paths.{Path, entry_of}
 use Rattle.go_outside.specs.Stores.{IsTold, IsListing}
-use Rattle.go_outside.specs.MemoryFiles.{contents_of, Tells, IsTwice, IsAbove, Clashes, IsClear, IsLeastClash}
+use Rattle.go_outside.specs.MemoryFiles.{contents_of, Tells, IsTwice, Clashes, IsClear, IsLeastClash}
 use Rattle.go_outside.specs.SortedPairs.{is_before, path_at, IsSorted, IsRising, StandsBelow, IsListingBelow, IsClearBelow}
 use Rattle.go_outside.proofs.Order.{before_differs, not_both, same_path}
 use Rattle.go_outside.proofs.Lists.{by_place, has_place, place_has, has_permuted, has_map}
@@ -71,9 +71,10 @@ clashes_permuted xs ys q p (inr above) = inr (above.0, has_permuted xs ys above.
 
 module _ (pairs sorted : List FilePair) (moved : IsPermutation pairs sorted) where
   pub tells : IsRising sorted → Tells (contents_of sorted) pairs
-  tells up path bytes =
-      ((λ h. has_permuted sorted pairs _ (IsPermutation-sym pairs sorted moved) (get_has sorted path bytes h)),
-      (λ h. has_held sorted (record { path = path; bytes = bytes }) up (has_permuted pairs sorted _ moved h)))
+  tells up path bytes = (
+    (λ h. has_permuted sorted pairs _ (IsPermutation-sym pairs sorted moved) (get_has sorted path bytes h)),
+    (λ h. has_held sorted (record { path = path; bytes = bytes }) up (has_permuted pairs sorted _ moved h)),
+  )
 
   -- a pair whose path clashes stands at a place of the sorted ones
   pub clear_sorted : IsClearBelow sorted (length sorted) → IsClear pairs
@@ -92,6 +93,6 @@ module _ (pairs sorted : List FilePair) (moved : IsPermutation pairs sorted) whe
           | inl low ↦ clear k.0 p low there
           | inr high ↦ not_both before
               (subst (λ (w : FilePair). is_before w.path (path_at sorted at x) ≡ false) k.2
-                  (subst (λ (w : Path). is_before (path_at sorted k.0 p) w ≡ false) (path_default sorted at p x inside) (sorted_up sorted at k.0 p up high k.1)))
+              (subst (λ (w : Path). is_before (path_at sorted k.0 p) w ≡ false) (path_default sorted at p x inside) (sorted_up sorted at k.0 p up high k.1)))
         ];
   }

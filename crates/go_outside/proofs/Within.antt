@@ -1,12 +1,10 @@
 -- What lies in a folder, and the entry that it has there.
-use Rattle.std.proofs.Common.{◌≡◌, ◌≢◌, ℕ, zero, suc, ◌+◌, ◌≤◌, Bool, true, false, not, nat_eq, if◌then◌else◌, cond, Option, Some, None, is_some, List, [], ◌∷◌, ◌++◌, length, take, drop, refl, sym, ap, ◌∙◌, subst, arith, append_assoc}
+use Rattle.std.proofs.Common.{◌≡◌, ◌≢◌, ℕ, zero, suc, Bool, true, false, nat_eq, if◌then◌else◌, Option, Some, None, is_some, [], ◌∷◌, ◌++◌, length, take, drop, refl, sym, ap, ◌∙◌}
 use mathlib.Core.Bool.{true≢false}
 use Rattle.std.specs.List.{prefix_len}
 use Rattle.std.specs.Cmp.Lexicographic.{pointwise}
 use Rattle.std.proofs.lemmas.Slice.Eq.{bytes_eq-Decides}
 use Rattle.go_outside.specs.declared.files.Entry.{Entry}
-use Rattle.go_outside.specs.declared.files.EntryKind.{EntryKind}
-use Rattle.go_outside.specs.declared.files.EntryKind.TheVariants as kind
 use Rattle.go_outside.specs.Paths.{Path, after, after_slash, within, not_slash, entry_at, entry_of_rest, entry_of}
 
 front_and_rest : (n : ℕ) (xs : Path) → take n xs ++ drop n xs ≡ xs

@@ -1,9 +1,8 @@
 -- Pairs in the order of their paths, by which a store in memory finds and lists.
-use Rattle.std.specs.Prelude.{◌≡◌, ◌≤◌, ◌<◌, ◌+◌, ℕ, Bool, true, false, Option, Some, None, List, ◌∷◌, [], ◌++◌, length, slice_index_or}
+use Rattle.std.specs.Prelude.{◌≡◌, ◌≤◌, ◌<◌, ℕ, Bool, true, false, Option, Some, None, List, length, slice_index_or}
 use Rattle.std.specs.Ordering.{nat_cmp, is_lt}
 use Rattle.std.specs.Cmp.Lexicographic.{slice_cmp}
 use Rattle.std.specs.List.Sorted.{IsSortedBy, IsPartitionPoint}
-use Rattle.go_model.specs.Lists.{Has}
 use Rattle.go_outside.specs.declared.files.Entry.{Entry}
 use Rattle.go_outside.specs.declared.memory_files.FilePair.{FilePair}
 use Rattle.go_outside.specs.Paths.{Path, entry_of}

@@ -6,12 +6,11 @@ use crate::files::{Entry, EntryKind, Files, FilesError};
 use go_model::list::List;
 use go_model::text::Text;
 use std::alloc::Global;
-use std::fs;
 use std::fs::{DirEntry, File};
-use std::io;
 use std::io::{ErrorKind, Read};
 use std::marker::Model;
 use std::rt::Runtime;
+use std::{fs, io};
 
 /// The most entries of one folder.
 const ENTRIES: usize = 1_048_576;
@@ -186,5 +185,30 @@ impl<'a, R: Runtime + AllocGlobal> Files for HostFiles<'a, R> {
             Ok(text) => Ok(text),
             Err(error) => Err(self.counted(error)),
         }
+    }
+}
+
+#[cfg(test)]
+mod tests {
+    use super::*;
+
+    #[test]
+    fn misses_what_is_not_there(rt: HostRuntime) {
+        let mut files = HostFiles::new(&rt);
+        let missing = matches!(
+            files.read(rt.alloc(), b"no/such", 9),
+            Err(FilesError::Missing)
+        );
+        assert!(rt; missing);
+        let missing = matches!(files.list(rt.alloc(), b"no/such"), Err(FilesError::Missing));
+        assert!(rt; missing);
+        let failed = matches!(files.list(rt.alloc(), b"\xff"), Err(FilesError::Failed));
+        assert!(rt; failed);
+    }
+
+    #[test]
+    fn lists_the_folder_that_it_starts_in(rt: HostRuntime) {
+        let mut files = HostFiles::new(&rt);
+        assert!(rt; files.list(rt.alloc(), b".").is_ok());
     }
 }

@@ -123,3 +123,109 @@ impl Files for MemoryFiles {
         Ok(Text::of(alloc, bytes)?)
     }
 }
+
+#[cfg(test)]
+mod tests {
+    use super::*;
+    use crate::files::EntryKind;
+    use std::test::Fail;
+
+    fn store(alloc: Global, files: &[(&str, &str)]) -> Result<MemoryFiles, MemoryFilesError> {
+        let mut pairs = List::new(alloc);
+        for (path, bytes) in files {
+            let path = Text::of(alloc, path.as_bytes())?;
+            let bytes = Text::of(alloc, bytes.as_bytes())?;
+            pairs.push(FilePair { path, bytes })?;
+        }
+        MemoryFiles::new(alloc, pairs)
+    }
+
+    #[test]
+    fn lists_the_entries_of_a_folder(rt: HostRuntime) -> Result<(), Fail> {
+        let alloc = rt.alloc();
+        let files: [(&str, &str); 6] = [
+            ("m/go.mod", ""),
+            ("m/a/b/c.go", ""),
+            ("m/a.go", ""),
+            ("m/a/d.go", ""),
+            ("m/a-b/c.go", ""),
+            ("n", ""),
+        ];
+        let mut store = store(alloc, &files)?;
+        let folders: [(&str, &[(&str, EntryKind)]); 3] = [
+            (
+                "m",
+                &[
+                    ("go.mod", EntryKind::File),
+                    ("a", EntryKind::Folder),
+                    ("a.go", EntryKind::File),
+                    ("a-b", EntryKind::Folder),
+                ],
+            ),
+            (
+                "m/a",
+                &[("b", EntryKind::Folder), ("d.go", EntryKind::File)],
+            ),
+            ("m/a/b", &[("c.go", EntryKind::File)]),
+        ];
+        for (folder, entries) in folders {
+            let listed = store.list(alloc, folder.as_bytes())?;
+            assert_eq!(rt; listed.items().len(), entries.len(), "in {folder}");
+            for (name, kind) in entries {
+                let mut is_listed = false;
+                for entry in listed.items() {
+                    is_listed |= entry.name.bytes() == name.as_bytes() && entry.kind == *kind;
+                }
+                assert!(rt; is_listed, "{name} in {folder}");
+            }
+        }
+        for folder in ["", "n", "m/a.go", "m/", "q"] {
+            let missing = matches!(
+                store.list(alloc, folder.as_bytes()),
+                Err(FilesError::Missing)
+            );
+            assert!(rt; missing, "at {folder}");
+        }
+        Ok(())
+    }
+
+    #[test]
+    fn reads_up_to_the_limit(rt: HostRuntime) -> Result<(), Fail> {
+        let alloc = rt.alloc();
+        let mut store = store(alloc, &[("a", "12345"), ("b", "")])?;
+        assert_eq!(rt; store.read(alloc, b"a", 5)?.bytes(), b"12345".as_slice());
+        assert_eq!(rt; store.read(alloc, b"b", 0)?.bytes().len(), 0);
+        let larger = matches!(store.read(alloc, b"a", 4), Err(FilesError::TooLarge));
+        assert!(rt; larger);
+        let missing = matches!(store.read(alloc, b"c", 4), Err(FilesError::Missing));
+        assert!(rt; missing);
+        Ok(())
+    }
+
+    fn clash_of(answer: &Result<MemoryFiles, MemoryFilesError>) -> Option<&[u8]> {
+        match answer {
+            Err(MemoryFilesError::Clash(path)) => Some(path.bytes()),
+            _ => None,
+        }
+    }
+
+    #[test]
+    fn names_the_least_clash(rt: HostRuntime) -> Result<(), Fail> {
+        let cases: [(&[(&str, &str)], Option<&str>); 5] = [
+            (&[("b", "1"), ("a/x", ""), ("b", "2"), ("a", "")], Some("a")),
+            (&[("a/b", ""), ("a.b", ""), ("a", "")], Some("a")),
+            (
+                &[("c/d", ""), ("c/d/e", ""), ("b", ""), ("b", "")],
+                Some("b"),
+            ),
+            (&[("", ""), ("/a", "")], Some("")),
+            (&[("a", ""), ("a-b/c", ""), ("ab", "")], None),
+        ];
+        for (files, least) in cases {
+            let answer = store(rt.alloc(), files);
+            assert_eq!(rt; clash_of(&answer), least.map(|path| path.as_bytes()));
+            assert_eq!(rt; answer.is_ok(), least.is_none());
+        }
+        Ok(())
+    }
+}

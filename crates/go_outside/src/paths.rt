@@ -37,7 +37,11 @@ fn first_entry(alloc: Global, rest: &[u8]) -> Result<Entry, NoMemory>
     ensures { IfOk result (λ e. e ≡ entry_at rest.now (prefix_len not_slash rest.now)) }
 {
     let len = element_len(rest);
-    let kind = if len == rest.len() { EntryKind::File } else { EntryKind::Folder };
+    let kind = if len == rest.len() {
+        EntryKind::File
+    } else {
+        EntryKind::Folder
+    };
     Ok(Entry {
         name: Text::of(alloc, &rest[..len])?,
         kind,
@@ -45,11 +49,7 @@ fn first_entry(alloc: Global, rest: &[u8]) -> Result<Entry, NoMemory>
 }
 
 // The entry that a path has in a folder, where it lies in that folder.
-pub(crate) fn entry_of(
-    alloc: Global,
-    folder: &[u8],
-    path: &[u8],
-) -> Result<Option<Entry>, NoMemory>
+pub(crate) fn entry_of(alloc: Global, folder: &[u8], path: &[u8]) -> Result<Option<Entry>, NoMemory>
     ensures { IfOk result (λ o. o ≡ entry_of folder.now path.now) }
 {
     match within(folder, path) {

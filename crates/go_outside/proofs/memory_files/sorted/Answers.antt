@@ -1,6 +1,5 @@
 -- The sort compares by path.
-use Rattle.std.proofs.Common.{rules, ap}
-use Rattle.std.specs.Ordering.{is_lt}
+use Rattle.std.proofs.Common.{rules}
 use Rattle.std.proofs.lemmas.List.Sorted.{answers_always}
 use Rattle.go_outside.specs.declared.memory_files.FilePair.{FilePair}
 use Rattle.go_outside.specs.SortedPairs.{is_before}

@@ -1,5 +1,5 @@
 -- The sorted pairs tell what the pairs do, and the first clash among them is the least.
-use Rattle.std.proofs.Common.{◌≡◌, ◌∙◌, sym, ap, subst, Some, None, List, length}
+use Rattle.std.proofs.Common.{◌∙◌, sym, ap, subst, Some, None, List, length}
 use Rattle.go_outside.specs.declared.memory_files.FilePair.{FilePair}
 use Rattle.go_outside.specs.MemoryFiles.{IsLeastClash}
 use Rattle.go_outside.specs.SortedPairs.{IsClearBelow, IsFirstClash}
@@ -21,6 +21,6 @@ returns-in-None-clause-clear c = clear_sorted c.args.pairs c.in_ok-pairs.pairs.i
 pub returns-in_ok-of-in-Some-clause-clash : goal.returns-in_ok-of-in-Some-clause-clash
 returns-in_ok-of-in-Some-clause-clash c =
     let found : IsFirstClash c.in_ok-pairs.pairs.items (Some c.in-Some.at) =
-        subst (λ (xs : List FilePair). IsFirstClash xs (Some c.in-Some.at)) c.deref.ensures.value (subst (IsFirstClash c.deref.result.now) c.in-Some.is c.in_ok-first_clash.ensures) in
+    subst (λ (xs : List FilePair). IsFirstClash xs (Some c.in-Some.at)) c.deref.ensures.value (subst (IsFirstClash c.deref.result.now) c.in-Some.is c.in_ok-first_clash.ensures) in
     subst (IsLeastClash c.args.pairs) (sym (c.in_ok-of-in-Some.ensures ∙ c.bytes.ensures ∙ ap (λ (w : FilePair). w.path) c.index.ensures))
-        (least_sorted c.args.pairs c.in_ok-pairs.pairs.items c.in_ok-pairs.ensures.permutation c.in-Some.at c.index.result.now c.in_ok-pairs.ensures.sorted found.0 (found.1 c.index.result.now) found.2)
+    (least_sorted c.args.pairs c.in_ok-pairs.pairs.items c.in_ok-pairs.ensures.permutation c.in-Some.at c.index.result.now c.in_ok-pairs.ensures.sorted found.0 (found.1 c.index.result.now) found.2)

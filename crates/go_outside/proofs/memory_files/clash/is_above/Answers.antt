@@ -14,5 +14,5 @@ pub returns : goal.returns
 returns c =
     let key : c.deref.result.now ≡ c.args.path.now ++ 47 ∷ [] = c.deref.ensures.value ∙ c.in_ok-front.ensures in
     above_by c.args.pairs.now c.args.path.now c.first_from-at.result c.index-pairs-at.result c.is_within.result c.if-at-pairs.false c.requires
-        (subst (λ (w : Path). IsFirstFrom c.args.pairs.now w c.first_from-at.result) key c.first_from-at.ensures.point)
-        (c.is_within.ensures ∙ ap (λ (w : Path). is_some (within c.args.path.now w)) c.bytes.ensures)
+    (subst (λ (w : Path). IsFirstFrom c.args.pairs.now w c.first_from-at.result) key c.first_from-at.ensures.point)
+    (c.is_within.ensures ∙ ap (λ (w : Path). is_some (within c.args.path.now w)) c.bytes.ensures)

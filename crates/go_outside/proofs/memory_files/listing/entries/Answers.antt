@@ -1,6 +1,5 @@
 -- The listing as far as the place, from one entry's pairs to the next.
-use Rattle.std.proofs.Common.{◌≡◌, ◌∙◌, sym, ap, subst, List, ℕ, ◌++◌, ◌∷◌, []}
-use Rattle.go_outside.specs.declared.files.Entry.{Entry}
+use Rattle.std.proofs.Common.{◌≡◌, ◌∙◌, sym, ap, subst, ◌++◌, ◌∷◌, []}
 use Rattle.go_outside.specs.Paths.{Path, entry_of}
 use Rattle.go_outside.specs.SortedPairs.{IsFirstFrom}
 use Rattle.go_outside.proofs.Listed.{SoFar, so_far_none, so_far_more, so_far_past}
@@ -14,8 +13,8 @@ pub loop-at-init : goal.loop-at-init
 loop-at-init c =
     let key : c.deref.result.now ≡ c.args.folder.now ++ 47 ∷ [] = c.deref.ensures.value ∙ c.in_ok-front.ensures in
     subst (SoFar c.args.pairs.now c.args.folder.now c.first_from-at.result) (sym c.new-entries.ensures)
-        (so_far_none c.args.pairs.now c.args.folder.now c.first_from-at.result c.first_from-at.ensures.fits
-            (subst (λ (w : Path). IsFirstFrom c.args.pairs.now w c.first_from-at.result) key c.first_from-at.ensures.point))
+    (so_far_none c.args.pairs.now c.args.folder.now c.first_from-at.result c.first_from-at.ensures.fits
+    (subst (λ (w : Path). IsFirstFrom c.args.pairs.now w c.first_from-at.result) key c.first_from-at.ensures.point))
 
 pub returns-in_default : goal.returns-in_default
 returns-in_default c = so_far_past c.args.pairs.now c.args.folder.now c.loop-at.at c.loop-at.entries (rising_sorted c.args.pairs.now c.requires) c.loop-at-test.true

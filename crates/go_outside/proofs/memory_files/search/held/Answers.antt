@@ -1,5 +1,5 @@
 -- The pair that the search finds has the path, or none has.
-use Rattle.std.proofs.Common.{◌≡◌, ◌∙◌, sym, ap, subst, Option, Some, List, ℕ}
+use Rattle.std.proofs.Common.{◌≡◌, ◌∙◌, sym, ap, Some}
 use Rattle.std.proofs.lemmas.Slice.Eq.{bytes_eq-Decides}
 use Rattle.go_outside.proofs.Order.{not_both}
 use Rattle.go_outside.proofs.Sorted.{rising_sorted}
