@@ -2,7 +2,7 @@
 -- tree that the rule derives from it. After "Source file organization", "Package clause", "Constant
 -- declarations" and "Operands" of the Go specification. The crate go_parse shows, in its file
 -- proofs/Sound.antt and proofs/Complete.antt, that it reads exactly these trees.
-use Rattle.std.specs.Prelude.{◌≢◌, ℕ, ℤ, List, [], ◌∷◌, ◌++◌, Option, Some, None, codes}
+use Rattle.std.specs.Prelude.{◌≢◌, ℕ, ℤ, List, [], ◌∷◌, ◌++◌, None, codes}
 use Rattle.go_model.specs.declared.syntax.declaration.ConstSpec.{ConstSpec}
 use Rattle.go_model.specs.declared.syntax.declaration.Decl.{Decl}
 use Rattle.go_model.specs.declared.syntax.declaration.Decl.TheVariants.{ConstGroup}

@@ -1,5 +1,5 @@
 -- Each tree of the grammar is found.
-use Rattle.std.proofs.Common.{◌≡◌, ◌≢◌, ℕ, zero, suc, ◌≤◌, List, [], ◌∷◌, ◌++◌, length, drop, Bool, true, false, if◌then◌else◌, Option, Some, None, codes, refl, sym, ap, ◌∙◌, subst, append_assoc, arith}
+use Rattle.std.proofs.Common.{◌≡◌, ◌≢◌, ℕ, zero, suc, ◌≤◌, List, [], ◌∷◌, ◌++◌, length, Bool, true, false, if◌then◌else◌, Some, None, codes, refl, sym, ap, ◌∙◌, subst, append_assoc, arith}
 use Rattle.std.specs.Bool.{Decides}
 use Rattle.std.specs.Str.{bytes_eq}
 use Rattle.std.proofs.lemmas.Slice.Eq.{bytes_eq-Decides}
@@ -9,14 +9,11 @@ use Rattle.go_model.specs.declared.syntax.declaration.Decl.TheVariants.{ConstGro
 use Rattle.go_model.specs.declared.syntax.declaration.File.{File}
 use Rattle.go_model.specs.declared.syntax.expression.Expr.{Expr}
 use Rattle.go_model.specs.declared.syntax.expression.Expr.TheVariants as expr
-use Rattle.go_model.specs.declared.syntax.expression.Literal.{Literal}
 use Rattle.go_model.specs.declared.syntax.name.Name.{Name}
-use Rattle.go_model.specs.declared.token.Token.{Token}
-use Rattle.go_model.specs.declared.token.TokenKind.{TokenKind}
 use Rattle.go_model.specs.declared.token.TokenKind.TheVariants as kind
-use Rattle.go_model.specs.Outline.{IsOutline, IsFile, file as a_file, IsDecls, decls_none, decls_more, IsDecl, decl_const, IsConstSpec, const_spec as a_const_spec, IsExpr, expr_literal, IsInteger, integer_narrow, integer_wide, IsNotBlank, constant, file_of}
-use Rattle.go_model.specs.Terminals.{Terminal, Sign, Identifier, Basic, Extent, terminals}
-use Rattle.go_parse.specs.Reading.{Found, Reader, Next, Stop, Fail, More, bind, after, turn, loop, run, put, step_of, begins, expect, name, integer}
+use Rattle.go_model.specs.Outline.{IsFile, file as a_file, IsDecls, decls_none, decls_more, IsDecl, decl_const, IsConstSpec, const_spec as a_const_spec, IsExpr, expr_literal, integer_narrow, integer_wide, IsNotBlank, constant, file_of}
+use Rattle.go_model.specs.Terminals.{Terminal, Sign, Identifier, Extent}
+use Rattle.go_parse.specs.Reading.{Found, Next, Stop, More, bind, after, turn, loop, run, put, step_of, expect, integer}
 use Rattle.go_parse.specs.Parsing.{const_spec, const_decl, decl, decls, package_name, package_clause, file}
 
 -- from here on the loop gives this
@@ -69,10 +66,10 @@ complete_decls (decls_more {before = before} {last = last} {ds = ds} {d = d} at 
     let end : List Terminal = Sign kind.Semicolon at ∷ rest in
     let h = headed l end in
     let seam : (before ++ (last ++ (Sign kind.Semicolon at ∷ []))) ++ rest ≡ before ++ (last ++ end) =
-      append_assoc before (last ++ (Sign kind.Semicolon at ∷ [])) rest ∙ ap (λ w. before ++ w) (append_assoc last (Sign kind.Semicolon at ∷ []) rest) in
+    append_assoc before (last ++ (Sign kind.Semicolon at ∷ [])) rest ∙ ap (λ w. before ++ w) (append_assoc last (Sign kind.Semicolon at ∷ []) rest) in
     let step : step_of decl ds (h.0 ∷ (h.1 ++ end)) ≡ More (ds ++ d ∷ []) rest = ap (step_of decl ds) (sym h.2) ∙ ap (put ds) (complete_decl l rest at) in
     let next : Gives (step_of decl) ds (h.0 ∷ (h.1 ++ end)) found =
-      goes_on (step_of decl) ds (ds ++ d ∷ []) h.0 (h.1 ++ end) rest found step (omega (arith, no_shorter h.1 end)) go in
+    goes_on (step_of decl) ds (ds ++ d ∷ []) h.0 (h.1 ++ end) rest found step (omega (arith, no_shorter h.1 end)) go in
     ap (run (step_of decl) []) seam ∙ complete_decls b (last ++ end) found (subst (λ (w : List Terminal). Gives (step_of decl) ds w found) (sym h.2) next)
 
 refuted : {P : Type 0} (b : Bool) → Decides b P → (P → ⊥) → b ≡ false

@@ -1,5 +1,5 @@
 -- What is found is in the grammar.
-use Rattle.std.proofs.Common.{◌≡◌, ◌≢◌, ℕ, zero, suc, List, [], ◌∷◌, ◌++◌, length, drop, Bool, true, false, if◌then◌else◌, Option, Some, None, codes, refl, sym, ap, ◌∙◌, subst, append_assoc}
+use Rattle.std.proofs.Common.{◌≡◌, ℕ, zero, suc, List, [], ◌∷◌, ◌++◌, length, drop, Bool, true, false, if◌then◌else◌, Some, None, codes, refl, sym, ap, ◌∙◌, subst, append_assoc}
 use Rattle.std.specs.Str.{bytes_eq}
 use Rattle.std.proofs.lemmas.Slice.Eq.{bytes_eq-Decides}
 use Rattle.std.proofs.lemmas.Bool.Decides.{not_from_Decides}
@@ -9,16 +9,15 @@ use Rattle.go_model.specs.declared.syntax.declaration.ConstSpec.{ConstSpec}
 use Rattle.go_model.specs.declared.syntax.declaration.Decl.{Decl}
 use Rattle.go_model.specs.declared.syntax.declaration.Decl.TheVariants.{ConstGroup}
 use Rattle.go_model.specs.declared.syntax.declaration.File.{File}
-use Rattle.go_model.specs.declared.syntax.expression.Expr.{Expr}
 use Rattle.go_model.specs.declared.syntax.expression.Expr.TheVariants as expr
 use Rattle.go_model.specs.declared.syntax.expression.Literal.{Literal}
 use Rattle.go_model.specs.declared.syntax.expression.Literal.TheVariants as literal
 use Rattle.go_model.specs.declared.syntax.name.Name.{Name}
 use Rattle.go_model.specs.declared.token.TokenKind.{TokenKind}
 use Rattle.go_model.specs.declared.token.TokenKind.TheVariants as kind
-use Rattle.go_model.specs.Outline.{IsFile, file as a_file, IsDecls, decls_none, decls_more, IsDecl, decl_const, IsConstSpec, const_spec as a_const_spec, IsExpr, expr_literal, IsInteger, integer_narrow, integer_wide, IsNotBlank, constant, file_of}
+use Rattle.go_model.specs.Outline.{IsFile, file as a_file, IsDecls, decls_none, decls_more, IsDecl, decl_const, IsConstSpec, const_spec as a_const_spec, IsExpr, expr_literal, integer_narrow, integer_wide, IsNotBlank, constant, file_of}
 use Rattle.go_model.specs.Terminals.{Terminal, Sign, Identifier, Basic, Odd, Extent}
-use Rattle.go_parse.specs.Reading.{Found, Reader, Next, Stop, Fail, More, bind, after, turn, loop, run, put, step_of, sign_at, is_sign, begins, expect, name, integer}
+use Rattle.go_parse.specs.Reading.{Found, Reader, Next, Stop, Fail, More, bind, after, turn, loop, run, put, step_of, begins, expect, name, integer}
 use Rattle.go_parse.specs.Parsing.{const_spec, const_decl, decl, decls, package_name, package_clause, file}
 
 -- a front of the terminals is derived, and the rest is left
@@ -195,9 +194,10 @@ package_name_some : (ts : List Terminal) (n : Name) (rest : List Terminal) → p
 unfolding package_name
 package_name_some ts n rest q =
     let b = bind_some (name ts) (λ n u. if bytes_eq n.text (codes "_") then None else Some (n, u)) n rest q in
-    let s = none_if (bytes_eq b.0.text (codes "_")) b.0 n b.1 rest b.3 in
-    (name_some ts b.0 b.1 b.2 ∙ ap (λ p. Identifier p.0 ∷ p.1) s.1,
-      subst IsNotBlank (ap (λ p. p.0) s.1) (not_from_Decides (bytes_eq b.0.text (codes "_")) (bytes_eq-Decides b.0.text (codes "_")) s.0))
+    let s = none_if (bytes_eq b.0.text (codes "_")) b.0 n b.1 rest b.3 in (
+      name_some ts b.0 b.1 b.2 ∙ ap (λ p. Identifier p.0 ∷ p.1) s.1,
+      subst IsNotBlank (ap (λ p. p.0) s.1) (not_from_Decides (bytes_eq b.0.text (codes "_")) (bytes_eq-Decides b.0.text (codes "_")) s.0),
+    )
 
 record Named (ts : List Terminal) (n : Name) (rest : List Terminal) : Type 0 where
   at : Extent

@@ -1,5 +1,5 @@
 -- A recursion on the turns that are left, beside a loop that counts them up.
-use Rattle.std.proofs.Common.{◌≡◌, ℕ, suc, ◌+◌, ◌-◌, ◌<◌, ◌≤◌, List, Option, Some, None, ap, ◌∙◌, arith}
+use Rattle.std.proofs.Common.{◌≡◌, ℕ, suc, ◌+◌, ◌-◌, ◌<◌, ◌≤◌, List, Some, None, ap, ◌∙◌, arith}
 use Rattle.go_model.specs.Terminals.{Terminal}
 use Rattle.go_parse.specs.Reading.{Next, Stop, Fail, More, turn, loop}
 

@@ -1,17 +1,16 @@
 -- What each rule's reader finds.
-use Rattle.std.specs.Prelude.{Bool, true, false, not, if◌then◌else◌, List, [], ◌∷◌, drop, Option, Some, None, codes}
+use Rattle.std.specs.Prelude.{if◌then◌else◌, List, [], ◌∷◌, drop, Some, None, codes}
 use Rattle.std.specs.Str.{bytes_eq}
 use Rattle.go_model.specs.declared.syntax.declaration.ConstSpec.{ConstSpec}
 use Rattle.go_model.specs.declared.syntax.declaration.Decl.{Decl}
 use Rattle.go_model.specs.declared.syntax.declaration.Decl.TheVariants.{ConstGroup}
 use Rattle.go_model.specs.declared.syntax.declaration.File.{File}
-use Rattle.go_model.specs.declared.syntax.expression.Expr.{Expr}
 use Rattle.go_model.specs.declared.syntax.expression.Expr.TheVariants as expr
 use Rattle.go_model.specs.declared.syntax.name.Name.{Name}
 use Rattle.go_model.specs.declared.token.TokenKind.TheVariants as kind
 use Rattle.go_model.specs.Outline.{constant, file_of}
 use Rattle.go_model.specs.Terminals.{Terminal}
-use Rattle.go_parse.specs.Reading.{Found, Reader, Next, Stop, bind, after, run, step_of, begins, expect, name, integer}
+use Rattle.go_parse.specs.Reading.{Reader, Next, Stop, bind, after, run, step_of, begins, expect, name, integer}
 
 unfoldable pub const_spec : Reader ConstSpec
 const_spec ts = bind (name ts) (λ n u. bind (expect kind.Assign u) (λ _ v. bind (integer v) (λ l w. Some (constant n (expr.Literal l), w))))

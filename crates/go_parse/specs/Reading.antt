@@ -1,6 +1,6 @@
 -- What a reading by recursive descent finds: the first step is a tree of a front of the terminals, and
 -- what is left after it.
-use Rattle.std.specs.Prelude.{ℕ, zero, suc, Bool, true, false, if◌then◌else◌, List, [], ◌∷◌, ◌++◌, length, drop, Option, Some, None}
+use Rattle.std.specs.Prelude.{ℕ, zero, suc, Bool, false, if◌then◌else◌, List, [], ◌∷◌, ◌++◌, length, drop, Option, Some, None}
 use denote.Enum.Bare.{sameb}
 use Rattle.go_model.specs.contracts.token.TokenKind.{the_type}
 use Rattle.go_model.specs.declared.syntax.expression.Literal.{Literal}
@@ -8,7 +8,7 @@ use Rattle.go_model.specs.declared.syntax.expression.Literal.TheVariants as lite
 use Rattle.go_model.specs.declared.syntax.name.Name.{Name}
 use Rattle.go_model.specs.declared.token.TokenKind.{TokenKind}
 use Rattle.go_model.specs.declared.token.TokenKind.TheVariants as kind
-use Rattle.go_model.specs.Terminals.{Terminal, Sign, Identifier, Basic, Odd}
+use Rattle.go_model.specs.Terminals.{Terminal, Sign, Identifier, Basic}
 
 -- what is found, and what is left
 abbrev pub Found : Type 0 → Type 0

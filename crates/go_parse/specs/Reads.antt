@@ -1,5 +1,5 @@
 -- What a function that reads ensures: what the reading finds, unless memory fails.
-use Rattle.std.specs.Prelude.{◌≡◌, List, Option, Some, None, Result, Ok, Err}
+use Rattle.std.specs.Prelude.{◌≡◌, List, Some, None, Result, Ok, Err}
 use Rattle.go_model.specs.declared.token.Token.{Token}
 use Rattle.go_model.specs.Terminals.{terminals}
 use Rattle.go_parse.specs.declared.error.ParseError.{ParseError}

@@ -43,7 +43,12 @@ fn silent(kind: TokenKind) -> Option<TokenKind>
     ensures { result ≡ reading.silent_sign kind }
 {
     match kind {
-        TokenKind::Ident | TokenKind::IntLit | TokenKind::FloatLit | TokenKind::ImagLit | TokenKind::RuneLit | TokenKind::StrLit => None,
+        TokenKind::Ident
+        | TokenKind::IntLit
+        | TokenKind::FloatLit
+        | TokenKind::ImagLit
+        | TokenKind::RuneLit
+        | TokenKind::StrLit => None,
         _ => Some(kind),
     }
 }

@@ -1,5 +1,5 @@
-use Rattle.std.proofs.Common.{◌≡◌, ℕ, suc, ◌-◌, ◌+◌, ◌∙◌, ◌++◌, ◌∷◌, [], Bool, true, false, if◌then◌else◌, List, drop, Option, Some, None, Result, Ok, Err, ap, sym, refl, rules, arith}
-use Rattle.std.specs.Result.{IsErr, IsErrAnd}
+use Rattle.std.proofs.Common.{◌≡◌, ℕ, ◌-◌, ◌+◌, ◌∙◌, ◌++◌, ◌∷◌, [], Bool, true, false, if◌then◌else◌, List, drop, Some, None, Result, Ok, Err, ap, sym, rules, arith}
+use Rattle.std.specs.Result.{IsErrAnd}
 use Rattle.std.proofs.lemmas.Grind.{common_steps}
 use Rattle.go_model.specs.declared.syntax.declaration.Decl.{Decl}
 use Rattle.go_model.specs.declared.token.Token.{Token}
@@ -7,7 +7,7 @@ use Rattle.go_model.specs.declared.token.TokenKind.TheVariants as kind
 use Rattle.go_model.specs.Terminals.{Terminal, terminals}
 use Rattle.go_parse.specs.declared.error.ParseError.{ParseError}
 use Rattle.go_parse.specs.declared.error.ParseError.TheVariants.{Syntax, NoMemory}
-use Rattle.go_parse.specs.Reading.{Found, Next, Stop, Fail, More, run, loop, put, after, step_of, begins}
+use Rattle.go_parse.specs.Reading.{Found, Stop, Fail, More, run, loop, put, after, step_of, begins}
 use Rattle.go_parse.specs.Parsing.{const_decl, decl, decls}
 use Rattle.go_parse.specs.Reads.{Reads}
 use Rattle.go_parse.proofs.Turns.{one_more, no_more, turn_stops, turn_fails, turn_goes_on}
@@ -52,8 +52,8 @@ returns-in_err-const_decl c =
     handed (decls (terminals c.args.tokens.now)) (const_decl us) c.in_err-const_decl.field-0.0 c.from_residual.result c.const_decl.new.tokens c.const_decl.new.tokens
     c.from_residual.ensures.1 c.in_err-const_decl.ensures
     (λ none.
-      one_more (λ n. loop (step_of decl) n c.loop-turn.items ts) c.len-turn-end.result c.loop-turn._turn c.loop-turn-test.true c.loop-turn.invariant
-      ∙ turn_fails (step_of decl) _ c.loop-turn.items ts (fails c.loop-turn.items ts us (sym c.begins.ensures ∙ c.if-not-begins.false) c.advance.ensures none))
+    one_more (λ n. loop (step_of decl) n c.loop-turn.items ts) c.len-turn-end.result c.loop-turn._turn c.loop-turn-test.true c.loop-turn.invariant
+    ∙ turn_fails (step_of decl) _ c.loop-turn.items ts (fails c.loop-turn.items ts us (sym c.begins.ensures ∙ c.if-not-begins.false) c.advance.ensures none))
 
 pub loop-turn-preserved : goal.loop-turn-preserved
 loop-turn-preserved c =
@@ -64,7 +64,7 @@ loop-turn-preserved c =
     let n : ℕ = c.len-turn-end.result - (c.loop-turn._turn + 1) in
     one_more (λ n. loop (step_of decl) n c.loop-turn.items ts) c.len-turn-end.result c.loop-turn._turn c.loop-turn-test.true c.loop-turn.invariant
     ∙ turn_goes_on (step_of decl) n c.loop-turn.items ts items rest
-      (goes_on c.loop-turn.items ts us c.in_ok-const_decl.field-0 rest (sym c.begins.ensures ∙ c.if-not-begins.false) c.advance.ensures c.in_ok-const_decl.ensures)
+    (goes_on c.loop-turn.items ts us c.in_ok-const_decl.field-0 rest (sym c.begins.ensures ∙ c.if-not-begins.false) c.advance.ensures c.in_ok-const_decl.ensures)
     ∙ ap (λ (l : List Decl). loop (step_of decl) n l rest) (sym c.in_ok-push.ensures.ok)
 
 pub returns : goal.returns

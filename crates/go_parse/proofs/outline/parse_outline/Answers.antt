@@ -1,4 +1,4 @@
-use Rattle.std.proofs.Common.{◌≡◌, ◌≢◌, List, [], Result, Ok, Err, Some, None, IfOk, refl, sym, subst}
+use Rattle.std.proofs.Common.{◌≡◌, ◌≢◌, List, [], Result, Ok, Err, Some, IfOk, refl, sym, subst}
 use Rattle.std.specs.Prelude.{IsErrOf, IsErr}
 use Rattle.go_model.specs.declared.syntax.declaration.File.{File}
 use Rattle.go_model.specs.declared.token.Token.{Token}
@@ -28,7 +28,7 @@ pub returns-in-Ok : goal.returns-in-Ok
 returns-in-Ok c =
     let ts : List Terminal = terminals c.args.tokens.now in
     let found : file ts ≡ Some (c.in-Ok.found, terminals c.file.new.tokens) =
-      subst (λ (tokens : List Token). file (terminals tokens) ≡ Some (c.in-Ok.found, terminals c.file.new.tokens)) c.new-cursor.ensures c.in-Ok.ensures in
+    subst (λ (tokens : List Token). file (terminals tokens) ≡ Some (c.in-Ok.found, terminals c.file.new.tokens)) c.new-cursor.ensures c.in-Ok.ensures in
     record {
       tree = tree_of c.whole.result ts (terminals c.file.new.tokens) c.in-Ok.found found c.whole.ensures.tree;
       syntax = none_of c.whole.result ts (terminals c.file.new.tokens) c.in-Ok.found found c.whole.ensures.syntax;
@@ -38,5 +38,5 @@ pub returns-in-Err : goal.returns-in-Err
 returns-in-Err c = record {
   tree = tt;
   syntax = refused c.in-Err.error (terminals c.args.tokens.now) c.file.new.tokens
-    (subst (λ (tokens : List Token). Reads {A = File} (file (terminals tokens)) (Err c.in-Err.error) c.file.new.tokens) c.new-cursor.ensures c.in-Err.ensures);
+      (subst (λ (tokens : List Token). Reads {A = File} (file (terminals tokens)) (Err c.in-Err.error) c.file.new.tokens) c.new-cursor.ensures c.in-Err.ensures);
 }
