@@ -4,6 +4,7 @@ pub mod FirstFormNames
 pub mod FirstFormSteps
 pub mod Gathered
 pub mod Grown
+pub mod OnePackage
 pub mod Ordered
 pub mod Ran
 pub mod Taken

@@ -120,7 +120,7 @@ ended_read d got ro re out out' err err' w e = elim (ends_as d got ro re out out
 none_of_none : (out out' : Bytes) → TakesSome out [] out' → Takes out [] out'
 none_of_none out out' t = subst (λ (w : List ℕ). Takes out w out') (front_of_none t.0) t.2
   where
-    front_of_none : (n : ℕ) → take n [] ≡ []
+    front_of_none : (n : ℕ) → take {A = ℕ} n [] ≡ []
     front_of_none zero = refl
     front_of_none (suc n) = refl
 
@@ -154,13 +154,13 @@ module _ (one_package : (m : Contents) (dir : List ℕ) (a b : PackageConstants)
 
   pub same_outcome : (words : List (List ℕ)) (m : Contents) (a b : Outcome) → IsOutcome words m a → IsOutcome words m b → a ≡ b
   same_outcome words m a b (ends_words n e) (ends_words n' e') = e ∙ sym e'
-  same_outcome words m a b (ends_words n e) (ends_refused r i no e') = absurd (n r i)
+  same_outcome words m a b (ends_words n e) (ends_refused r i none e') = absurd (n r i)
   same_outcome words m a b (ends_words n e) (ends_reported p text q r e') = absurd (n q.request q.is_request)
-  same_outcome words m a b (ends_refused r i no e) (ends_words n e') = absurd (n r i)
-  same_outcome words m a b (ends_refused r i no e) (ends_refused r' i' no' e') = e ∙ sym e'
-  same_outcome words m a b (ends_refused r i no e) (ends_reported p text q t e') = absurd (no p (subst (λ (x : Request). IsPackage m x.new p) (one_request words q.request r q.is_request i) q.is_package))
+  same_outcome words m a b (ends_refused r i none e) (ends_words n e') = absurd (n r i)
+  same_outcome words m a b (ends_refused r i none e) (ends_refused r' i' none' e') = e ∙ sym e'
+  same_outcome words m a b (ends_refused r i none e) (ends_reported p text q t e') = absurd (none p (subst (λ (x : Request). IsPackage m x.new p) (one_request words q.request r q.is_request i) q.is_package))
   same_outcome words m a b (ends_reported p text q t e) (ends_words n e') = absurd (n q.request q.is_request)
-  same_outcome words m a b (ends_reported p text q t e) (ends_refused r i no e') = absurd (no p (subst (λ (x : Request). IsPackage m x.new p) (one_request words q.request r q.is_request i) q.is_package))
+  same_outcome words m a b (ends_reported p text q t e) (ends_refused r i none e') = absurd (none p (subst (λ (x : Request). IsPackage m x.new p) (one_request words q.request r q.is_request i) q.is_package))
   same_outcome words m a b (ends_reported p text q t e) (ends_reported p' text' q' t' e') =
       e ∙ ap reported (one_report (one p') text text' (subst (λ (x : PackageConstants). IsReport (one x) text) (same_asked words m p p' q q') t) t') ∙ sym e'
 

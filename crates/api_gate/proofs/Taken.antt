@@ -1,9 +1,9 @@
 -- Bytes that a sink takes in pieces.
-use Rattle.std.proofs.Common.{◌≡◌, ℕ, zero, suc, ◌+◌, ◌-◌, ◌≤◌, List, [], ◌∷◌, ◌++◌, length, take, drop, Option, Some, None, Result, Ok, Err, refl, sym, ap, ◌∙◌, subst, append_assoc, inl, inr, arith, length-drop, length-take-le}
+use Rattle.std.proofs.Common.{◌≡◌, ℕ, zero, suc, ◌+◌, ◌-◌, ◌^◌, min, ◌≤◌, List, [], ◌∷◌, ◌++◌, length, take, drop, Option, Some, None, Result, Ok, Err, refl, sym, ap, ◌∙◌, subst, append_assoc, inl, inr, arith, length-drop, length-take-le}
 use Rattle.go_outside.specs.Faults.{Rose}
 use Rattle.go_outside.specs.Sinks.{Takes, TakesSome, AnswersWrite, SinkCause}
 use Rattle.go_outside.specs.declared.sink.SinkError.{SinkError}
-use Rattle.api_gate.specs.Delivery.{Tried}
+use Rattle.api_gate.specs.Delivery.{Tried, NeverFell}
 
 append_nothing : (xs : List ℕ) → xs ++ [] ≡ xs
 append_nothing [] = refl
@@ -57,3 +57,8 @@ takes_front old mid new bytes at end h within first second =
 pub tried : (rose : Type 0) (old new : Option (List ℕ)) (bytes : List ℕ) (before now : ℕ) (r : Result (Unit {0}) SinkError) → AnswersWrite old bytes new r → SinkCause before now r → (Rose before now → rose) → Tried rose old bytes new
 tried rose old new bytes before now (Ok u) h c f = inl h
 tried rose old new bytes before now (Err e) h c f = inr (f c, h)
+
+-- whatever a write answers, the count didn't fall
+pub never_fell : (before now : ℕ) (r : Result (Unit {0}) SinkError) → SinkCause before now r → NeverFell before now
+never_fell before now (Ok u) h = omega arith
+never_fell before now (Err e) h = omega arith

@@ -11,7 +11,6 @@ use Rattle.go_model.specs.declared.syntax.expression.Expr.TheVariants as expr
 use Rattle.go_model.specs.declared.syntax.expression.Literal.{Literal}
 use Rattle.go_model.specs.declared.syntax.expression.Literal.TheVariants as literal
 use Rattle.go_model.specs.declared.syntax.name.Name.{Name}
-use Rattle.go_model.specs.declared.syntax.types.Type.{Type}
 use Rattle.api_gate.specs.declared.constants.Constant.{Constant}
 
 abbrev pub whole_number : Literal → Option ℤ
@@ -32,7 +31,7 @@ constant_by (name ∷ []) (value ∷ []) = named name (value_of value)
 constant_by names values = None
 
 -- one constant without a type
-abbrev pub untyped : Option Type → Option Constant → Option Constant
+abbrev pub untyped : {A : Type 0} → Option A → Option Constant → Option Constant
 untyped None c = c
 untyped (Some t) c = None
 

@@ -1,6 +1,6 @@
 -- How a decision is written to the two sinks.
 -- Source: this project's reports and exit statuses, docs/definitions.md, "Runs".
-use Rattle.std.specs.Prelude.{◌≡◌, ◌⊎◌, ℕ, List, [], Option}
+use Rattle.std.specs.Prelude.{◌≡◌, ◌≤◌, ◌-◌, ◌^◌, min, ◌⊎◌, ℕ, List, [], Option}
 use Rattle.api_gate.specs.declared.status.Status.{Status}
 use Rattle.api_gate.specs.declared.status.Status.TheVariants as status
 use Rattle.api_gate.specs.declared.decision.Decision.{Decision}
@@ -28,6 +28,10 @@ status_of Words = status.Words
 status_of (Refused line) = status.Refused
 status_of ReadFault = status.ReadFault
 status_of NoMemory = status.NoMemory
+
+-- a count didn't fall, where it stood at a value of its type
+abbrev pub NeverFell : ℕ → ℕ → Type 0
+NeverFell before now = min before (2 ^ 64 - 1) ≤ now
 
 -- a sink took a text whole, or failed after a front of it
 abbrev pub Tried : Type 0 → Option (List ℕ) → List ℕ → Option (List ℕ) → Type 0

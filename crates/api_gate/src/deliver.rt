@@ -2,7 +2,7 @@
 ghost use Rattle.std.specs.Prelude.{◌≡◌, ◌≤◌, ◌<◌, ◌⊎◌, ℕ, length};
 ghost use Rattle.go_outside.specs.Faults.{Rose};
 ghost use Rattle.go_outside.specs.Sinks.{AnswersWrite, SinkCause};
-ghost use Rattle.api_gate.specs.Delivery.{Delivered};
+ghost use Rattle.api_gate.specs.Delivery.{Delivered, NeverFell};
 
 use crate::decision::Decision;
 use crate::status::Status;
@@ -43,7 +43,7 @@ pub fn write_pieces<S: Sink>(sink: &mut S, bytes: &[u8]) -> Result<(), SinkError
 /// write fault is tried once on `err`, and the status is that of a write fault.
 pub fn deliver<S: Sink, E: Sink>(out: &mut S, err: &mut E, decision: &Decision) -> Status
     ensures written { Delivered decision.now result (Rose (S.faults out.old) (S.faults out.new)) (Rose (E.faults err.old) (E.faults err.new)) (S.told out.old) (S.told out.new) (E.told err.old) (E.told err.new) }
-    ensures counts { (S.faults out.old ≤ S.faults out.new) × (E.faults err.old ≤ E.faults err.new) }
+    ensures counts { NeverFell (S.faults out.old) (S.faults out.new) × NeverFell (E.faults err.old) (E.faults err.new) }
     ensures cause { result ≡ Status.WriteFault → Rose (S.faults out.old) (S.faults out.new) ⊎ Rose (E.faults err.old) (E.faults err.new) }
 {
     if let Err(_) = write_pieces(out, decision.output()) {

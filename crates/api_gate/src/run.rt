@@ -1,8 +1,9 @@
 //! The top call.
-ghost use Rattle.std.specs.Prelude.{◌≡◌, ◌≢◌, ◌≤◌, ◌⊎◌, List, [], ℕ, map, string_bytes};
+ghost use Rattle.std.specs.Prelude.{◌≡◌, ◌≢◌, ◌⊎◌, List, [], ℕ, map, string_bytes};
 ghost use Rattle.go_outside.specs.Faults.{Told, Rose};
 ghost use Rattle.go_outside.specs.Sinks.{Takes};
 ghost use Rattle.go_outside.specs.Stores.{Contents};
+ghost use Rattle.api_gate.specs.Delivery.{NeverFell};
 ghost use Rattle.api_gate.specs.Outcome.{not_yet_line};
 ghost use Rattle.api_gate.specs.Runs.{Outcome, IsOutcome, AgreesWith, AgreesWithFeatures, IsFixed, Ran, Wrote, IsComplete};
 ghost use Rattle.api_gate.specs.Words.{IsRequest};
@@ -41,7 +42,7 @@ fn features<F: Files>(alloc: Global, files: &mut F, dir: &[u8]) -> Decision
     ensures words { result ≢ Decision.Words }
     ensures fixed { IsFixed result }
     ensures same { F.told files.new ≡ F.told files.old }
-    ensures counts { F.faults files.old ≤ F.faults files.new }
+    ensures counts { NeverFell (F.faults files.old) (F.faults files.new) }
 {
     match load_package(alloc, files, dir) {
         Err(FirstFormError::NotYet) => not_yet(alloc),
@@ -62,7 +63,7 @@ fn decide<F: Files>(alloc: Global, words: &[String], files: &mut F) -> Decision
     ensures bad_words { ((r : Request) → IsRequest (map string_bytes words.now) r → ⊥) → (result ≡ Decision.Words) ⊎ (result ≡ Decision.NoMemory) }
     ensures fixed { IsFixed result }
     ensures same { F.told files.new ≡ F.told files.old }
-    ensures counts { F.faults files.old ≤ F.faults files.new }
+    ensures counts { NeverFell (F.faults files.old) (F.faults files.new) }
 {
     match read_words(alloc, words) {
         Err(NoMemory) => Decision::NoMemory,
@@ -102,12 +103,10 @@ pub fn run<R: Threads + Sync, F: Files, S: Sink, E: Sink, G: Gate + Sync, L: Cop
 
     // What stays the same, and what never falls. No package is checked.
     ensures same { F.told files.new ≡ F.told files.old }
-    ensures counts { (F.faults files.old ≤ F.faults files.new) × (S.faults out.old ≤ S.faults out.new) × (E.faults err.old ≤ E.faults err.new) }
+    ensures counts { NeverFell (F.faults files.old) (F.faults files.new) × NeverFell (S.faults out.old) (S.faults out.new) × NeverFell (E.faults err.old) (E.faults err.new) }
     ensures steps { steps.new ≡ steps.old }
 {
-    // Nothing is checked yet, so no worker is started and the hook hears of nothing.
-    let _ = (rt, gate);
-    let _ = steps;
+    // Nothing is checked yet: no worker starts, the hook hears of nothing, and no step is counted.
     one_outcome();
     let decision = decide(alloc, words, files);
     deliver(out, err, &decision)

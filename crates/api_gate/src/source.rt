@@ -1,5 +1,5 @@
 //! A source file of the first form.
-ghost use Rattle.std.specs.Prelude.{◌≡◌, ◌≤◌, IfOk, Err, length};
+ghost use Rattle.std.specs.Prelude.{◌≡◌, ◌≤◌, ℕ, List, IfOk, Err, length};
 ghost use Rattle.api_gate.specs.declared.source.Source.{Source};
 ghost use Rattle.api_gate.specs.Sources.{Declares, IsParsed, IsSource};
 
@@ -83,4 +83,12 @@ pub fn read_source(alloc: Global, bytes: &[u8]) -> Result<Source, SourceError>
         Err(LexError::BadToken(_)) => Err(SourceError::NotYet),
         Ok(tokens) => parse_source(alloc, tokens.items()),
     }
+}
+
+/// The bytes of a source file declare at most one thing.
+pub fn one_source()
+    ensures { (bytes : List ℕ) (a b : Source) → IsSource bytes a → IsSource bytes b → a ≡ b }
+{
+    one_list();
+    one_tree();
 }

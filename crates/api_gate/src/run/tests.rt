@@ -1,6 +1,7 @@
 //! What the clauses of `run` don't say: that runs end as the definitions say with ample memory, on
 //! worked examples whose answers come from outside, and how large the pieces are.
 use super::*;
+use go_model::boxed::Box;
 use go_model::list::List;
 use go_outside::failing_files::FailingFiles;
 use go_outside::failing_sink::FailingSink;
@@ -44,6 +45,29 @@ fn features_of<F: Files, S: Sink, E: Sink>(
     let status = run(rt, rt.alloc(), &words, files, out, err, &OpenGate, &mut steps);
     let _checks = steps.end();
     Ok(status.code())
+}
+
+#[test]
+fn holds_what_it_is_given(rt: HostRuntime) -> Result<(), Fail> {
+    let alloc = rt.alloc();
+    let text = Text::of(alloc, b"abc")?;
+    assert!(rt; text == Text::from_vec(Vec::from_slice(alloc, b"abc")?));
+    assert!(rt; text < Text::of(alloc, b"abcd")?);
+    assert_eq!(rt; text.into_vec().as_slice(), b"abc".as_slice());
+    let boxed = Box::new(alloc, 7u32)?;
+    assert_eq!(rt; *boxed.value(), 7);
+    assert_eq!(rt; boxed.into_value(), 7);
+    let list = List::from_vec(numbers(alloc, &[3, 5])?.into_vec());
+    assert_eq!(rt; list.items(), [3, 5].as_slice());
+    let mut steps = Steps::new(1u8);
+    steps.tick();
+    let mut other = steps.split();
+    other.tick();
+    other.tick();
+    steps.merge(other);
+    assert_eq!(rt; steps.count(), 3);
+    assert_eq!(rt; steps.end(), 3);
+    Ok(())
 }
 
 #[test]

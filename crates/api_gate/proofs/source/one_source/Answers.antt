@@ -1,0 +1,5 @@
+use Rattle.api_gate.proofs.OnePackage.{same_source}
+use Rattle.api_gate.proofs.source.one_source.Goals as goal
+
+pub returns : goal.returns
+returns c = same_source c.one_list.ensures.one c.one_tree.ensures.same
