@@ -34,8 +34,8 @@ fn words_of(alloc: Global, words: &[&str]) -> Result<Vec<String>, Fail> {
 }
 
 // Runs `features --new new` over a store.
-fn features_of<F: Files, S: Sink, E: Sink>(
-    rt: &HostRuntime,
+fn features_of<R: Threads + Sync + AllocGlobal, F: Files, S: Sink, E: Sink>(
+    rt: &R,
     files: &mut F,
     out: &mut S,
     err: &mut E,
@@ -107,7 +107,10 @@ fn numbers(alloc: Global, all: &[u64]) -> Result<List<u64>, NoMemory> {
     Ok(list)
 }
 
-fn refuses(rt: &HostRuntime, pairs: &[(&str, &[u8])]) -> Result<bool, Fail> {
+fn refuses<R: Threads + Sync + AllocGlobal>(
+    rt: &R,
+    pairs: &[(&str, &[u8])],
+) -> Result<bool, Fail> {
     let alloc = rt.alloc();
     let mut files = store(alloc, pairs)?;
     let mut out = MemorySink::new();
@@ -249,6 +252,7 @@ fn names_each_fault_of_a_store(rt: HostRuntime) -> Result<(), Fail> {
 }
 
 // A store that tells nothing: everything is missing.
+#[derive(Drop)]
 struct Silent;
 
 impl Files for Silent {
@@ -268,6 +272,7 @@ impl Files for Silent {
 }
 
 // A sink that keeps the sizes of the pieces that it was given.
+#[derive(Drop)]
 struct Sizes {
     sizes: List<u64>,
 }
