@@ -1,0 +1,4 @@
+pub mod GoMod
+pub mod Loads
+pub mod Names
+pub mod Walk
