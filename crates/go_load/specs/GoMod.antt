@@ -41,10 +41,17 @@ module_lines bytes = filter is_module_line (slice_split (λ b. nat_eq b 10) byte
 abbrev pub IsWritten : List ℕ → List ℕ → Type 0
 IsWritten written path = (written ≡ path) ⊎ (written ≡ 34 ∷ (path ++ 34 ∷ [])) ⊎ (written ≡ 96 ∷ (path ++ 96 ∷ []))
 
--- after its first word a line has one word before its comment, which writes the path
+-- the word after the first one, and what follows that before the comment
+abbrev pub second_word : List ℕ → List ℕ
+second_word line = first_word (before_comment (after_word line))
+
+abbrev pub after_second : List ℕ → List ℕ
+after_second line = after_word (before_comment (after_word line))
+
+-- the second word of a line writes the path, and nothing but blanks and a comment follow it
 pub record Names (line path : List ℕ) : Type 0 where
-  pub written : IsWritten (first_word (before_comment (after_word line))) path
-  pub alone : list_all is_blank (after_word (before_comment (after_word line))) ≡ true
+  pub written : IsWritten (second_word line) path
+  pub alone : list_all is_blank (after_second line) ≡ true
 
 -- the module of a `go.mod`: it has one module line, which names the path of a module
 pub record IsModuleOf (bytes path : List ℕ) : Type 0 where

@@ -1,4 +1,5 @@
 pub mod GoMod
 pub mod Loads
 pub mod Names
+pub mod Steps
 pub mod Walk

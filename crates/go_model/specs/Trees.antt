@@ -2,7 +2,7 @@
 -- Public source: Go Modules Reference, "go.mod files: lexical elements" and "Module paths", where an element is made of ASCII letters, digits and `-._~`.
 -- The limits are this project's own.
 use Rattle.std.specs.Prelude.{◌≡◌, ◌≢◌, ◌≤◌, ◌⊎◌, ℕ, Bool, true, false, not, ◌&&◌, ◌||◌, nat_eq, nat_le, List, [], ◌∷◌, length, codes}
-use Rattle.std.specs.List.{list_all, slice_split}
+use Rattle.std.specs.List.{list_all, slice_split, starts_with}
 use Rattle.go_model.specs.Lists.{Each}
 use Rattle.go_model.specs.declared.tree.Tree.{Tree}
 use Rattle.go_model.specs.declared.tree.TreeFile.{TreeFile}
@@ -11,17 +11,20 @@ use Rattle.go_model.specs.declared.tree.LimitName.TheVariants as limit
 use Rattle.go_model.specs.declared.tree.TheConstants.{MOST_FILE_BYTES, MOST_FILES, MOST_BYTES, MOST_PACKAGES, MOST_FOLDERS}
 
 -- a byte from one to another
-abbrev pub is_within : ℕ → ℕ → ℕ → Bool
+unfoldable pub is_within : ℕ → ℕ → ℕ → Bool
 is_within low high b = nat_le low b && nat_le b high
 
 -- an ASCII letter or digit, or one of `-`, `.`, `_` and `~`
-abbrev pub is_element_byte : ℕ → Bool
+unfoldable pub is_element_byte : ℕ → Bool
 is_element_byte b = is_within 97 122 b || is_within 65 90 b || is_within 48 57 b || nat_eq b 45 || nat_eq b 46 || nat_eq b 95 || nat_eq b 126
 
+-- a text that isn't empty and begins neither with `-` nor with `.`
+unfoldable pub begins_element : List ℕ → Bool
+begins_element name = not (nat_eq (length name) 0) && not (starts_with nat_eq name (codes "-")) && not (starts_with nat_eq name (codes "."))
+
 -- an element of a path: one or more such bytes, the first neither `-` nor `.`
-abbrev pub is_element : List ℕ → Bool
-is_element [] = false
-is_element (b ∷ bs) = not (nat_eq b 45) && not (nat_eq b 46) && list_all is_element_byte (b ∷ bs)
+unfoldable pub is_element : List ℕ → Bool
+is_element name = begins_element name && list_all is_element_byte name
 
 -- one or more elements joined by `/`
 abbrev pub are_elements : List ℕ → Bool
