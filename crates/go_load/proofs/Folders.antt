@@ -1,25 +1,29 @@
 -- A folder's entries, and what is told of them.
-use Rattle.std.proofs.Common.{◌≡◌, ◌≢◌, ℕ, Bool, true, false, not, ◌&&◌, nat_eq, cond, Option, Some, None, List, [], ◌∷◌, ◌++◌, length, refl, sym, ap, ◌∙◌, subst, ◌⊎◌, inl, inr, Result, Ok, Err, append_assoc, arith}
+use Rattle.std.proofs.Common.{◌≡◌, ◌≢◌, ℕ, Bool, true, false, not, ◌&&◌, ◌||◌, nat_eq, cond, Option, Some, None, List, [], ◌∷◌, ◌++◌, length, refl, sym, ap, ◌∙◌, subst, ◌⊎◌, inl, inr, Result, Ok, Err, append_assoc, arith}
 use mathlib.Core.Bool.{true≢false}
 use Rattle.std.specs.FinMap.{get}
-use Rattle.std.specs.List.{list_any, list_all, prefix_len}
+use Rattle.std.specs.List.{list_any, list_all, prefix_len, slice_split, onto_first}
 use Rattle.std.proofs.lemmas.Bool.Decides.{Decides-eqb}
 use Rattle.go_model.specs.Lists.{Has, Ascending}
-use Rattle.go_model.specs.Trees.{most, is_element, is_element_byte, is_within, begins_element}
+use Rattle.go_model.specs.Trees.{most, is_element, is_element_byte, is_within, begins_element, are_elements, IsFolderPath}
 use Rattle.go_model.specs.declared.tree.TreeFile.{TreeFile}
 use Rattle.go_outside.specs.declared.files.Entry.{Entry}
 use Rattle.go_outside.specs.declared.files.EntryKind.TheVariants as entry
 use Rattle.go_outside.specs.Paths.{Path, not_slash}
 use Rattle.go_outside.specs.Stores.{Contents, IsTold, IsListing}
 use Rattle.go_load.specs.Names.{is_candidate, is_walked, is_hidden, go_mod, under, place, entry_place}
-use Rattle.go_load.specs.Walk.{IsThere, IsOtherModule, IsChild, IsCandidate, AreCandidates, Event, folder_event, events_of, files_of, first_refusal}
-use Rattle.go_load.specs.Steps.{Grows, Enters, ListsModule, AreNamed, TakesAll, Takes, with_package, Counted, Lists, Visits, IsChildAt, file_entry, folder_entry, files_at}
+use Rattle.go_load.specs.Walk.{is_deep, takes_files, IsThere, IsOtherModule, IsChild, IsCandidate, AreCandidates, Event, folder_event, events_of, files_of, first_refusal}
+use Rattle.go_load.specs.Steps.{Grows, Enters, ListsModule, AreNamed, TakesAll, Takes, with_package, Counted, Lists, Visits, ArePlaced, IsName, IsSub, IsChildAt, file_entry, folder_entry, files_at}
 use Rattle.go_load.specs.declared.counts.Counts.{Counts}
 use Rattle.go_load.specs.declared.walk.Taken.{Taken}
 use Rattle.go_load.specs.declared.error.LoadError.{LoadError}
 use Rattle.go_load.specs.declared.error.LoadError.TheVariants as error
 use Rattle.go_load.specs.declared.kind.TreeKind.{TreeKind}
 use Rattle.go_load.specs.declared.kind.TreeKind.TheVariants as kind
+use Rattle.go_load.specs.declared.walk.Wanted.TheVariants as wanted
+use Rattle.std.proofs.lemmas.List.Splits.{length-slice_split}
+use Rattle.std.proofs.lemmas.List.Folds.{list_all-append}
+use Rattle.go_load.proofs.ModuleLines.{parts_whole}
 use Rattle.go_load.proofs.Members.{grows_as}
 use Rattle.go_load.proofs.Paths.{slashless, slashless-cons, told_file, told_folder, listed_file, listed_folder, there_listed}
 use Rattle.go_load.proofs.Counting.{append_nil}
@@ -44,16 +48,16 @@ other_than_slash b h = by (nat_eq b 47) refl
     by true e = absurd (h ((Decides-eqb b 47).0 e))
     by false e = refl
 
-no_slash_by : (b : ℕ) (bs : Path) (t : Bool) → nat_eq 47 b ≡ t → cond t true (list_any (nat_eq 47) bs) ≡ false → (b ≡ 47 → ⊥) × (list_any (nat_eq 47) bs ≡ false)
+no_slash_by : (b : ℕ) (bs : Path) (t : Bool) → nat_eq b 47 ≡ t → (t || list_any (λ c. nat_eq c 47) bs) ≡ false → (b ≡ 47 → ⊥) × (list_any (λ c. nat_eq c 47) bs ≡ false)
 no_slash_by b bs true e h = absurd (true≢false h)
-no_slash_by b bs false e h = ((λ s. true≢false (sym ((Decides-eqb 47 b).1 (sym s)) ∙ e)), h)
+no_slash_by b bs false e h = ((λ s. true≢false (sym ((Decides-eqb b 47).1 s) ∙ e)), h)
 
-slashless_free : (name : Path) → list_any (nat_eq 47) name ≡ false → slashless name
+slashless_free : (name : Path) → list_any (λ c. nat_eq c 47) name ≡ false → slashless name
 slashless_free [] h = refl
-slashless_free (b ∷ bs) h = let k = no_slash_by b bs (nat_eq 47 b) refl h in slashless-cons b bs (other_than_slash b k.0) (slashless_free bs k.1)
+slashless_free (b ∷ bs) h = let k = no_slash_by b bs (nat_eq b 47) refl h in slashless-cons b bs (other_than_slash b k.0) (slashless_free bs k.1)
 
 pub slashless_candidate : (name : Path) → is_candidate name ≡ true → slashless name
-slashless_candidate name h = slashless_free name (not_true (list_any (nat_eq 47) name) (and_right _ (not (list_any (nat_eq 47) name)) h))
+slashless_candidate name h = slashless_free name (not_true (list_any (λ c. nat_eq c 47) name) (and_right _ (not (list_any (λ c. nat_eq c 47) name)) h))
 
 slash_element : (b : ℕ) → is_element_byte b ≡ true → b ≡ 47 → ⊥
 unfolding is_element_byte is_within
@@ -72,6 +76,75 @@ walked_element name h = and_left (is_element name) (not (is_hidden name)) (and_l
 
 pub slashless_walked : (name : Path) → is_walked name ≡ true → slashless name
 slashless_walked name h = slashless_element name (walked_element name h)
+
+-- the path of a folder in a folder
+part_whole : (name : Path) → slashless name → slice_split (λ b. nat_eq b 47) name ≡ name ∷ []
+part_whole name h = parts_whole 47 name (omega (arith, h))
+
+onto_append : (x : ℕ) (ps qs : List Path) → (ps ≡ [] → ⊥) → onto_first x (ps ++ qs) ≡ onto_first x ps ++ qs
+onto_append x [] qs h = absurd (h refl)
+onto_append x (p ∷ ps) qs h = refl
+
+some_part : (bs : Path) → slice_split (λ b. nat_eq b 47) bs ≡ [] → ⊥
+some_part bs e = let n : length (slice_split (λ b. nat_eq b 47) bs) ≡ 0 = ap length e in omega (arith, n, length-slice_split (λ b. nat_eq b 47) bs)
+
+part_by : (x : ℕ) (xs : Path) (ps qs : List Path) (t : Bool) → ps ≡ slice_split (λ b. nat_eq b 47) xs ++ qs → cond t ([] ∷ ps) (onto_first x ps) ≡ cond t ([] ∷ slice_split (λ b. nat_eq b 47) xs) (onto_first x (slice_split (λ b. nat_eq b 47) xs)) ++ qs
+part_by x xs ps qs true e = ap (λ w. [] ∷ w) e
+part_by x xs ps qs false e = ap (onto_first x) e ∙ onto_append x (slice_split (λ b. nat_eq b 47) xs) qs (some_part xs)
+
+parts_append : (xs ys : Path) → slice_split (λ b. nat_eq b 47) (xs ++ 47 ∷ ys) ≡ slice_split (λ b. nat_eq b 47) xs ++ slice_split (λ b. nat_eq b 47) ys
+parts_append [] ys = refl
+parts_append (x ∷ xs) ys = part_by x xs (slice_split (λ b. nat_eq b 47) (xs ++ 47 ∷ ys)) (slice_split (λ b. nat_eq b 47) ys) (nat_eq x 47) (parts_append xs ys)
+
+both_true : (a b : Bool) → a ≡ true → b ≡ true → (a && b) ≡ true
+both_true a b e f = ap (λ t. t && b) e ∙ f
+
+elements_one : (name : Path) → is_element name ≡ true → are_elements name ≡ true
+elements_one name h = ap (list_all is_element) (part_whole name (slashless_element name h)) ∙ both_true (is_element name) true h refl
+
+elements_more : (folder name : Path) → are_elements folder ≡ true → is_element name ≡ true → are_elements (folder ++ 47 ∷ name) ≡ true
+elements_more folder name f h =
+  ap (list_all is_element) (parts_append folder name) ∙ list_all-append is_element (slice_split (λ b. nat_eq b 47) folder) (slice_split (λ b. nat_eq b 47) name)
+    ∙ both_true (are_elements folder) (are_elements name) f (elements_one name h)
+
+folder_by : (folder name : Path) → is_element name ≡ true → (folder ≡ [] → ⊥) → are_elements folder ≡ true → are_elements (under folder name) ≡ true
+folder_by [] name h some f = absurd (some refl)
+folder_by (b ∷ bs) name h some f = elements_more (b ∷ bs) name f h
+
+no_elements : are_elements [] ≡ true → ⊥
+unfolding is_element begins_element
+no_elements e = true≢false (sym e)
+
+pub folder_under : (folder name : Path) → is_element name ≡ true → IsFolderPath folder → IsFolderPath (under folder name)
+folder_under folder name h (inl e) = inr (subst (λ (f : Path). are_elements (under f name) ≡ true) (sym e) (elements_one name h))
+folder_under folder name h (inr f) = inr (folder_by folder name h (λ e. no_elements (subst (λ (w : Path). are_elements w ≡ true) e f)) f)
+
+pub placed_more : (tree : TreeKind) (folder : Path) (entries : List Entry) (old new : List Path) → Grows (Enters tree folder entries) old new → IsFolderPath folder → ArePlaced old → ArePlaced new
+placed_more tree folder entries old new g is placed x h = elim (g.sound x h) [ inl o ↦ placed x o | inr c ↦ subst IsFolderPath c.1.5 (folder_under folder c.1.0.name (walked_element c.1.0.name c.1.3) is) ]
+
+-- the candidates among entries
+file_named : (e : Entry) (name : Path) → e.kind ≡ entry.File → e.name ≡ name → e ≡ file_entry name
+file_named e name k n = λ i. record { name = n i; kind = k i }
+
+pub are_named : (tree : TreeKind) (folder : Path) (entries : List Entry) (names : List Path) → takes_files tree folder ≡ true → Ascending names → Grows (IsName wanted.Candidates entries) [] names → AreNamed tree folder entries names
+are_named tree folder entries names takes up g = record {
+  ascending = up;
+  sound = λ name h. elim (g.sound name h) [ inl o ↦ absurd o | inr c ↦ (takes, subst (λ (n : Path). is_candidate n ≡ true) c.2.2 c.2.1, subst (Has entries) (file_named c.0 name c.2.0 c.2.2) c.1) ];
+  complete = λ name t c h. g.complete name (file_entry name, h, (refl, c, refl));
+}
+
+pub none_named : (tree : TreeKind) (folder : Path) (entries : List Entry) → takes_files tree folder ≡ false → AreNamed tree folder entries []
+none_named tree folder entries f = record { ascending = tt; sound = λ name h. absurd h; complete = λ name t c h. true≢false (sym t ∙ f) }
+
+-- the folders among entries
+pub enters_none : (tree : TreeKind) (folder : Path) (entries : List Entry) (old : List Path) → is_deep tree ≡ false → Grows (Enters tree folder entries) old old
+enters_none tree folder entries old f = record { sound = λ x h. inl h; kept = λ x h. h; complete = λ x c. absurd (true≢false (sym c.0 ∙ f)) }
+
+pub enters_all : (tree : TreeKind) (folder : Path) (entries : List Entry) (files old new : List Path) → is_deep tree ≡ true → Grows (IsName wanted.All entries) [] files → Grows (IsSub folder files entries) old new → Grows (Enters tree folder entries) old new
+enters_all tree folder entries files old new deep names g = grows_as
+  (λ x c. (deep, (c.0, c.1, c.2.0.folder, c.2.0.walked, (λ h. c.2.0.alone (names.complete c.0.name (file_entry c.0.name, h, (refl, refl, refl)))), c.2.1)))
+  (λ x c. (c.1.0, c.1.1, (record { folder = c.1.2; walked = c.1.3; alone = λ h. elim (names.sound c.1.0.name h) [ inl o ↦ absurd o | inr n ↦ c.1.4 (subst (Has entries) (file_named n.0 c.1.0.name n.2.0 n.2.2) n.1) ] }, c.1.5)))
+  g
 
 folder_of : (e : Entry) → e.kind ≡ entry.Folder → e ≡ folder_entry e.name
 folder_of e k = λ i. record { name = e.name; kind = k i }

@@ -1,13 +1,18 @@
 -- Members of lists, and of sets that grow.
-use Rattle.std.proofs.Common.{◌≡◌, ℕ, zero, suc, ◌+◌, ◌<◌, List, [], ◌∷◌, ◌++◌, length, take, get_or, refl, sym, ap, ◌∙◌, subst, ◌⊎◌, inl, inr, arith, Bool, true, false}
+use Rattle.std.proofs.Common.{◌≡◌, ℕ, zero, suc, ◌+◌, ◌<◌, List, [], ◌∷◌, ◌++◌, length, take, get_or, refl, sym, ap, ◌∙◌, subst, ◌⊎◌, inl, inr, arith, Bool, true, false, ◌||◌}
+use mathlib.Core.Bool.{true≢false}
+use Rattle.std.specs.List.{list_any, AllByRecursion}
+use Rattle.std.specs.List.Sorted.{IsStrictlySortedBy}
+use Rattle.std.specs.BTreeMap.{is_at}
+use Rattle.std.proofs.lemmas.Cmp.{nat_list_cmp_total, tied_itself}
 use Rattle.std.proofs.lemmas.List.{take_more}
-use Rattle.std.specs.Ordering.{nat_cmp, match_ordering}
+use Rattle.std.specs.Ordering.{nat_cmp, match_ordering, is_eq, is_lt}
 use Rattle.std.specs.declared.cmp.Ordering.{Ordering}
 use Rattle.std.specs.declared.cmp.Ordering.TheVariants.{Less, Equal, Greater}
 use Rattle.std.specs.Cmp.Lexicographic.{slice_cmp}
 use Rattle.std.specs.FinMap.{slice_cmp-IsAntisymmetric, nat_cmp-IsAntisymmetric}
 use Rattle.std.specs.BTreeSet.{insert_key}
-use Rattle.go_model.specs.Lists.{Has}
+use Rattle.go_model.specs.Lists.{Has, Each, Before, Ascending}
 use Rattle.go_outside.specs.Paths.{Path}
 use Rattle.go_outside.specs.declared.files.Entry.{Entry}
 use Rattle.go_load.specs.Steps.{Grows, IsAny}
@@ -30,6 +35,45 @@ module _ {A : Type 0} where
 
   pub next_taken : (xs : List A) (i : ℕ) (x : A) → i < length xs → x ≡ get_or xs i x → take (i + 1) xs ≡ take i xs ++ x ∷ []
   next_taken xs i x h e = take_more xs i x h ∙ ap (λ y. take i xs ++ y ∷ []) (sym e)
+
+  has_at : (xs : List A) (i : ℕ) (d : A) → i < length xs → Has xs (get_or xs i d)
+  has_at [] i d h = absurd (omega arith)
+  has_at (x ∷ xs) zero d h = inl refl
+  has_at (x ∷ xs) (suc i) d h = inr (has_at xs i d (omega arith))
+
+  pub has_item : (xs : List A) (i : ℕ) (x y : A) → i < length xs → x ≡ get_or xs i x → x ≡ y → Has xs y
+  has_item xs i x y h e s = subst (Has xs) (sym e ∙ s) (has_at xs i x h)
+
+  pub has_no_more : (xs : List A) (i : ℕ) (x y : A) → i < length xs → x ≡ get_or xs i x → (Has (take i xs) y → ⊥) → (x ≡ y → ⊥) → Has (take (i + 1) xs) y → ⊥
+  has_no_more xs i x y h e before here k = elim (has-back (take i xs) x y (subst (λ (ys : List A). Has ys y) (next_taken xs i x h e) k)) [ inl a ↦ before a | inr s ↦ here s ]
+
+-- the keys of a set
+key_by : (name k : Path) (ks : List Path) (o : Ordering) → slice_cmp nat_cmp name k ≡ o → (is_eq o || list_any (is_at (slice_cmp nat_cmp name)) ks) ≡ true → (list_any (is_at (slice_cmp nat_cmp name)) ks ≡ true → Has ks name) → Has (k ∷ ks) name
+key_by name k ks Less e h rest = inr (rest h)
+key_by name k ks Equal e h rest = inl (sym (slice_cmp-IsAntisymmetric nat_cmp-IsAntisymmetric name k e))
+key_by name k ks Greater e h rest = inr (rest h)
+
+pub has_key : (ks : List Path) (name : Path) → list_any (is_at (slice_cmp nat_cmp name)) ks ≡ true → Has ks name
+has_key [] name h = true≢false (sym h)
+has_key (k ∷ ks) name h = key_by name k ks (slice_cmp nat_cmp name k) refl h (has_key ks name)
+
+or_right : (a b : Bool) → b ≡ true → (a || b) ≡ true
+or_right true b e = refl
+or_right false b e = e
+
+pub key_has : (ks : List Path) (name : Path) → Has ks name → list_any (is_at (slice_cmp nat_cmp name)) ks ≡ true
+key_has [] name h = absurd h
+key_has (k ∷ ks) name (inl e) = ap (λ o. is_eq o || list_any (is_at (slice_cmp nat_cmp name)) ks) (ap (slice_cmp nat_cmp name) e ∙ tied_itself nat_list_cmp_total name)
+key_has (k ∷ ks) name (inr h) = or_right (is_at (slice_cmp nat_cmp name) k) (list_any (is_at (slice_cmp nat_cmp name)) ks) (key_has ks name h)
+
+before_each : (x : Path) (ys : List Path) → AllByRecursion (λ y. slice_cmp nat_cmp x y ≡ Less) ys → Each (Before x) ys
+before_each x [] h = tt
+before_each x (y ∷ ys) h = (ap is_lt h.0, before_each x ys h.1)
+
+pub ascending_of : (ks : List Path) → IsStrictlySortedBy (slice_cmp nat_cmp) ks → Ascending ks
+unfolding IsStrictlySortedBy
+ascending_of [] h = tt
+ascending_of (k ∷ ks) h = (before_each k ks h.0, ascending_of ks h.1)
 
 -- the keys after a key was put among them
 abbrev order : Path → Path → Ordering

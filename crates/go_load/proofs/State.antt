@@ -7,7 +7,7 @@ use Rattle.go_model.specs.declared.tree.LimitName.TheVariants as limit
 use Rattle.go_outside.specs.Paths.{Path}
 use Rattle.go_outside.specs.Stores.{Contents, IsTold}
 use Rattle.go_load.specs.Names.{under, place, entry_place}
-use Rattle.go_load.specs.Walk.{IsThere, IsFolder, top, sub, IsChild, AreCandidates, IsNext, Event, folder_event, events_of, files_of, Walked, start, next, Reaches, before, within, IsWhole, Refusal, first_refusal, no_counts}
+use Rattle.go_load.specs.Walk.{IsThere, IsFolder, top, sub, IsChild, AreCandidates, IsNext, Event, folder_event, events_of, package_events, file_events, files_of, Walked, start, next, Reaches, before, within, IsWhole, Refusal, first_refusal, no_counts}
 use Rattle.go_load.specs.Loads.{AreFiles, PassesIn, Walks}
 use Rattle.go_load.specs.Steps.{Grows, IsChildAt, Visits}
 use Rattle.go_load.specs.declared.counts.Counts.{Counts}
@@ -70,7 +70,7 @@ module _ (m : Contents) (tree : TreeKind) (root : Path) where
 
   there_by : (done : List Path) (files : List TreeFile) (es : List Event) → Walked m tree root done files es → Has done [] → (es ≡ []) ⊎ IsThere m root → IsThere m root
   there_by done files es start h t = absurd h
-  there_by done files es (next listed fs es' folder names w n c) h (inl e) = absurd (some_events es' (events_of folder (files_of m root folder names)) e)
+  there_by done files es (next listed fs es' folder names w n c) h (inl e) = absurd (some_events es' (package_events folder (files_of m root folder names) ++ file_events (files_of m root folder names)) e)
     where
       some_events : (xs ys : List Event) → xs ++ folder_event folder ∷ ys ≡ [] → ⊥
       some_events [] ys e = cc

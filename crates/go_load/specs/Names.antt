@@ -27,7 +27,7 @@ is_walked name = is_element name && not (is_hidden name) && not (is_text name (c
 
 -- the names of the files that are read; the name of an entry has no `/`
 abbrev pub is_candidate : Path → Bool
-is_candidate name = ends name (codes ".go") && not (ends name (codes "_test.go")) && not (is_hidden name) && not (list_any (nat_eq 47) name)
+is_candidate name = ends name (codes ".go") && not (ends name (codes "_test.go")) && not (is_hidden name) && not (list_any (λ b. nat_eq b 47) name)
 
 -- the file that makes a folder the root of a module
 abbrev pub go_mod : Path

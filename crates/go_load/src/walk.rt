@@ -364,21 +364,23 @@ fn visit<F: Files>(
     if let Err(error) = count_folder(alloc, &mut taken.counts, LimitName::Folders, folder) {
         return Err(error);
     }
-    let at = match place(alloc, root, folder) {
-        Ok(at) => at,
+    let stored = match place(alloc, root, folder) {
+        Ok(stored) => stored,
         Err(_) => return Err(LoadError::NoMemory),
     };
-    let entries = match list(alloc, files, at.bytes(), folder) {
-        Ok(entries) => entries,
+    let at = stored.bytes();
+    let listing = match list(alloc, files, at, folder) {
+        Ok(listing) => listing,
         Err(error) => return Err(error),
     };
-    if is_other_module(kind, folder, entries.items()) {
+    let entries = listing.items();
+    if is_other_module(kind, folder, entries) {
         return Ok(());
     }
-    if let Err(_) = enter(alloc, kind, folder, entries.items(), pending) {
+    if let Err(_) = enter(alloc, kind, folder, entries, pending) {
         return Err(LoadError::NoMemory);
     }
-    take_candidates(alloc, files, kind, at.bytes(), folder, entries.items(), taken)
+    take_candidates(alloc, files, kind, at, folder, entries, taken)
 }
 
 /// The candidate files of a tree, in the order of the walk.
@@ -410,7 +412,8 @@ pub(crate) fn walk<F: Files>(
                 return Ok(found);
             }
             Some(folder) => {
-                if let Err(error) = visit(alloc, files, kind, root, folder.bytes(), &mut pending, &mut taken) {
+                let path = folder.bytes();
+                if let Err(error) = visit(alloc, files, kind, root, path, &mut pending, &mut taken) {
                     return Err(error);
                 }
             }
