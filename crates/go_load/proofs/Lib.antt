@@ -1,5 +1,6 @@
 pub mod Counting
 pub mod Folders
+pub mod Loading
 pub mod Members
 pub mod ModuleLines
 pub mod Orders

@@ -53,6 +53,9 @@ pub missing_told : (o : Option Contents) (at folder : Path) (x : FilesError) (e 
 missing_told o at folder x e same t is =
   told_then o (λ m. AnswersList m at (Err x)) (λ m. Lists m at folder (Err e)) (λ m none. missing_by m at folder e (subst (λ (w : FilesError). AnswersList m at (Err w)) same none) is) t
 
+pub listed_as : (o : Option Contents) (at folder : Path) (a b : List Entry) → a ≡ b → Told o (λ m. Lists m at folder (Ok b)) → Told o (λ m. Lists m at folder (Ok a))
+listed_as o at folder a b e t = subst (λ (w : List Entry). Told o (λ m. Lists m at folder (Ok w))) (sym e) t
+
 -- the files of a folder
 pub taking_refused_told : (o : Option Contents) (at folder : Path) (names before left : List Path) (name : Path) (old now new : Taken) (e : LoadError) → before ≡ name ∷ left
     → Told o (λ m. Taking m at folder names before old now) → Told o (λ m. Takes m at folder file_events (name ∷ []) now new (Err e)) → Told o (λ m. Takes m at folder file_events names old new (Err e))

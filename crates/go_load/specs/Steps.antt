@@ -60,6 +60,25 @@ ReadsModule m root (Err (error.Limit name path)) = (bytes : List ℕ) × (told_m
 ReadsModule m root (Err error.ReadFault) = Unit {0}
 ReadsModule m root (Err error.NoMemory) = Unit {0}
 
+-- the module that the bytes of a `go.mod` name
+abbrev pub Parses : List ℕ → Result Path LoadError → Type 0
+Parses bytes (Ok path) = IsModuleOf bytes path
+Parses bytes (Err (error.Missing p)) = ⊥
+Parses bytes (Err error.NoModule) = ⊥
+Parses bytes (Err error.BadModule) = (path : Path) → IsModuleOf bytes path → ⊥
+Parses bytes (Err (error.Limit name p)) = ⊥
+Parses bytes (Err error.ReadFault) = ⊥
+Parses bytes (Err error.NoMemory) = Unit {0}
+
+-- a tree without a `go.mod`
+abbrev pub LacksModule : Contents → Path → LoadError → Type 0
+LacksModule m root (error.Missing p) = (IsThere m root → ⊥) × (p ≡ [])
+LacksModule m root error.NoModule = IsThere m root
+LacksModule m root error.BadModule = ⊥
+LacksModule m root (error.Limit name p) = ⊥
+LacksModule m root error.ReadFault = Unit {0}
+LacksModule m root error.NoMemory = Unit {0}
+
 -- only the load of a module speaks of its `go.mod`
 abbrev pub IsOfWalk : LoadError → Type 0
 IsOfWalk e = (e ≢ error.NoModule) × (e ≢ error.BadModule)

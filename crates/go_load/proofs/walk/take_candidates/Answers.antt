@@ -3,7 +3,7 @@ use Rattle.go_load.proofs.Told.{uncounted_told, takes_told}
 use Rattle.go_load.proofs.walk.take_candidates.Goals as goal
 
 pub returns-in-Err-count_package-clause-told : goal.returns-in-Err-count_package-clause-told
-returns-in-Err-count_package-clause-told g c = uncounted_told (g.F.Files.told c.args.files.now) c.args.kind c.args.at.now c.args.folder.now c.args.entries.now c.in-Ok.names.keys c.args.taken.now _ c.count_package.new.counts c.in-Err-count_package.error
+returns-in-Err-count_package-clause-told g c = uncounted_told (g.F.Files.told c.args.files.now) c.args.kind c.args.at.now c.args.folder.now c.args.entries.now c.in-Ok.names.keys c.args.taken.now (record { files = c.args.taken.now.files; counts = c.count_package.new.counts }) c.count_package.new.counts c.in-Err-count_package.error
     (sym c.takes_files.ensures ∙ c.if-not-takes_files.false) c.in-Ok.ensures.ascending c.in-Ok.ensures.names c.in-Err-count_package.ensures.counted
 
 pub returns-clause-told : goal.returns-clause-told
