@@ -5,6 +5,10 @@ use Rattle.std.specs.Prelude.{ℕ, ◌+◌, ◌-◌, ◌^◌, ◌≤◌, min, Op
 abbrev pub Rose : ℕ → ℕ → Type 0
 Rose before now = min (before + 1) (2 ^ 64 - 1) ≤ now
 
+-- one fault more than a count has, or the last value of its type
+abbrev pub one_more : ℕ → ℕ
+one_more faults = min (faults + 1) (2 ^ 64 - 1)
+
 -- where something is told, the fact holds of it
 abbrev pub Told : {A : Type 0} → Option A → (A → Type 0) → Type 0
 Told None P = Unit {0}

@@ -1,4 +1,8 @@
+pub mod Failing
 pub mod Faults
+pub mod MemoryFiles
+pub mod MemorySink
 pub mod Paths
 pub mod Sinks
+pub mod SortedPairs
 pub mod Stores

@@ -1,0 +1,12 @@
+pub mod Clashing
+pub mod Counts
+pub mod Entries
+pub mod Found
+pub mod Held
+pub mod Listed
+pub mod Lists
+pub mod Order
+pub mod Past
+pub mod Sorted
+pub mod Told
+pub mod Within

@@ -1,0 +1,231 @@
+//! A store in memory.
+ghost use Rattle.std.specs.Prelude.{◌≡◌, ◌≢◌, ◌≤◌, Some, Err, length, IfOk, IfErr, OnOk, IsPermutation};
+ghost use Rattle.std.specs.FinMap as map;
+ghost use Rattle.go_outside.specs.Stores.{AnswersList, AnswersRead, FilesCause};
+ghost use Rattle.go_outside.specs.MemoryFiles.{Tells, IsClear, ClashCause};
+ghost use Rattle.go_outside.specs.SortedPairs.{IsSorted};
+
+mod clash;
+mod listing;
+mod search;
+
+use crate::files::{Entry, Files, FilesError};
+use go_model::list::List;
+use go_model::memory::NoMemory;
+use go_model::text::Text;
+use std::alloc::Global;
+use std::marker::Model;
+use thiserror::Error;
+
+/// A path and its bytes.
+#[derive(Debug, Drop)]
+pub struct FilePair {
+    pub path: Text,
+    pub bytes: Text,
+}
+
+/// Why pairs are no store.
+#[derive(Debug, Drop, Error)]
+pub enum MemoryFilesError {
+    /// The least path that stands twice, or begins another when a slash follows it.
+    #[error("a path clashes with another")]
+    Clash(Text),
+    #[error("out of memory")]
+    NoMemory,
+}
+
+impl From<NoMemory> for MemoryFilesError {
+    ghost use Rattle.std.specs.Prelude.{◌≡◌};
+    ghost use Rattle.go_outside.specs.declared.memory_files.MemoryFilesError.TheVariants as error;
+
+    ghost from_gives = { λ _ e. e ≡ error.NoMemory };
+
+    fn from(_: NoMemory) -> MemoryFilesError {
+        MemoryFilesError::NoMemory
+    }
+}
+
+/// A store in memory, which a contract sees as its contents. It never fails.
+#[derive(Debug, Drop)]
+pub struct MemoryFiles {
+    pairs: Vec<FilePair>,
+}
+
+impl Model for MemoryFiles {
+    ghost use Rattle.std.specs.Coded.{coded_list, coded_ℕ};
+    ghost use Rattle.std.specs.FinMap.{code};
+    ghost use Rattle.go_outside.specs.Stores.{Contents};
+    ghost use Rattle.go_outside.specs.MemoryFiles.{contents_of};
+    ghost use Rattle.go_outside.specs.SortedPairs.{IsRising};
+
+    ghost Value = { Contents };
+
+    ghost coded = { code (coded_list coded_ℕ) (coded_list coded_ℕ) };
+
+    ghost view = { λ s. contents_of s.pairs.items };
+
+    ghost invariant = { λ s. IsRising s.pairs.items };
+}
+
+// The pairs in the order of their paths.
+fn sorted(pairs: List<FilePair>) -> Result<Vec<FilePair>, NoMemory>
+    ensures permutation { IfOk result (λ v. IsPermutation pairs v.items) }
+    ensures sorted { IfOk result (λ v. IsSorted v.items) }
+{
+    let mut sorted = pairs.into_vec();
+    sorted.sort_by(|left, right| left.path.cmp(&right.path))?;
+    Ok(sorted)
+}
+
+impl MemoryFiles {
+    /// A store of these files.
+    pub fn new(alloc: Global, pairs: List<FilePair>) -> Result<MemoryFiles, MemoryFilesError>
+        ensures told { IfOk result (λ store. Tells store pairs) }
+        ensures clear { OnOk result (IsClear pairs) }
+        ensures clash { IfErr result (ClashCause pairs) }
+    {
+        let pairs = sorted(pairs)?;
+        match clash::first_clash(alloc, &pairs)? {
+            None => Ok(MemoryFiles { pairs }),
+            Some(at) => Err(MemoryFilesError::Clash(Text::of(alloc, pairs[at].path.bytes())?)),
+        }
+    }
+}
+
+impl Files for MemoryFiles {
+    ghost told = { λ s. Some s };
+
+    ghost faults = { λ _. 0 };
+
+    fn list(&mut self, alloc: Global, folder: &[u8]) -> Result<List<Entry>, FilesError>
+        ensures same { Some self.new ≡ Some self.old }
+        ensures entries { AnswersList self.old folder.now result }
+        ensures never { result ≢ Err FilesError.TooLarge }
+        ensures cause { FilesCause 0 0 result }
+        ensures never_fails { result ≢ Err FilesError.Failed }
+    {
+        listing::list(alloc, &self.pairs, folder)
+    }
+
+    fn read(&mut self, alloc: Global, path: &[u8], limit: u64) -> Result<Text, FilesError>
+        ensures same { Some self.new ≡ Some self.old }
+        ensures bytes { AnswersRead (map.get self.old path.now) limit result }
+        ensures limit { IfOk result (λ text. length text ≤ limit) }
+        ensures cause { FilesCause 0 0 result }
+        ensures never_fails { result ≢ Err FilesError.Failed }
+    {
+        let Some(bytes) = search::held(&self.pairs, path) else {
+            return Err(FilesError::Missing);
+        };
+        if bytes.len() as u64 > limit {
+            return Err(FilesError::TooLarge);
+        }
+        Ok(Text::of(alloc, bytes)?)
+    }
+}
+
+#[cfg(test)]
+mod tests {
+    use super::*;
+    use crate::files::EntryKind;
+    use std::test::Fail;
+
+    fn store(alloc: Global, files: &[(&str, &str)]) -> Result<MemoryFiles, MemoryFilesError> {
+        let mut pairs = List::new(alloc);
+        for (path, bytes) in files {
+            let path = Text::of(alloc, path.as_bytes())?;
+            let bytes = Text::of(alloc, bytes.as_bytes())?;
+            pairs.push(FilePair { path, bytes })?;
+        }
+        MemoryFiles::new(alloc, pairs)
+    }
+
+    #[test]
+    fn lists_the_entries_of_a_folder(rt: HostRuntime) -> Result<(), Fail> {
+        let alloc = rt.alloc();
+        let files: [(&str, &str); 6] = [
+            ("m/go.mod", ""),
+            ("m/a/b/c.go", ""),
+            ("m/a.go", ""),
+            ("m/a/d.go", ""),
+            ("m/a-b/c.go", ""),
+            ("n", ""),
+        ];
+        let mut store = store(alloc, &files)?;
+        let folders: [(&str, &[(&str, EntryKind)]); 3] = [
+            (
+                "m",
+                &[
+                    ("go.mod", EntryKind::File),
+                    ("a", EntryKind::Folder),
+                    ("a.go", EntryKind::File),
+                    ("a-b", EntryKind::Folder),
+                ],
+            ),
+            (
+                "m/a",
+                &[("b", EntryKind::Folder), ("d.go", EntryKind::File)],
+            ),
+            ("m/a/b", &[("c.go", EntryKind::File)]),
+        ];
+        for (folder, entries) in folders {
+            let listed = store.list(alloc, folder.as_bytes())?;
+            assert_eq!(rt; listed.items().len(), entries.len(), "in {folder}");
+            for (name, kind) in entries {
+                let mut is_listed = false;
+                for entry in listed.items() {
+                    is_listed |= entry.name.bytes() == name.as_bytes() && entry.kind == *kind;
+                }
+                assert!(rt; is_listed, "{name} in {folder}");
+            }
+        }
+        for folder in ["", "n", "m/a.go", "m/", "q"] {
+            let missing = matches!(
+                store.list(alloc, folder.as_bytes()),
+                Err(FilesError::Missing)
+            );
+            assert!(rt; missing, "at {folder}");
+        }
+        Ok(())
+    }
+
+    #[test]
+    fn reads_up_to_the_limit(rt: HostRuntime) -> Result<(), Fail> {
+        let alloc = rt.alloc();
+        let mut store = store(alloc, &[("a", "12345"), ("b", "")])?;
+        assert_eq!(rt; store.read(alloc, b"a", 5)?.bytes(), b"12345".as_slice());
+        assert_eq!(rt; store.read(alloc, b"b", 0)?.bytes().len(), 0);
+        let larger = matches!(store.read(alloc, b"a", 4), Err(FilesError::TooLarge));
+        assert!(rt; larger);
+        let missing = matches!(store.read(alloc, b"c", 4), Err(FilesError::Missing));
+        assert!(rt; missing);
+        Ok(())
+    }
+
+    fn clash_of(answer: &Result<MemoryFiles, MemoryFilesError>) -> Option<&[u8]> {
+        match answer {
+            Err(MemoryFilesError::Clash(path)) => Some(path.bytes()),
+            _ => None,
+        }
+    }
+
+    #[test]
+    fn names_the_least_clash(rt: HostRuntime) -> Result<(), Fail> {
+        let cases: [(&[(&str, &str)], Option<&str>); 5] = [
+            (&[("b", "1"), ("a/x", ""), ("b", "2"), ("a", "")], Some("a")),
+            (&[("a/b", ""), ("a.b", ""), ("a", "")], Some("a")),
+            (
+                &[("c/d", ""), ("c/d/e", ""), ("b", ""), ("b", "")],
+                Some("b"),
+            ),
+            (&[("", ""), ("/a", "")], Some("")),
+            (&[("a", ""), ("a-b/c", ""), ("ab", "")], None),
+        ];
+        for (files, least) in cases {
+            let answer = store(rt.alloc(), files);
+            assert_eq!(rt; clash_of(&answer), least.map(|path| path.as_bytes()));
+            assert_eq!(rt; answer.is_ok(), least.is_none());
+        }
+        Ok(())
+    }
+}
