@@ -70,11 +70,12 @@ module _ (m : Contents) (at folder name : Path) where
       → Counted (event limit.Files path 1 ∷ []) old.counts mid (Ok tt) → Counted (event limit.Bytes path (length text) ∷ []) mid new.counts (Ok tt)
       → new.files ≡ old.files ++ (record { folder = folder; name = name; bytes = text }) ∷ [] → Takes m at folder file_events (name ∷ []) old new (Ok tt)
   takes_one old new mid text e small first last files =
-    let same : text ≡ bytes = sym (bytes_told m (at ++ 47 ∷ name) text e) in
-    (files ∙ ap (λ w. old.files ++ (record { folder = folder; name = name; bytes = w }) ∷ []) same,
-     λ rest. first (event limit.FileBytes path (length bytes) ∷ event limit.Bytes path (length bytes) ∷ rest)
-       ∙ own_within mid path (length bytes) (event limit.Bytes path (length bytes) ∷ rest) (subst (λ (w : List ℕ). length w ≤ most limit.FileBytes) same small)
-       ∙ subst (λ (w : List ℕ). first_refusal mid (event limit.Bytes path (length w) ∷ rest) ≡ first_refusal new.counts rest) same (last rest))
+      let same : text ≡ bytes = sym (bytes_told m (at ++ 47 ∷ name) text e) in (
+        files ∙ ap (λ w. old.files ++ (record { folder = folder; name = name; bytes = w }) ∷ []) same,
+        λ rest. first (event limit.FileBytes path (length bytes) ∷ event limit.Bytes path (length bytes) ∷ rest)
+            ∙ own_within mid path (length bytes) (event limit.Bytes path (length bytes) ∷ rest) (subst (λ (w : List ℕ). length w ≤ most limit.FileBytes) same small)
+            ∙ subst (λ (w : List ℕ). first_refusal mid (event limit.Bytes path (length w) ∷ rest) ≡ first_refusal new.counts rest) same (last rest),
+      )
 
   -- one file that isn't counted
   pub refused_one : (old new : Taken) (mid : Counts) (e : LoadError) → Counted (event limit.Files path 1 ∷ []) old.counts mid (Err e) → Takes m at folder file_events (name ∷ []) old new (Err e)
@@ -91,8 +92,8 @@ module _ (m : Contents) (at folder name : Path) where
   unread_one old new mid error.NoModule c r = r
   unread_one old new mid error.BadModule c r = r
   unread_one old new mid (error.Limit l p) c r =
-    let long : most limit.FileBytes < length bytes = subst (λ (w : List ℕ). most limit.FileBytes < length w) (sym (bytes_told m (at ++ 47 ∷ name) r.0 r.1)) r.2 in
-    c (event limit.FileBytes path (length bytes) ∷ event limit.Bytes path (length bytes) ∷ []) ∙ own_past mid path (length bytes) (event limit.Bytes path (length bytes) ∷ []) long ∙ (λ i. Some (sym r.3 i, sym r.4 i))
+      let long : most limit.FileBytes < length bytes = subst (λ (w : List ℕ). most limit.FileBytes < length w) (sym (bytes_told m (at ++ 47 ∷ name) r.0 r.1)) r.2 in
+      c (event limit.FileBytes path (length bytes) ∷ event limit.Bytes path (length bytes) ∷ []) ∙ own_past mid path (length bytes) (event limit.Bytes path (length bytes) ∷ []) long ∙ (λ i. Some (sym r.3 i, sym r.4 i))
   unread_one old new mid error.ReadFault c r = tt
   unread_one old new mid error.NoMemory c r = tt
 
@@ -103,8 +104,8 @@ module _ (m : Contents) (at folder name : Path) where
   past_one old new mid last text error.NoModule e small c d = d
   past_one old new mid last text error.BadModule e small c d = d
   past_one old new mid last text (error.Limit l p) e small c d =
-    let same : text ≡ bytes = sym (bytes_told m (at ++ 47 ∷ name) text e) in
-    c (event limit.FileBytes path (length bytes) ∷ event limit.Bytes path (length bytes) ∷ [])
+      let same : text ≡ bytes = sym (bytes_told m (at ++ 47 ∷ name) text e) in
+      c (event limit.FileBytes path (length bytes) ∷ event limit.Bytes path (length bytes) ∷ [])
       ∙ own_within mid path (length bytes) (event limit.Bytes path (length bytes) ∷ []) (subst (λ (w : List ℕ). length w ≤ most limit.FileBytes) same small)
       ∙ subst (λ (w : List ℕ). first_refusal mid (event limit.Bytes path (length w) ∷ []) ≡ Some (l, p)) same d
   past_one old new mid last text error.ReadFault e small c d = tt
@@ -136,7 +137,7 @@ module _ (m : Contents) (at folder : Path) (names : List Path) (old : Taken) whe
   taking_refused name left now new error.NoModule t one = one
   taking_refused name left now new error.BadModule t one = one
   taking_refused name left now new (error.Limit l p) t one =
-    ap (first_refusal old.counts) (sym (append_nil (file_events (files_at m at folder names)))) ∙ t.counts [] ∙ ap (first_refusal now.counts) (append_nil (file_events (files_at m at folder (name ∷ left))))
+      ap (first_refusal old.counts) (sym (append_nil (file_events (files_at m at folder names)))) ∙ t.counts [] ∙ ap (first_refusal now.counts) (append_nil (file_events (files_at m at folder (name ∷ left))))
       ∙ first_front now.counts (file_events (files_at m at folder (name ∷ []))) (file_events (files_at m at folder left)) (l, p) one
   taking_refused name left now new error.ReadFault t one = tt
   taking_refused name left now new error.NoMemory t one = tt
@@ -195,13 +196,13 @@ each_last P (y ∷ ys) x h p = (h.0, each_last P ys x h.1 p)
 pub kept_one : (old new : Taken) (folder name text : List ℕ) (mid : Counts) (n : ℕ) → mid ≡ counts_with old.counts limit.Files 1 → count_with old.counts limit.Files 1 ≤ most limit.Files → new.counts ≡ counts_with mid limit.Bytes n → length text ≤ most limit.FileBytes
     → new.files ≡ old.files ++ (record { folder = folder; name = name; bytes = text }) ∷ [] → IsFolderPath folder → IsKept old → IsKept new
 kept_one old new folder name text mid n first within last small files is k =
-  let count : new.counts.files ≡ old.counts.files + 1 = ap (λ (c : Counts). c.files) last ∙ ap (λ (c : Counts). c.files) first in
-  let long : length new.files ≡ length old.files + 1 = ap length files ∙ length-append old.files ((record { folder = folder; name = name; bytes = text }) ∷ []) in
-  record {
-    counted = long ∙ ap (λ w. w + 1) k.counted ∙ sym count;
-    few = subst (λ (w : ℕ). w ≤ most limit.Files) (sym count) within;
-    held = subst (Each IsTreeFile) (sym files) (each_last IsTreeFile old.files (record { folder = folder; name = name; bytes = text }) k.held (record { placed = is; small = small }));
-  }
+    let count : new.counts.files ≡ old.counts.files + 1 = ap (λ (c : Counts). c.files) last ∙ ap (λ (c : Counts). c.files) first in
+    let long : length new.files ≡ length old.files + 1 = ap length files ∙ length-append old.files ((record { folder = folder; name = name; bytes = text }) ∷ []) in
+    record {
+      counted = long ∙ ap (λ w. w + 1) k.counted ∙ sym count;
+      few = subst (λ (w : ℕ). w ≤ most limit.Files) (sym count) within;
+      held = subst (Each IsTreeFile) (sym files) (each_last IsTreeFile old.files (record { folder = folder; name = name; bytes = text }) k.held (record { placed = is; small = small }));
+    }
 
 pub kept_counts : (old new : Taken) → new.files ≡ old.files → new.counts.files ≡ old.counts.files → IsKept old → IsKept new
 kept_counts old new files count k = record {

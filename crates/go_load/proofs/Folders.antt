@@ -104,7 +104,7 @@ elements_one name h = ap (list_all is_element) (part_whole name (slashless_eleme
 
 elements_more : (folder name : Path) → are_elements folder ≡ true → is_element name ≡ true → are_elements (folder ++ 47 ∷ name) ≡ true
 elements_more folder name f h =
-  ap (list_all is_element) (parts_append folder name) ∙ list_all-append is_element (slice_split (λ b. nat_eq b 47) folder) (slice_split (λ b. nat_eq b 47) name)
+    ap (list_all is_element) (parts_append folder name) ∙ list_all-append is_element (slice_split (λ b. nat_eq b 47) folder) (slice_split (λ b. nat_eq b 47) name)
     ∙ both_true (are_elements folder) (are_elements name) f (elements_one name h)
 
 folder_by : (folder name : Path) → is_element name ≡ true → (folder ≡ [] → ⊥) → are_elements folder ≡ true → are_elements (under folder name) ≡ true
@@ -142,9 +142,9 @@ enters_none tree folder entries old f = record { sound = λ x h. inl h; kept = �
 
 pub enters_all : (tree : TreeKind) (folder : Path) (entries : List Entry) (files old new : List Path) → is_deep tree ≡ true → Grows (IsName wanted.All entries) [] files → Grows (IsSub folder files entries) old new → Grows (Enters tree folder entries) old new
 enters_all tree folder entries files old new deep names g = grows_as
-  (λ x c. (deep, (c.0, c.1, c.2.0.folder, c.2.0.walked, (λ h. c.2.0.alone (names.complete c.0.name (file_entry c.0.name, h, (refl, refl, refl)))), c.2.1)))
-  (λ x c. (c.1.0, c.1.1, (record { folder = c.1.2; walked = c.1.3; alone = λ h. elim (names.sound c.1.0.name h) [ inl o ↦ absurd o | inr n ↦ c.1.4 (subst (Has entries) (file_named n.0 c.1.0.name n.2.0 n.2.2) n.1) ] }, c.1.5)))
-  g
+    (λ x c. (deep, (c.0, c.1, c.2.0.folder, c.2.0.walked, (λ h. c.2.0.alone (names.complete c.0.name (file_entry c.0.name, h, (refl, refl, refl)))), c.2.1)))
+    (λ x c. (c.1.0, c.1.1, (record { folder = c.1.2; walked = c.1.3; alone = λ h. elim (names.sound c.1.0.name h) [ inl o ↦ absurd o | inr n ↦ c.1.4 (subst (Has entries) (file_named n.0 c.1.0.name n.2.0 n.2.2) n.1) ] }, c.1.5)))
+    g
 
 folder_of : (e : Entry) → e.kind ≡ entry.Folder → e ≡ folder_entry e.name
 folder_of e k = λ i. record { name = e.name; kind = k i }
@@ -186,15 +186,19 @@ module _ (m : Contents) (tree : TreeKind) (root folder : Path) (entries : List E
 
     pub are_children : (old new : List Path) → Grows (Enters tree folder entries) old new → Grows (IsChildAt m tree root folder) old new
     are_children old new g = grows_as
-      (λ x h. (h.1.0.name, record {
-        deep = h.0;
-        own = λ o. own (lists_other o);
-        walked = h.1.3;
-        there = told_folder m (place root folder) entries listing h.1.0.name (subst (Has entries) (folder_of h.1.0 h.1.2) h.1.1);
-        alone = λ told. h.1.4 (listed_file m (place root folder) entries listing h.1.0.name (slashless_walked h.1.0.name h.1.3) told);
-      }, h.1.5))
-      (λ x c. (c.1.deep, (folder_entry c.0, listed_folder m (place root folder) entries listing c.0 (slashless_walked c.0 c.1.walked) c.1.there, refl, c.1.walked, (λ h. c.1.alone (told_file m (place root folder) entries listing c.0 h)), c.2)))
-      g
+        (λ x h. (
+          h.1.0.name,
+          record {
+            deep = h.0;
+            own = λ o. own (lists_other o);
+            walked = h.1.3;
+            there = told_folder m (place root folder) entries listing h.1.0.name (subst (Has entries) (folder_of h.1.0 h.1.2) h.1.1);
+            alone = λ told. h.1.4 (listed_file m (place root folder) entries listing h.1.0.name (slashless_walked h.1.0.name h.1.3) told);
+          },
+          h.1.5,
+        ))
+        (λ x c. (c.1.deep, (folder_entry c.0, listed_folder m (place root folder) entries listing c.0 (slashless_walked c.0 c.1.walked) c.1.there, refl, c.1.walked, (λ h. c.1.alone (told_file m (place root folder) entries listing c.0 h)), c.2)))
+        g
 
 -- a turn of the walk
 module _ (m : Contents) (tree : TreeKind) (root folder : Path) (pending pending' : List Path) (old new : Taken) where
@@ -217,26 +221,35 @@ module _ (m : Contents) (tree : TreeKind) (root folder : Path) (pending pending'
   -- another module
   pub visits_other : (at : Path) (entries : List Entry) → at ≡ place root folder → Lists m at folder (Ok entries) → ListsModule tree folder entries → Counted (folder_event folder ∷ []) old.counts new.counts (Ok tt) → pending' ≡ pending → new.files ≡ old.files → Visits m tree root folder pending pending' old new (Ok tt)
   visits_other at entries is l other c same files =
-    let l' = subst (λ (w : Path). Lists m w folder (Ok entries)) is l in
-    ([], there_listed m (place root folder) entries l'.0 l'.1, no_candidates m tree root folder entries l'.0 other,
-      subst (λ (ps : List Path). Grows (IsChildAt m tree root folder) pending ps) (sym same) (no_children m tree root folder entries l'.0 pending other),
-      files ∙ sym (append_nil old.files), λ rest. c rest)
+      let l' = subst (λ (w : Path). Lists m w folder (Ok entries)) is l in (
+        [],
+        there_listed m (place root folder) entries l'.0 l'.1,
+        no_candidates m tree root folder entries l'.0 other,
+        subst (λ (ps : List Path). Grows (IsChildAt m tree root folder) pending ps) (sym same) (no_children m tree root folder entries l'.0 pending other),
+        files ∙ sym (append_nil old.files),
+        λ rest. c rest,
+      )
 
   -- a folder of this tree
   module _ (entries : List Entry) (listed : Lists m (place root folder) folder (Ok entries)) (own : ListsModule tree folder entries → ⊥) (grows : Grows (Enters tree folder entries) pending pending') (mid : Taken) (count : Counted (folder_event folder ∷ []) old.counts mid.counts (Ok tt)) (same : mid.files ≡ old.files) where
     visits_at : (r : Result (Unit {0}) LoadError) → TakesAll m tree (place root folder) folder entries mid new r → Visits m tree root folder pending pending' old new r
-    visits_at (Ok tt) t =
-      (t.0, there_listed m (place root folder) entries listed.0 listed.1, are_candidates m tree root folder entries listed.0 own t.0 t.1, are_children m tree root folder entries listed.0 own pending pending' grows,
-        t.2.0 ∙ ap (λ w. w ++ files_of m root folder t.0) same, λ rest. count (with_package folder (files_of m root folder t.0) ++ rest) ∙ t.2.1 rest)
+    visits_at (Ok tt) t = (
+      t.0,
+      there_listed m (place root folder) entries listed.0 listed.1,
+      are_candidates m tree root folder entries listed.0 own t.0 t.1,
+      are_children m tree root folder entries listed.0 own pending pending' grows,
+      t.2.0 ∙ ap (λ w. w ++ files_of m root folder t.0) same,
+      λ rest. count (with_package folder (files_of m root folder t.0) ++ rest) ∙ t.2.1 rest,
+    )
     visits_at (Err (error.Missing p)) t = (let c = (are_candidates m tree root folder entries listed.0 own t.0 t.1).sound t.2.0 t.2.1 in absurd (c.stored t.2.2))
     visits_at (Err error.NoModule) t = t
     visits_at (Err error.BadModule) t = t
     visits_at (Err (error.Limit l p)) t =
-      inr (t.0, there_listed m (place root folder) entries listed.0 listed.1, are_candidates m tree root folder entries listed.0 own t.0 t.1, count (with_package folder (files_of m root folder t.0)) ∙ t.2)
+        inr (t.0, there_listed m (place root folder) entries listed.0 listed.1, are_candidates m tree root folder entries listed.0 own t.0 t.1, count (with_package folder (files_of m root folder t.0)) ∙ t.2)
     visits_at (Err error.ReadFault) t = tt
     visits_at (Err error.NoMemory) t = tt
 
   pub visits_own : (at : Path) (entries : List Entry) (mid : Taken) (r : Result (Unit {0}) LoadError) → at ≡ place root folder → Lists m at folder (Ok entries) → (ListsModule tree folder entries → ⊥) → Grows (Enters tree folder entries) pending pending'
       → Counted (folder_event folder ∷ []) old.counts mid.counts (Ok tt) → mid.files ≡ old.files → TakesAll m tree at folder entries mid new r → Visits m tree root folder pending pending' old new r
   visits_own at entries mid r is l own g c same t =
-    visits_at entries (subst (λ (w : Path). Lists m w folder (Ok entries)) is l) own g mid c same r (subst (λ (w : Path). TakesAll m tree w folder entries mid new r) is t)
+      visits_at entries (subst (λ (w : Path). Lists m w folder (Ok entries)) is l) own g mid c same r (subst (λ (w : Path). TakesAll m tree w folder entries mid new r) is t)

@@ -67,7 +67,7 @@ module _ (o : Option Contents) (root : Path) where
 
   pub lacking_told : (x : LoadError) (q : Path) (e : LoadError) → x ≡ error.Missing q → Told o (λ m. Reads (told_module m root) go_mod (Err x)) → Told o (λ m. LacksModule m root e) → Told o (λ m. ReadsModule m root (Err e))
   lacking_told x q e is t l = told_both o (λ m. Reads (told_module m root) go_mod (Err x)) (λ m. LacksModule m root e) (λ m. ReadsModule m root (Err e))
-    (λ m h k. reads_lacking m root q e (subst (λ (w : LoadError). Reads (told_module m root) go_mod (Err w)) is h) k) t l
+      (λ m h k. reads_lacking m root q e (subst (λ (w : LoadError). Reads (told_module m root) go_mod (Err w)) is h) k) t l
 
   pub other_told : (e : LoadError) → ((q : Path) → e ≡ error.Missing q → ⊥) → Told o (λ m. Reads (told_module m root) go_mod (Err e)) → Told o (λ m. ReadsModule m root (Err e))
   other_told e other t = told_then o (λ m. Reads (told_module m root) go_mod (Err e)) (λ m. ReadsModule m root (Err e)) (λ m h. reads_other m root e other h) t

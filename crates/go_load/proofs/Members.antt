@@ -98,15 +98,15 @@ grows_by_insert old new k e = subst (Grows (λ x. k ≡ x) old) (sym e) (grows-i
 -- one entry more
 pub grows_next : (P : Entry → Path → Type 0) (entries : List Entry) (i : ℕ) (e : Entry) (old mid new : List Path) → i < length entries → e ≡ get_or entries i e → Grows (IsAny P (take i entries)) old mid → Grows (P e) mid new → Grows (IsAny P (take (i + 1) entries)) old new
 grows_next P entries i e old mid new h is g k =
-  let step = next_taken entries i e h is in
-  record {
-    sound = λ x n. elim (k.sound x n) [
-      | inl a ↦ elim (g.sound x a) [ inl o ↦ inl o | inr p ↦ inr (p.0, subst (λ (es : List Entry). Has es p.0) (sym step) (has-left (take i entries) (e ∷ []) p.0 p.1), p.2) ]
-      | inr p ↦ inr (e, subst (λ (es : List Entry). Has es e) (sym step) (has-last (take i entries) e), p)
-    ];
-    kept = λ x o. k.kept x (g.kept x o);
-    complete = λ x p. elim (has-back (take i entries) e p.0 (subst (λ (es : List Entry). Has es p.0) step p.1)) [ inl a ↦ k.kept x (g.complete x (p.0, a, p.2)) | inr s ↦ k.complete x (subst (λ (w : Entry). P w x) (sym s) p.2) ];
-  }
+    let step = next_taken entries i e h is in
+    record {
+      sound = λ x n. elim (k.sound x n) [
+        | inl a ↦ elim (g.sound x a) [ inl o ↦ inl o | inr p ↦ inr (p.0, subst (λ (es : List Entry). Has es p.0) (sym step) (has-left (take i entries) (e ∷ []) p.0 p.1), p.2) ]
+        | inr p ↦ inr (e, subst (λ (es : List Entry). Has es e) (sym step) (has-last (take i entries) e), p)
+      ];
+      kept = λ x o. k.kept x (g.kept x o);
+      complete = λ x p. elim (has-back (take i entries) e p.0 (subst (λ (es : List Entry). Has es p.0) step p.1)) [ inl a ↦ k.kept x (g.complete x (p.0, a, p.2)) | inr s ↦ k.complete x (subst (λ (w : Entry). P w x) (sym s) p.2) ];
+    }
 
 pub grows_as : {P Q : Path → Type 0} {old new : List Path} → ((x : Path) → P x → Q x) → ((x : Path) → Q x → P x) → Grows P old new → Grows Q old new
 grows_as f b g = record { sound = λ x h. elim (g.sound x h) [ inl a ↦ inl a | inr p ↦ inr (f x p) ]; kept = g.kept; complete = λ x q. g.complete x (b x q) }

@@ -36,9 +36,9 @@ front_by : (separator b : ℕ) (bs : Text) (t : Bool) → cond (not t) (1 + befo
     → cond t ([] ∷ parts separator bs) (onto_first b (parts separator bs)) ≡ take (cond (not t) (1 + before separator bs) 0) (b ∷ bs) ∷ parts separator (drop (cond (not t) (1 + before separator bs) 0 + 1) (b ∷ bs))
 front_by separator b bs true l rest = refl
 front_by separator b bs false l rest =
-  let one : suc (before separator bs) ≡ 1 + before separator bs = omega arith in
-  let two : suc (before separator bs + 1) ≡ 1 + before separator bs + 1 = omega arith in
-  ap (onto_first b) (rest (omega (arith, l))) ∙ (λ i. take (one i) (b ∷ bs) ∷ parts separator (drop (two i) (b ∷ bs)))
+    let one : suc (before separator bs) ≡ 1 + before separator bs = omega arith in
+    let two : suc (before separator bs + 1) ≡ 1 + before separator bs + 1 = omega arith in
+    ap (onto_first b) (rest (omega (arith, l))) ∙ (λ i. take (one i) (b ∷ bs) ∷ parts separator (drop (two i) (b ∷ bs)))
 
 pub parts_front : (separator : ℕ) (bytes : Text) → before separator bytes < length bytes → parts separator bytes ≡ take (before separator bytes) bytes ∷ parts separator (drop (before separator bytes + 1) bytes)
 parts_front separator [] l = absurd (omega arith)
@@ -46,7 +46,7 @@ parts_front separator (b ∷ bs) l = front_by separator b bs (nat_eq b separator
 
 pub parts_at : (separator : ℕ) (bytes front rest : Text) (n : ℕ) → n ≡ before separator bytes → n ≤ length bytes → (n ≡ length bytes → ⊥) → front ≡ take n bytes → rest ≡ drop (n + 1) bytes → parts separator bytes ≡ front ∷ parts separator rest
 parts_at separator bytes front rest n e l ne f r =
-  parts_front separator bytes (omega (arith, e, l, ne)) ∙ (λ i. (ap (λ k. take k bytes) (sym e) ∙ sym f) i ∷ parts separator ((ap (λ k. drop (k + 1) bytes) (sym e) ∙ sym r) i))
+    parts_front separator bytes (omega (arith, e, l, ne)) ∙ (λ i. (ap (λ k. take k bytes) (sym e) ∙ sym f) i ∷ parts separator ((ap (λ k. drop (k + 1) bytes) (sym e) ∙ sym r) i))
 
 -- module lines
 pub line_found : (bytes line more : Text) → parts 10 bytes ≡ line ∷ parts 10 more → is_module_line line ≡ true → module_lines bytes ≡ line ∷ module_lines more
@@ -85,13 +85,13 @@ tailed text tail rest t e = sym (take-append-drop (length text - length tail) te
 
 pub not_tailed : (text tail rest : Text) → pointwise nat_eq (drop (length text - length tail) text) tail ≡ false → text ≡ rest ++ tail → ⊥
 not_tailed text tail rest f e =
-  let same : drop (length text - length tail) text ≡ tail = (λ i. drop (before_tail text tail rest e i) (e i)) ∙ drop-append_seam rest tail in
-  true≢false (sym ((bytes_eq-Decides (drop (length text - length tail) text) tail).1 same) ∙ f)
+    let same : drop (length text - length tail) text ≡ tail = (λ i. drop (before_tail text tail rest e i) (e i)) ∙ drop-append_seam rest tail in
+    true≢false (sym ((bytes_eq-Decides (drop (length text - length tail) text) tail).1 same) ∙ f)
 
 pub no_tail : (text front rest tail : Text) → text ≡ front ++ rest → pointwise nat_eq (drop (length rest - length tail) rest) tail ≡ false → (path : Text) → text ≡ front ++ (path ++ tail) → ⊥
 no_tail text front rest tail e f path h =
-  let same : rest ≡ path ++ tail = sym (drop-append_seam front rest) ∙ ap (drop (length front)) (sym e ∙ h) ∙ drop-append_seam front (path ++ tail) in
-  not_tailed rest tail path f same
+    let same : rest ≡ path ++ tail = sym (drop-append_seam front rest) ∙ ap (drop (length front)) (sym e ∙ h) ∙ drop-append_seam front (path ++ tail) in
+    not_tailed rest tail path f same
 
 -- the path of a module begins with no quote
 and_left : (a b : Bool) → (a && b) ≡ true → a ≡ true
@@ -130,9 +130,9 @@ not_backquoted path rest is e = backquote_begins rest (subst (λ (w : Text). are
 
 same_inside : (q : ℕ) (a b : Text) → q ∷ (a ++ q ∷ []) ≡ q ∷ (b ++ q ∷ []) → a ≡ b
 same_inside q a b e =
-  let ends : a ++ q ∷ [] ≡ b ++ q ∷ [] = ap (drop 1) e in
-  let long : length a ≡ length b = omega (arith, sym (length-append a (q ∷ [])) ∙ ap length ends ∙ length-append b (q ∷ [])) in
-  sym (take-append_seam a (q ∷ [])) ∙ (λ i. take (long i) (ends i)) ∙ take-append_seam b (q ∷ [])
+    let ends : a ++ q ∷ [] ≡ b ++ q ∷ [] = ap (drop 1) e in
+    let long : length a ≡ length b = omega (arith, sym (length-append a (q ∷ [])) ∙ ap length ends ∙ length-append b (q ∷ [])) in
+    sym (take-append_seam a (q ∷ [])) ∙ (λ i. take (long i) (ends i)) ∙ take-append_seam b (q ∷ [])
 
 marks : (rest more : Text) → ◌≡◌ {A = Text} (34 ∷ rest) (96 ∷ more) → ⊥
 marks rest more e = let h : 34 ≡ 96 = ap (λ w. get_or w 0 0) e in omega (arith, h)
@@ -176,8 +176,8 @@ module_is bytes line path e n = record { line = line; only = e; names = n.0; pat
 
 pub module_not : (bytes line : Text) → module_lines bytes ≡ line ∷ [] → ((path : Text) → NamesModule line path → ⊥) → (path : Text) → IsModuleOf bytes path → ⊥
 module_not bytes line e none path m =
-  let same : m.line ≡ line = ap (λ (w : List Text). get_or w 0 []) (sym m.only ∙ e) in
-  none path (subst (λ (w : Text). Names w path) same m.names, m.path_of)
+    let same : m.line ≡ line = ap (λ (w : List Text). get_or w 0 []) (sym m.only ∙ e) in
+    none path (subst (λ (w : Text). Names w path) same m.names, m.path_of)
 
 pub module_none : (bytes : Text) → ((line : Text) → module_lines bytes ≡ line ∷ [] → ⊥) → (path : Text) → IsModuleOf bytes path → ⊥
 module_none bytes none path m = none m.line m.only
@@ -197,8 +197,8 @@ comment_next line i l f e = e ∙ step line i l f
     step [] i l f = absurd (omega arith)
     step (b ∷ bs) zero l f = comment_by b bs (begins (b ∷ bs) (47 ∷ 47 ∷ [])) refl f
     step (b ∷ bs) (suc i) l f =
-      let more : suc (i + 1) ≡ suc i + 1 = omega arith in
-      ap (λ w. b ∷ w) (step bs i (omega arith) f) ∙ (λ j. take (more j) (b ∷ bs) ++ before_comment (drop (more j) (b ∷ bs)))
+        let more : suc (i + 1) ≡ suc i + 1 = omega arith in
+        ap (λ w. b ∷ w) (step bs i (omega arith) f) ∙ (λ j. take (more j) (b ∷ bs) ++ before_comment (drop (more j) (b ∷ bs)))
 
 pub comment_here : (line : Text) (i : ℕ) → i < length line → begins (drop i line) (47 ∷ 47 ∷ []) ≡ true → before_comment line ≡ take i line ++ before_comment (drop i line) → before_comment line ≡ take i line
 comment_here line i l t e = e ∙ here line i l t

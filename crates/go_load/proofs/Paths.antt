@@ -30,7 +30,7 @@ chosen false w e = absurd (true≢false (sym e))
 
 after_append : (front rest : Path) → after front (front ++ rest) ≡ Some rest
 after_append front rest =
-  chosen _ (drop (length front) (front ++ rest)) ((bytes_eq-Decides (take (length front) (front ++ rest)) front).1 (take-append_seam front rest)) ∙ ap Some (drop-append_seam front rest)
+    chosen _ (drop (length front) (front ++ rest)) ((bytes_eq-Decides (take (length front) (front ++ rest)) front).1 (take-append_seam front rest)) ∙ ap Some (drop-append_seam front rest)
 
 after_by : (b : Bool) (path rest : Path) → (if b then Some path else None) ≡ Some rest → (b ≡ true) × (path ≡ rest)
 after_by true path rest e = (refl, some_some path rest e)
@@ -38,8 +38,8 @@ after_by false path rest e = absurd (none_some rest e)
 
 after_some : (front path rest : Path) → after front path ≡ Some rest → path ≡ front ++ rest
 after_some front path rest e =
-  let h = after_by _ (drop (length front) path) rest e in
-  sym (take-append-drop (length front) path) ∙ ap (λ w. w ++ drop (length front) path) ((bytes_eq-Decides _ front).0 h.0) ∙ ap (λ w. front ++ w) h.1
+    let h = after_by _ (drop (length front) path) rest e in
+    sym (take-append-drop (length front) path) ∙ ap (λ w. w ++ drop (length front) path) ((bytes_eq-Decides _ front).0 h.0) ∙ ap (λ w. front ++ w) h.1
 
 slash_some : (front path : Path) (o : Option Path) (rest : Path) → after front path ≡ o → after_slash o ≡ Some rest → path ≡ front ++ 47 ∷ rest
 slash_some front path None rest e h = absurd (none_some rest h)
@@ -93,13 +93,13 @@ first_part (b ∷ bs) = first_by b bs (not_slash b) refl (first_part bs)
 
 entry_whole : (name : Path) → slashless name → entry_at name (prefix_len not_slash name) ≡ file_entry name
 entry_whole name h =
-  let same : nat_eq (length name) (length name) ≡ true = (Decides-eqb (length name) (length name)).1 refl in
-  ap (entry_at name) h ∙ (λ i. record { name = take-length name i; kind = if same i then kind.File else kind.Folder })
+    let same : nat_eq (length name) (length name) ≡ true = (Decides-eqb (length name) (length name)).1 refl in
+    ap (entry_at name) h ∙ (λ i. record { name = take-length name i; kind = if same i then kind.File else kind.Folder })
 
 entry_front : (name more : Path) → slashless name → entry_at (name ++ 47 ∷ more) (prefix_len not_slash (name ++ 47 ∷ more)) ≡ folder_entry name
 entry_front name more h =
-  let other : nat_eq (length name) (length (name ++ 47 ∷ more)) ≡ false = ne_eqb (length name) (length (name ++ 47 ∷ more)) (λ e. omega (arith, e, length-append name (47 ∷ more))) in
-  ap (entry_at (name ++ 47 ∷ more)) (slashless-append name more h) ∙ (λ i. record { name = take-append_seam name (47 ∷ more) i; kind = if other i then kind.File else kind.Folder })
+    let other : nat_eq (length name) (length (name ++ 47 ∷ more)) ≡ false = ne_eqb (length name) (length (name ++ 47 ∷ more)) (λ e. omega (arith, e, length-append name (47 ∷ more))) in
+    ap (entry_at (name ++ 47 ∷ more)) (slashless-append name more h) ∙ (λ i. record { name = take-append_seam name (47 ∷ more) i; kind = if other i then kind.File else kind.Folder })
 
 entry_of_file : (folder name : Path) → slashless name → entry_of folder (folder ++ 47 ∷ name) ≡ Some (file_entry name)
 entry_of_file folder name h = ap entry_of_rest (within_of folder name) ∙ ap Some (entry_whole name h)
@@ -114,8 +114,8 @@ Stands folder p e = ((name : Path) × (e ≡ file_entry name) × (p ≡ folder +
 stands_at : (folder p rest : Path) (e : Entry) → p ≡ folder ++ 47 ∷ rest → entry_at rest (prefix_len not_slash rest) ≡ e → slashless rest ⊎ HasFirst rest → Stands folder p e
 stands_at folder p rest e at is (inl h) = inl (rest, sym is ∙ entry_whole rest h, at)
 stands_at folder p rest e at is (inr h) =
-  let is' : entry_at (h.0 ++ 47 ∷ h.1) (prefix_len not_slash (h.0 ++ 47 ∷ h.1)) ≡ e = subst (λ (w : Path). entry_at w (prefix_len not_slash w) ≡ e) h.2 is in
-  inr (h.0, h.1, sym is' ∙ entry_front h.0 h.1 h.3, at ∙ ap (λ w. folder ++ 47 ∷ w) h.2)
+    let is' : entry_at (h.0 ++ 47 ∷ h.1) (prefix_len not_slash (h.0 ++ 47 ∷ h.1)) ≡ e = subst (λ (w : Path). entry_at w (prefix_len not_slash w) ≡ e) h.2 is in
+    inr (h.0, h.1, sym is' ∙ entry_front h.0 h.1 h.3, at ∙ ap (λ w. folder ++ 47 ∷ w) h.2)
 
 stands_by : (folder p : Path) (e : Entry) (o : Option Path) → within folder p ≡ o → entry_of_rest o ≡ Some e → Stands folder p e
 stands_by folder p e None w h = absurd (none_some e h)

@@ -78,9 +78,10 @@ module _ (m : Contents) (tree : TreeKind) (root : Path) where
   there_by done files es (next listed fs es' folder names w n c) h (inr t) = t
 
   pub state_whole : (taken : Taken) → State [] taken → Walks m tree root (Ok taken.files)
-  state_whole taken s =
-    (there_by s.done taken.files s.es s.walked (listed_by s.done [] (reached s [] top)) s.there,
-      (s.done, s.es, s.walked, (λ f is. listed_by s.done f (reached s f is)), ap (first_refusal no_counts) (sym (append_nil s.es)) ∙ s.goes []))
+  state_whole taken s = (
+    there_by s.done taken.files s.es s.walked (listed_by s.done [] (reached s [] top)) s.there,
+    (s.done, s.es, s.walked, (λ f is. listed_by s.done f (reached s f is)), ap (first_refusal no_counts) (sym (append_nil s.es)) ∙ s.goes []),
+  )
 
   -- where a folder of the walk stands
   missing_by : (f : Path) → IsFolder m tree root f → (IsThere m (place root f) → ⊥) → (IsThere m root → ⊥) × (f ≡ [])
@@ -117,19 +118,19 @@ module _ (m : Contents) (tree : TreeKind) (root : Path) where
 
     pub state_next : (new : List Path) (taken' : Taken) → Visits m tree root f rest new taken taken' (Ok tt) → State new taken'
     state_next new taken' v =
-      let names = v.0 in
-      let grows = v.3 in
-      record {
-        done = s.done ++ f ∷ [];
-        es = s.es ++ events_of f (files_of m root f names);
-        walked = subst (λ (fs : List TreeFile). Walked m tree root (s.done ++ f ∷ []) fs (s.es ++ events_of f (files_of m root f names))) (sym v.4) (next s.done taken.files s.es f names s.walked is_next v.2);
-        goes = λ more. ap (first_refusal no_counts) (append_assoc s.es (events_of f (files_of m root f names)) more) ∙ s.goes (events_of f (files_of m root f names) ++ more) ∙ v.5 more;
-        are = λ x h. (new_folder new grows x h).0;
-        rising = λ d x h o. elim (has-back s.done f d h) [ inl b ↦ before_trans d f x (s.rising d f b (inl refl)) (new_folder new grows x o).1 | inr e ↦ subst (λ (w : Path). Before w x) e (new_folder new grows x o).1 ];
-        closed = λ d x h c. elim (has-back s.done f d h) [ inl b ↦ moved new grows.kept x (s.closed d x b c) | inr e ↦ inr (grows.complete x (subst (λ (w : Path). IsChildAt m tree root w x) (sym e) c)) ];
-        tops = moved new grows.kept [] s.tops;
-        there = inr (root_from f (s.are f (inl refl)) v.1);
-      }
+        let names = v.0 in
+        let grows = v.3 in
+        record {
+          done = s.done ++ f ∷ [];
+          es = s.es ++ events_of f (files_of m root f names);
+          walked = subst (λ (fs : List TreeFile). Walked m tree root (s.done ++ f ∷ []) fs (s.es ++ events_of f (files_of m root f names))) (sym v.4) (next s.done taken.files s.es f names s.walked is_next v.2);
+          goes = λ more. ap (first_refusal no_counts) (append_assoc s.es (events_of f (files_of m root f names)) more) ∙ s.goes (events_of f (files_of m root f names) ++ more) ∙ v.5 more;
+          are = λ x h. (new_folder new grows x h).0;
+          rising = λ d x h o. elim (has-back s.done f d h) [ inl b ↦ before_trans d f x (s.rising d f b (inl refl)) (new_folder new grows x o).1 | inr e ↦ subst (λ (w : Path). Before w x) e (new_folder new grows x o).1 ];
+          closed = λ d x h c. elim (has-back s.done f d h) [ inl b ↦ moved new grows.kept x (s.closed d x b c) | inr e ↦ inr (grows.complete x (subst (λ (w : Path). IsChildAt m tree root w x) (sym e) c)) ];
+          tops = moved new grows.kept [] s.tops;
+          there = inr (root_from f (s.are f (inl refl)) v.1);
+        }
 
     first_there : (r : Refusal) → first_refusal taken.counts (folder_event f ∷ []) ≡ Some r → IsThere m root
     first_there r e = elim s.there [ inl none ↦ absurd (none_some r (ap (λ (es : List Event). first_refusal no_counts (es ++ folder_event f ∷ [])) (sym none) ∙ s.goes (folder_event f ∷ []) ∙ e)) | inr t ↦ t ]
@@ -139,10 +140,11 @@ module _ (m : Contents) (tree : TreeKind) (root : Path) where
     state_refused new taken' error.NoModule v = v
     state_refused new taken' error.BadModule v = v
     state_refused new taken' (error.Limit l p) (inl v) =
-      (first_there (l, p) v, (s.es ++ folder_event f ∷ [], before s.done taken.files s.es f s.walked is_next, s.goes (folder_event f ∷ []) ∙ v))
+        (first_there (l, p) v, (s.es ++ folder_event f ∷ [], before s.done taken.files s.es f s.walked is_next, s.goes (folder_event f ∷ []) ∙ v))
     state_refused new taken' (error.Limit l p) (inr v) =
-      let es = events_of f (files_of m root f v.0) in
-      (root_from f (s.are f (inl refl)) v.1,
-        (s.es ++ es, within (s.done ++ f ∷ []) (taken.files ++ files_of m root f v.0) (s.es ++ es) (next s.done taken.files s.es f v.0 s.walked is_next v.2), s.goes es ∙ v.3))
+        let es = events_of f (files_of m root f v.0) in (
+          root_from f (s.are f (inl refl)) v.1,
+          (s.es ++ es, within (s.done ++ f ∷ []) (taken.files ++ files_of m root f v.0) (s.es ++ es) (next s.done taken.files s.es f v.0 s.walked is_next v.2), s.goes es ∙ v.3),
+        )
     state_refused new taken' error.ReadFault v = tt
     state_refused new taken' error.NoMemory v = tt

@@ -51,7 +51,7 @@ missing_by m at folder e none (inr is) = subst (λ (w : LoadError). Lists m at f
 
 pub missing_told : (o : Option Contents) (at folder : Path) (x : FilesError) (e : LoadError) → x ≡ files_error.Missing → Told o (λ m. AnswersList m at (Err x)) → IsRefusal (error.Missing folder) e → Told o (λ m. Lists m at folder (Err e))
 missing_told o at folder x e same t is =
-  told_then o (λ m. AnswersList m at (Err x)) (λ m. Lists m at folder (Err e)) (λ m none. missing_by m at folder e (subst (λ (w : FilesError). AnswersList m at (Err w)) same none) is) t
+    told_then o (λ m. AnswersList m at (Err x)) (λ m. Lists m at folder (Err e)) (λ m none. missing_by m at folder e (subst (λ (w : FilesError). AnswersList m at (Err w)) same none) is) t
 
 pub listed_as : (o : Option Contents) (at folder : Path) (a b : List Entry) → a ≡ b → Told o (λ m. Lists m at folder (Ok b)) → Told o (λ m. Lists m at folder (Ok a))
 listed_as o at folder a b e t = subst (λ (w : List Entry). Told o (λ m. Lists m at folder (Ok w))) (sym e) t
@@ -60,23 +60,23 @@ listed_as o at folder a b e t = subst (λ (w : List Entry). Told o (λ m. Lists 
 pub taking_refused_told : (o : Option Contents) (at folder : Path) (names before left : List Path) (name : Path) (old now new : Taken) (e : LoadError) → before ≡ name ∷ left
     → Told o (λ m. Taking m at folder names before old now) → Told o (λ m. Takes m at folder file_events (name ∷ []) now new (Err e)) → Told o (λ m. Takes m at folder file_events names old new (Err e))
 taking_refused_told o at folder names before left name old now new e same t one =
-  told_both o (λ m. Taking m at folder names before old now) (λ m. Takes m at folder file_events (name ∷ []) now new (Err e)) (λ m. Takes m at folder file_events names old new (Err e))
+    told_both o (λ m. Taking m at folder names before old now) (λ m. Takes m at folder file_events (name ∷ []) now new (Err e)) (λ m. Takes m at folder file_events names old new (Err e))
     (λ m t' one'. taking_refused m at folder names old name left now new e (subst (λ (ns : List Path). Taking m at folder names ns old now) same t') one') t one
 
 pub uncounted_told : (o : Option Contents) (tree : TreeKind) (at folder : Path) (entries : List Entry) (names : List Path) (old new : Taken) (mid : Counts) (e : LoadError) → takes_files tree folder ≡ true → Ascending names → Grows (IsName wanted.Candidates entries) [] names
     → Counted (package_of folder names) old.counts mid (Err e) → Told o (λ m. TakesAll m tree at folder entries old new (Err e))
 uncounted_told o tree at folder entries names old new mid e takes up g c =
-  told_all o (λ m. TakesAll m tree at folder entries old new (Err e)) (λ m. takes_all m tree at folder entries names old new (Err e) (are_named tree folder entries names takes up g) (package_refused m at folder names old new mid e c))
+    told_all o (λ m. TakesAll m tree at folder entries old new (Err e)) (λ m. takes_all m tree at folder entries names old new (Err e) (are_named tree folder entries names takes up g) (package_refused m at folder names old new mid e c))
 
 pub takes_told : (o : Option Contents) (tree : TreeKind) (at folder : Path) (entries : List Entry) (names : List Path) (old mid new : Taken) (r : Result (Unit {0}) LoadError) → takes_files tree folder ≡ true → Ascending names → Grows (IsName wanted.Candidates entries) [] names
     → mid.files ≡ old.files → Counted (package_of folder names) old.counts mid.counts (Ok tt) → Told o (λ m. Takes m at folder file_events names mid new r) → Told o (λ m. TakesAll m tree at folder entries old new r)
 takes_told o tree at folder entries names old mid new r takes up g same c t =
-  told_then o (λ m. Takes m at folder file_events names mid new r) (λ m. TakesAll m tree at folder entries old new r)
+    told_then o (λ m. Takes m at folder file_events names mid new r) (λ m. TakesAll m tree at folder entries old new r)
     (λ m t'. takes_all m tree at folder entries names old new r (are_named tree folder entries names takes up g) (package_then m at folder names old mid new r same c t')) t
 
 pub untaken_told : (o : Option Contents) (tree : TreeKind) (at folder : Path) (entries : List Entry) (old : Taken) → takes_files tree folder ≡ false → Told o (λ m. TakesAll m tree at folder entries old old (Ok tt))
 untaken_told o tree at folder entries old f =
-  told_all o (λ m. TakesAll m tree at folder entries old old (Ok tt)) (λ m. takes_all m tree at folder entries [] old old (Ok tt) (none_named tree folder entries f) (sym (append_nil old.files), λ rest. (λ i. first_refusal old.counts rest)))
+    told_all o (λ m. TakesAll m tree at folder entries old old (Ok tt)) (λ m. takes_all m tree at folder entries [] old old (Ok tt) (none_named tree folder entries f) (sym (append_nil old.files), λ rest. (λ i. first_refusal old.counts rest)))
 
 -- a turn of the walk
 module _ (o : Option Contents) (tree : TreeKind) (root folder : Path) (pending pending' : List Path) (old new : Taken) where
@@ -93,7 +93,7 @@ module _ (o : Option Contents) (tree : TreeKind) (root folder : Path) (pending p
   pub own_visit : (at : Path) (entries : List Entry) (mid : Taken) (r : Result (Unit {0}) LoadError) → at ≡ place root folder → (ListsModule tree folder entries → ⊥) → Grows (Enters tree folder entries) pending pending' → Counted (folder_event folder ∷ []) old.counts mid.counts (Ok tt) → mid.files ≡ old.files
       → Told o (λ m. Lists m at folder (Ok entries)) → Told o (λ m. TakesAll m tree at folder entries mid new r) → Told o (λ m. Visits m tree root folder pending pending' old new r)
   own_visit at entries mid r is own g c same l t =
-    told_both o (λ m. Lists m at folder (Ok entries)) (λ m. TakesAll m tree at folder entries mid new r) (λ m. Visits m tree root folder pending pending' old new r)
+      told_both o (λ m. Lists m at folder (Ok entries)) (λ m. TakesAll m tree at folder entries mid new r) (λ m. Visits m tree root folder pending pending' old new r)
       (λ m l' t'. visits_own m tree root folder pending pending' old new at entries mid r is l' own g c same t') l t
 
 pub on_ok : {A E : Type 0} (r : Result A E) (P Q : Type 0) → (P → Q) → OnOk r P → OnOk r Q
@@ -114,11 +114,11 @@ whole_state o tree root pending taken e t = told_then o (λ m. State m tree root
 module _ (o : Option Contents) (tree : TreeKind) (root f : Path) (pending rest new : List Path) (taken taken' : Taken) (same : pending ≡ f ∷ rest) (above : All (λ x. slice_cmp nat_cmp f x ≡ Less) rest) (g : Path) (is : g ≡ f) where
   pub refused_state : (e : LoadError) → Told o (λ m. State m tree root pending taken) → Told o (λ m. Visits m tree root g rest new taken taken' (Err e)) → Told o (λ m. Walks m tree root (Err e))
   refused_state e s v = told_both o (λ m. State m tree root pending taken) (λ m. Visits m tree root g rest new taken taken' (Err e)) (λ m. Walks m tree root (Err e))
-    (λ m s' v'. state_refused m tree root (subst (λ (ps : List Path). State m tree root ps taken) same s') (above_of f rest above) new taken' e (subst (λ (w : Path). Visits m tree root w rest new taken taken' (Err e)) is v')) s v
+      (λ m s' v'. state_refused m tree root (subst (λ (ps : List Path). State m tree root ps taken) same s') (above_of f rest above) new taken' e (subst (λ (w : Path). Visits m tree root w rest new taken taken' (Err e)) is v')) s v
 
   pub next_state : Told o (λ m. State m tree root pending taken) → Told o (λ m. Visits m tree root g rest new taken taken' (Ok tt)) → Told o (λ m. State m tree root new taken')
   next_state s v = told_both o (λ m. State m tree root pending taken) (λ m. Visits m tree root g rest new taken taken' (Ok tt)) (λ m. State m tree root new taken')
-    (λ m s' v'. state_next m tree root (subst (λ (ps : List Path). State m tree root ps taken) same s') (above_of f rest above) new taken' (subst (λ (w : Path). Visits m tree root w rest new taken taken' (Ok tt)) is v')) s v
+      (λ m s' v'. state_next m tree root (subst (λ (ps : List Path). State m tree root ps taken) same s') (above_of f rest above) new taken' (subst (λ (w : Path). Visits m tree root w rest new taken taken' (Ok tt)) is v')) s v
 
 -- what holds over every store
 pub placed_first : (pending : List Path) (empty : Path) → empty ≡ [] → Grows (λ x. empty ≡ x) [] pending → ArePlaced pending

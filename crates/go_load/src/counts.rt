@@ -4,7 +4,7 @@ ghost use Rattle.go_model.specs.Trees.{most};
 ghost use Rattle.go_load.specs.Walk.{count_with, counts_with, no_counts};
 
 use go_model::tree::{
-    LimitName, MOST_BYTES, MOST_FILES, MOST_FILE_BYTES, MOST_FOLDERS, MOST_PACKAGES,
+    LimitName, MOST_BYTES, MOST_FILE_BYTES, MOST_FILES, MOST_FOLDERS, MOST_PACKAGES,
 };
 
 /// What was counted of a tree so far.

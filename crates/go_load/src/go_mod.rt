@@ -171,3 +171,48 @@ pub(crate) fn module_of(bytes: &[u8]) -> Option<&[u8]>
         Some(line) => named(line),
     }
 }
+
+#[cfg(test)]
+mod tests {
+    use super::*;
+
+    // Expected from the Go Modules Reference, with lines ended by newlines alone.
+    #[test]
+    fn names_the_module(rt: HostRuntime) {
+        let rows = [
+            (b"module m\n".as_slice(), b"m".as_slice()),
+            (b"module m", b"m"),
+            (b" \tmodule\tm/v2 \t// v2\n", b"m/v2"),
+            (b"module m// no blank\n", b"m"),
+            (b"module m//a\n", b"m"),
+            (b"module \"m/a\" // a\n", b"m/a"),
+            (b"module `a.b/c-d_e~F`\n", b"a.b/c-d_e~F"),
+            (b"// module x\nmodule m/C\n\ngo 1.22\n\0", b"m/C"),
+            (b"modulex y\nmodule(\nmodule m\n", b"m"),
+            (b"", b""),
+            (b"go 1.22\n", b""),
+            (b"module\n", b""),
+            (b"module // m\n", b""),
+            (b"module (\n\tm\n)\n", b""),
+            (b"module m x\n", b""),
+            (b"module m\nmodule m\n", b""),
+            (b"module m\r\n", b""),
+            (b"\xef\xbb\xbfmodule m\n", b""),
+            (b"module unsafe\n", b""),
+            (b"module C\n", b""),
+            (b"module .m\n", b""),
+            (b"module m/-a\n", b""),
+            (b"module m/\n", b""),
+            (b"module /m\n", b""),
+            (b"module m+a\n", b""),
+            (b"module \"m\n", b""),
+            (b"module \"m`\n", b""),
+            (b"module \"\n", b""),
+            (b"module \"\"\n", b""),
+            (b"module \"m\"x\n", b""),
+        ];
+        for (at, (bytes, path)) in rows.iter().enumerate() {
+            assert_eq!(rt; module_of(bytes).unwrap_or(b""), *path, "in row {at}");
+        }
+    }
+}

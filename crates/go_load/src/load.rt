@@ -60,11 +60,7 @@ fn read_module<F: Files>(alloc: Global, files: &mut F, root: &[u8]) -> Result<Te
 /// A limit, [`LoadError::NoModule`] and [`LoadError::BadModule`] come exactly where the store tells
 /// what they say. Over a store that tells nothing, a path that it lists and then hasn't is
 /// [`LoadError::Missing`].
-pub fn load_module<F: Files>(
-    alloc: Global,
-    files: &mut F,
-    root: &[u8],
-) -> Result<Tree, LoadError>
+pub fn load_module<F: Files>(alloc: Global, files: &mut F, root: &[u8]) -> Result<Tree, LoadError>
     ensures same { F.told files.new ≡ F.told files.old }
     ensures told { Told (F.told files.old) (λ m. LoadsModule m root.now result) }
     ensures cause { LoadCause (F.faults files.old) (F.faults files.new) result }
@@ -132,3 +128,6 @@ pub fn load_client<F: Files>(alloc: Global, files: &mut F, root: &[u8]) -> Resul
 {
     load_files(alloc, files, TreeKind::Client, root)
 }
+
+#[cfg(test)]
+mod tests;

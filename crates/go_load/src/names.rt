@@ -88,14 +88,20 @@ fn is_hidden(name: &[u8]) -> bool
 pub(crate) fn is_walked(name: &[u8]) -> bool
     ensures { result ≡ is_walked name.now }
 {
-    is_element(name) && !is_hidden(name) && name != b"testdata".as_slice() && name != b"vendor".as_slice()
+    is_element(name)
+        && !is_hidden(name)
+        && name != b"testdata".as_slice()
+        && name != b"vendor".as_slice()
 }
 
 /// Whether a file of this name is read.
 pub(crate) fn is_candidate(name: &[u8]) -> bool
     ensures { result ≡ is_candidate name.now }
 {
-    name.ends_with(b".go") && !name.ends_with(b"_test.go") && !is_hidden(name) && !name.contains(&b'/')
+    name.ends_with(b".go")
+        && !name.ends_with(b"_test.go")
+        && !is_hidden(name)
+        && !name.contains(&b'/')
 }
 
 /// Two texts with a `/` between them, by one copy of each.

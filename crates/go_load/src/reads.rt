@@ -16,7 +16,12 @@ use go_outside::files::{Entry, Files, FilesError};
 use std::alloc::Global;
 
 /// A limit that is passed at an entry of a folder.
-pub(crate) fn refusal_under(alloc: Global, limit: LimitName, folder: &[u8], name: &[u8]) -> LoadError
+pub(crate) fn refusal_under(
+    alloc: Global,
+    limit: LimitName,
+    folder: &[u8],
+    name: &[u8],
+) -> LoadError
     ensures { IsRefusal (LoadError.Limit limit (under folder.now name.now)) result }
 {
     match under(alloc, folder, name) {

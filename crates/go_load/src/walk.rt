@@ -251,7 +251,11 @@ fn add_file(
     ensures { OnOk result (files.new ≡ files.old ++ (record { folder = folder.now; name = name; bytes = bytes }) ∷ []) }
 {
     let folder = Text::of(alloc, folder)?;
-    files.push(TreeFile { folder, name, bytes })?;
+    files.push(TreeFile {
+        folder,
+        name,
+        bytes,
+    })?;
     Ok(())
 }
 
@@ -270,7 +274,14 @@ fn take_file<F: Files>(
     ensures of_walk { IfErr result IsOfWalk }
     ensures kept { OnOk result (IsFolderPath folder.now → IsKept taken.old → IsKept taken.new) }
 {
-    if let Err(error) = count_file(alloc, &mut taken.counts, LimitName::Files, folder, name.bytes(), 1) {
+    if let Err(error) = count_file(
+        alloc,
+        &mut taken.counts,
+        LimitName::Files,
+        folder,
+        name.bytes(),
+        1,
+    ) {
         return Err(error);
     }
     let bytes = match read(alloc, files, at, folder, name.bytes()) {
@@ -278,7 +289,14 @@ fn take_file<F: Files>(
         Err(error) => return Err(error),
     };
     let length = bytes.bytes().len() as u64;
-    if let Err(error) = count_file(alloc, &mut taken.counts, LimitName::Bytes, folder, name.bytes(), length) {
+    if let Err(error) = count_file(
+        alloc,
+        &mut taken.counts,
+        LimitName::Bytes,
+        folder,
+        name.bytes(),
+        length,
+    ) {
         return Err(error);
     }
     match add_file(alloc, &mut taken.files, folder, name, bytes) {
@@ -408,12 +426,23 @@ pub(crate) fn walk<F: Files>(
     for _ in 0..u64::MAX {
         match pending.pop_first() {
             None => {
-                let Taken { files: found, counts: _ } = taken;
+                let Taken {
+                    files: found,
+                    counts: _,
+                } = taken;
                 return Ok(found);
             }
             Some(folder) => {
                 let path = folder.bytes();
-                if let Err(error) = visit(alloc, files, kind, root, path, &mut pending, &mut taken) {
+                if let Err(error) = visit(
+                    alloc,
+                    files,
+                    kind,
+                    root,
+                    path,
+                    &mut pending,
+                    &mut taken,
+                ) {
                     return Err(error);
                 }
             }
