@@ -7,3 +7,5 @@ pub mod Orders
 pub mod Paths
 pub mod State
 pub mod Told
+pub mod OneAnswer
+pub mod OneWalk

@@ -122,10 +122,10 @@ backquote_begins : (rest : Text) → are_elements (96 ∷ rest) ≡ true → ⊥
 unfolding is_element_byte is_within
 backquote_begins rest h = true≢false (sym (begins_by 96 rest false refl refl h))
 
-not_quoted : (path rest : Text) → IsModulePath path → path ≡ 34 ∷ rest → ⊥
+pub not_quoted : (path rest : Text) → IsModulePath path → path ≡ 34 ∷ rest → ⊥
 not_quoted path rest is e = quote_begins rest (subst (λ (w : Text). are_elements w ≡ true) e is.0)
 
-not_backquoted : (path rest : Text) → IsModulePath path → path ≡ 96 ∷ rest → ⊥
+pub not_backquoted : (path rest : Text) → IsModulePath path → path ≡ 96 ∷ rest → ⊥
 not_backquoted path rest is e = backquote_begins rest (subst (λ (w : Text). are_elements w ≡ true) e is.0)
 
 same_inside : (q : ℕ) (a b : Text) → q ∷ (a ++ q ∷ []) ≡ q ∷ (b ++ q ∷ []) → a ≡ b

@@ -1,3 +1,4 @@
+pub mod Answers
 pub mod GoMod
 pub mod Loads
 pub mod Names

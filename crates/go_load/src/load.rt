@@ -1,10 +1,15 @@
 //! The loads of trees.
-ghost use Rattle.std.specs.Prelude.{◌≡◌, List, ℕ, Err, IfOk, IfErr};
+ghost use Rattle.std.specs.Prelude.{◌≡◌, List, ℕ, Result, Err, IfOk, IfErr};
 ghost use Rattle.go_model.specs.Trees.{IsTree, IsModulePath};
 ghost use Rattle.go_outside.specs.Faults.{Told};
-ghost use Rattle.go_load.specs.GoMod.{IsModuleOf};
 ghost use Rattle.go_load.specs.Loads.{LoadsModule, LoadsFiles, LoadCause};
 ghost use Rattle.go_load.specs.Steps.{Parses, LacksModule, ReadsModule, IsOfWalk};
+ghost use Rattle.go_load.specs.Answers.{Agree};
+ghost use Rattle.go_outside.specs.Paths.{Path};
+ghost use Rattle.go_outside.specs.Stores.{Contents};
+ghost use Rattle.go_model.specs.declared.tree.Tree.{Tree};
+ghost use Rattle.go_load.specs.declared.error.LoadError.{LoadError};
+ghost use Rattle.go_load.specs.declared.kind.TreeKind.{TreeKind};
 ghost use Rattle.go_load.specs.declared.kind.TreeKind.TheVariants as kind;
 
 use crate::error::LoadError;
@@ -127,6 +132,14 @@ pub fn load_client<F: Files>(alloc: Global, files: &mut F, root: &[u8]) -> Resul
     ensures own { IfErr result IsOfWalk }
 {
     load_files(alloc, files, TreeKind::Client, root)
+}
+
+/// Over one store the answers of a load agree, but for a fault and want of memory. So each other
+/// answer comes exactly where its own condition holds.
+pub fn one_answer()
+    ensures module_answer { (m : Contents) (root : Path) (r s : Result Tree LoadError) → LoadsModule m root r → LoadsModule m root s → Agree r s }
+    ensures files_answer { (m : Contents) (tree : TreeKind) (root : Path) (r s : Result Tree LoadError) → LoadsFiles m tree root r → LoadsFiles m tree root s → Agree r s }
+{
 }
 
 #[cfg(test)]
