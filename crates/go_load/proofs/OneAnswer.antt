@@ -30,14 +30,14 @@ none_or o a e f = let h : ◌≡◌ {A = Option _} None (Some a) = sym e ∙ f i
 -- a `go.mod` names one module
 unquoted_by : (written path : List ℕ) → IsModulePath path → IsWritten written path → IsUnquoted written path
 unquoted_by written path is (inl e) = subst (IsUnquoted written) e
-  (bare written (λ p d. not_quoted path (p ++ 34 ∷ []) is (sym e ∙ d)) (λ p d. not_backquoted path (p ++ 96 ∷ []) is (sym e ∙ d)))
+    (bare written (λ p d. not_quoted path (p ++ 34 ∷ []) is (sym e ∙ d)) (λ p d. not_backquoted path (p ++ 96 ∷ []) is (sym e ∙ d)))
 unquoted_by written path is (inr (inl e)) = quoted written path e
 unquoted_by written path is (inr (inr e)) = backquoted written path e
 
 one_module : (bytes p q : List ℕ) → IsModuleOf bytes p → IsModuleOf bytes q → p ≡ q
 one_module bytes p q m n =
-  let line : m.line ≡ n.line = ap (λ (w : List (List ℕ)). get_or w 0 []) (sym m.only ∙ n.only) in
-  (unquoted_by (second_word n.line) q n.path_of n.names.written).only p m.path_of (subst (λ (w : List ℕ). IsWritten (second_word w) p) line m.names.written)
+    let line : m.line ≡ n.line = ap (λ (w : List (List ℕ)). get_or w 0 []) (sym m.only ∙ n.only) in
+    (unquoted_by (second_word n.line) q n.path_of n.names.written).only p m.path_of (subst (λ (w : List ℕ). IsWritten (second_word w) p) line m.names.written)
 
 no_pair : (a b : LimitName × Path) → a ≡ b → ◌≡◌ {A = Result Tree LoadError} (Err (error.Limit a.0 a.1)) (Err (error.Limit b.0 b.1))
 no_pair a b e = ap (λ (w : LimitName × Path). Err (error.Limit w.0 w.1)) e

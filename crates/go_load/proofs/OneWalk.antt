@@ -47,9 +47,9 @@ one_ascending [] [] a b f g = refl
 one_ascending [] (y ∷ ys) a b f g = absurd (g y (inl refl))
 one_ascending (x ∷ xs) [] a b f g = absurd (f x (inl refl))
 one_ascending (x ∷ xs) (y ∷ ys) a b f g =
-  let e = head_of x y xs ys a b (f x (inl refl)) (g y (inl refl)) in
-  let rest = one_ascending xs ys a.1 b.1 (λ z h. tail_of x y z xs ys e a.0 h (f z (inr h))) (λ z h. tail_of y x z ys xs (sym e) b.0 h (g z (inr h))) in
-  λ i. e i ∷ rest i
+    let e = head_of x y xs ys a b (f x (inl refl)) (g y (inl refl)) in
+    let rest = one_ascending xs ys a.1 b.1 (λ z h. tail_of x y z xs ys e a.0 h (f z (inr h))) (λ z h. tail_of y x z ys xs (sym e) b.0 h (g z (inr h))) in
+    λ i. e i ∷ rest i
 
 module _ (m : Contents) (tree : TreeKind) (root : Path) where
   one_next : (listed : List Path) (f g : Path) → IsNext m tree root listed f → IsNext m tree root listed g → f ≡ g
@@ -74,9 +74,9 @@ module _ (m : Contents) (tree : TreeKind) (root : Path) where
   same_step : (l l' : List Path) (f f' : List TreeFile) (e e' : List Event) (a b : Path) (xs ys : List Path) → Same l l' f f' e e' → IsNext m tree root l a → IsNext m tree root l' b → AreCandidates m tree root a xs → AreCandidates m tree root b ys
       → Same (l ++ a ∷ []) (l' ++ b ∷ []) (f ++ files_of m root a xs) (f' ++ files_of m root b ys) (e ++ events_of a (files_of m root a xs)) (e' ++ events_of b (files_of m root b ys))
   same_step l l' f f' e e' a b xs ys s n k c d =
-    let p = one_next l' a b (subst (λ (w : List Path). IsNext m tree root w a) s.0 n) k in
-    let q = one_candidates b xs ys (subst (λ (w : Path). AreCandidates m tree root w xs) p c) d in
-    ((λ i. s.0 i ++ p i ∷ []), (λ i. s.1 i ++ files_of m root (p i) (q i)), (λ i. s.2 i ++ events_of (p i) (files_of m root (p i) (q i))))
+      let p = one_next l' a b (subst (λ (w : List Path). IsNext m tree root w a) s.0 n) k in
+      let q = one_candidates b xs ys (subst (λ (w : Path). AreCandidates m tree root w xs) p c) d in
+      ((λ i. s.0 i ++ p i ∷ []), (λ i. s.1 i ++ files_of m root (p i) (q i)), (λ i. s.2 i ++ events_of (p i) (files_of m root (p i) (q i))))
 
   -- as many folders are one walk
   pub same_walk : {l l' : List Path} {f f' : List TreeFile} {e e' : List Event} → Walked m tree root l f e → Walked m tree root l' f' e' → length l ≡ length l' → Same l l' f f' e e'
@@ -84,7 +84,7 @@ module _ (m : Contents) (tree : TreeKind) (root : Path) where
   same_walk start (next l f e folder names w n c) h = absurd (omega (arith, h, longer l folder))
   same_walk (next l f e folder names w n c) start h = absurd (omega (arith, h, longer l folder))
   same_walk (next l f e folder names w n c) (next l' f' e' folder' names' w' n' c') h =
-    same_step l l' f f' e e' folder folder' names names' (same_walk w w' (omega (arith, h, longer l folder, longer l' folder'))) n n' c c'
+      same_step l l' f f' e e' folder folder' names names' (same_walk w w' (omega (arith, h, longer l folder, longer l' folder'))) n n' c c'
 
   -- a walk up to fewer folders
   abbrev Cut : ℕ → List Event → Type 0
@@ -94,8 +94,8 @@ module _ (m : Contents) (tree : TreeKind) (root : Path) where
       → Cut n (e ++ events_of folder (files_of m root folder names))
   cut_by n l f e folder names w k rest h (inl s) = (l, f, e, folder, package_events folder (files_of m root folder names) ++ file_events (files_of m root folder names), w, sym s, k, refl)
   cut_by n l f e folder names w k rest h (inr s) =
-    let r = rest s in
-    (r.0, r.1, r.2, r.3, r.4 ++ events_of folder (files_of m root folder names), r.5, r.6, r.7, ap (λ x. x ++ events_of folder (files_of m root folder names)) r.8 ∙ append_assoc r.2 (folder_event r.3 ∷ r.4) (events_of folder (files_of m root folder names)))
+      let r = rest s in
+      (r.0, r.1, r.2, r.3, r.4 ++ events_of folder (files_of m root folder names), r.5, r.6, r.7, ap (λ x. x ++ events_of folder (files_of m root folder names)) r.8 ∙ append_assoc r.2 (folder_event r.3 ∷ r.4) (events_of folder (files_of m root folder names)))
 
   at_or_below : (n k : ℕ) → n ≤ k → (n ≡ k) ⊎ (n < k)
   at_or_below zero zero h = inl refl
@@ -117,21 +117,21 @@ module _ (m : Contents) (tree : TreeKind) (root : Path) where
   shorter_by : (e t e2 t2 more : List Event) (folder : Path) (l : List Path) → IsNext m tree root l folder → Tail l t → e2 ≡ e ++ folder_event folder ∷ more → Begins (e ++ t) (e2 ++ t2)
   shorter_by e t e2 t2 more folder l n (inl s) q = (folder_event folder ∷ (more ++ t2), ap (λ x. x ++ t2) q ∙ append_assoc e (folder_event folder ∷ more) t2 ∙ ap (λ x. x ++ folder_event folder ∷ (more ++ t2)) (sym (append_nil e) ∙ ap (λ x. e ++ x) (sym s)))
   shorter_by e t e2 t2 more folder l n (inr s) q =
-    let p = one_next l folder s.0 n s.1 in
-    (more ++ t2, ap (λ x. x ++ t2) q ∙ append_assoc e (folder_event folder ∷ more) t2 ∙ (λ i. e ++ folder_event (p i) ∷ (more ++ t2)) ∙ sym (append_assoc e (folder_event s.0 ∷ []) (more ++ t2)) ∙ ap (λ x. e ++ x ++ (more ++ t2)) (sym s.2))
+      let p = one_next l folder s.0 n s.1 in
+      (more ++ t2, ap (λ x. x ++ t2) q ∙ append_assoc e (folder_event folder ∷ more) t2 ∙ (λ i. e ++ folder_event (p i) ∷ (more ++ t2)) ∙ sym (append_assoc e (folder_event s.0 ∷ []) (more ++ t2)) ∙ ap (λ x. e ++ x ++ (more ++ t2)) (sym s.2))
 
   shorter : {l l2 : List Path} {f f2 : List TreeFile} {e e2 : List Event} (t t2 : List Event) → Walked m tree root l f e → Walked m tree root l2 f2 e2 → Tail l t → length l < length l2 → Begins (e ++ t) (e2 ++ t2)
   shorter {l = l} {e = e} {e2 = e2} t t2 w w2 tail h =
-    let c = cut w2 (length l) h in
-    let s = same_walk w c.5 (sym c.6) in
-    shorter_by e t e2 t2 c.4 c.3 l (subst (λ (x : List Path). IsNext m tree root x c.3) (sym s.0) c.7) tail (c.8 ∙ ap (λ x. x ++ folder_event c.3 ∷ c.4) (sym s.2))
+      let c = cut w2 (length l) h in
+      let s = same_walk w c.5 (sym c.6) in
+      shorter_by e t e2 t2 c.4 c.3 l (subst (λ (x : List Path). IsNext m tree root x c.3) (sym s.0) c.7) tail (c.8 ∙ ap (λ x. x ++ folder_event c.3 ∷ c.4) (sym s.2))
 
   -- a whole walk has no longer one
   whole_last : {l l2 : List Path} {f f2 : List TreeFile} {e e2 : List Event} → Walked m tree root l f e → Walked m tree root l2 f2 e2 → IsWhole m tree root l → length l < length l2 → ⊥
   whole_last w w2 whole h =
-    let c = cut w2 _ h in
-    let s = same_walk w c.5 (sym c.6) in
-    c.7.fresh (subst (λ (x : List Path). Has x c.3) s.0 (whole c.3 c.7.is))
+      let c = cut w2 _ h in
+      let s = same_walk w c.5 (sym c.6) in
+      c.7.fresh (subst (λ (x : List Path). Has x c.3) s.0 (whole c.3 c.7.is))
 
   -- the events of a place in the walk
   abbrev Placed : List Event → Type 0
@@ -158,9 +158,9 @@ module _ (m : Contents) (tree : TreeKind) (root : Path) where
   comparable : {l l2 : List Path} {f f2 : List TreeFile} {e e2 : List Event} (t t2 : List Event) → Walked m tree root l f e → Walked m tree root l2 f2 e2 → Tail l t → Tail l2 t2 → (length l < length l2) ⊎ (length l ≡ length l2) ⊎ (length l2 < length l) → Begins (e ++ t) (e2 ++ t2) ⊎ Begins (e2 ++ t2) (e ++ t)
   comparable t t2 w w2 k k2 (inl h) = inl (shorter t t2 w w2 k h)
   comparable {l = l} {e = e} {e2 = e2} t t2 w w2 k k2 (inr (inl h)) =
-    let s = same_walk w w2 h in
-    let both = same_tails l t t2 k (subst (λ (x : List Path). Tail x t2) (sym s.0) k2) in
-    subst (λ (x : List Event). Begins (e ++ t) (x ++ t2) ⊎ Begins (x ++ t2) (e ++ t)) s.2 (elim both [ inl b ↦ inl (begins_after e t t2 b) | inr b ↦ inr (begins_after e t2 t b) ])
+      let s = same_walk w w2 h in
+      let both = same_tails l t t2 k (subst (λ (x : List Path). Tail x t2) (sym s.0) k2) in
+      subst (λ (x : List Event). Begins (e ++ t) (x ++ t2) ⊎ Begins (x ++ t2) (e ++ t)) s.2 (elim both [ inl b ↦ inl (begins_after e t t2 b) | inr b ↦ inr (begins_after e t2 t b) ])
   comparable t t2 w w2 k k2 (inr (inr h)) = inr (shorter t2 t w2 w k2 h)
 
   some_some : (r s : Refusal) → ◌≡◌ {A = Option Refusal} (Some r) (Some s) → r ≡ s
@@ -179,9 +179,9 @@ module _ (m : Contents) (tree : TreeKind) (root : Path) where
   -- one limit is the first that is passed
   pub one_limit : (r s : Refusal) → PassesIn m tree root r.0 r.1 → PassesIn m tree root s.0 s.1 → r ≡ s
   one_limit r s p q =
-    let a = placed p.1 in
-    let b = placed q.1 in
-    refused_once (a.2 ++ a.3) (b.2 ++ b.3) r s (comparable a.3 b.3 a.4 b.4 a.5 b.5 (compared (length a.0) (length b.0))) (ap (first_refusal no_counts) (sym a.6) ∙ p.2) (ap (first_refusal no_counts) (sym b.6) ∙ q.2)
+      let a = placed p.1 in
+      let b = placed q.1 in
+      refused_once (a.2 ++ a.3) (b.2 ++ b.3) r s (comparable a.3 b.3 a.4 b.4 a.5 b.5 (compared (length a.0) (length b.0))) (ap (first_refusal no_counts) (sym a.6) ∙ p.2) (ap (first_refusal no_counts) (sym b.6) ∙ q.2)
 
   whole_tail : (l l2 : List Path) (t2 : List Event) → IsWhole m tree root l → l ≡ l2 → Tail l2 t2 → t2 ≡ []
   whole_tail l l2 t2 whole e (inl s) = s
@@ -195,9 +195,9 @@ module _ (m : Contents) (tree : TreeKind) (root : Path) where
   -- files and a limit exclude each other
   pub files_or_limit : (files : List TreeFile) (r : Refusal) → AreFiles m tree root files → PassesIn m tree root r.0 r.1 → ⊥
   files_or_limit files r a p =
-    let b = placed p.1 in
-    let begins = whole_begins b.3 a.2 a.3 b.4 b.5 (compared (length a.0) (length b.0)) in
-    none_some r (sym a.4 ∙ ap (first_refusal no_counts) (sym (append_nil a.1)) ∙ begun (b.2 ++ b.3) (a.1 ++ []) r begins (ap (first_refusal no_counts) (sym b.6) ∙ p.2))
+      let b = placed p.1 in
+      let begins = whole_begins b.3 a.2 a.3 b.4 b.5 (compared (length a.0) (length b.0)) in
+      none_some r (sym a.4 ∙ ap (first_refusal no_counts) (sym (append_nil a.1)) ∙ begun (b.2 ++ b.3) (a.1 ++ []) r begins (ap (first_refusal no_counts) (sym b.6) ∙ p.2))
 
   one_whole : {l l2 : List Path} {f f2 : List TreeFile} {e e2 : List Event} → Walked m tree root l f e → IsWhole m tree root l → Walked m tree root l2 f2 e2 → IsWhole m tree root l2 → (length l < length l2) ⊎ (length l ≡ length l2) ⊎ (length l2 < length l) → f ≡ f2
   one_whole w whole w2 whole2 (inl h) = absurd (whole_last w w2 whole h)

@@ -168,10 +168,14 @@ struct Made {
 fn numbered(alloc: Global, first: u8, number: u64, end: &[u8]) -> Result<Text, AllocError> {
     let mut name = Vec::new(alloc);
     name.push(first)?;
-    let mut unit = 10_000u64;
-    for _ in 0..5u8 {
-        name.push(b'0' + (number / unit % 10) as u8)?;
-        unit = (unit / 10).max(1);
+    for part in [
+        number / 10_000,
+        number / 1_000,
+        number / 100,
+        number / 10,
+        number,
+    ] {
+        name.push(b'0' + (part % 10) as u8)?;
     }
     name.extend_from_slice(end)?;
     Ok(Text::from_vec(name))
@@ -273,7 +277,7 @@ fn ends_at_each_limit(rt: HostRuntime) -> Result<(), Fail> {
     ];
     for (mut files, want) in rows {
         let outcome = load_module(alloc, &mut files, b"r");
-        let held = files.files + files.folders;
+        let held = files.files.saturating_add(files.folders);
         match outcome {
             Ok(tree) => {
                 assert_eq!(rt; want, b"".as_slice());
