@@ -8,3 +8,4 @@ pub mod steps;
 pub mod syntax;
 pub mod text;
 pub mod token;
+pub mod tree;

@@ -1,0 +1,11 @@
+pub mod Counting
+pub mod Folders
+pub mod Loading
+pub mod Members
+pub mod ModuleLines
+pub mod Orders
+pub mod Paths
+pub mod State
+pub mod Told
+pub mod OneAnswer
+pub mod OneWalk

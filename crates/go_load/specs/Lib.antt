@@ -1,0 +1,6 @@
+pub mod Answers
+pub mod GoMod
+pub mod Loads
+pub mod Names
+pub mod Steps
+pub mod Walk
