@@ -4,6 +4,7 @@
 pub mod boxed;
 pub mod list;
 pub mod memory;
+pub mod platform;
 pub mod steps;
 pub mod syntax;
 pub mod text;

@@ -1,0 +1,5 @@
+//! Build constraints: platforms by name, the headers of Go files with their build lines, and which
+//! files a platform chooses.
+#![tactic(auto)]
+
+pub mod platforms;
