@@ -1,3 +1,5 @@
+pub mod BuildTags
+pub mod BuildValues
 pub mod Lists
 pub mod Platforms
 pub mod formers

@@ -2,6 +2,7 @@
 #![tactic(auto)]
 
 pub mod boxed;
+pub mod build;
 pub mod list;
 pub mod memory;
 pub mod platform;

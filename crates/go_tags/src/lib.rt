@@ -2,4 +2,6 @@
 //! files a platform chooses.
 #![tactic(auto)]
 
+pub mod choice;
 pub mod platforms;
+pub mod tags;
