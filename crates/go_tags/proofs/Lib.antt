@@ -1,3 +1,4 @@
 pub mod Lists
 pub mod Named
 pub mod NameEnds
+pub mod Turns

@@ -1,1 +1,3 @@
 pub mod NameParts
+pub mod Reading
+pub mod Reads

@@ -3,5 +3,8 @@
 #![tactic(auto)]
 
 pub mod choice;
+mod cursor;
+pub mod error;
+mod expression;
 pub mod platforms;
 pub mod tags;
