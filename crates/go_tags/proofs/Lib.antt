@@ -1,4 +1,6 @@
+pub mod Complete
 pub mod Lists
 pub mod Named
 pub mod NameEnds
+pub mod Sound
 pub mod Turns
