@@ -26,3 +26,8 @@ take_past zero [] h = refl
 take_past zero (x ∷ xs) h = absurd (omega arith)
 take_past (suc n) [] h = refl
 take_past (suc n) (x ∷ xs) h = ap (λ ys. x ∷ ys) (take_past n xs (omega arith))
+
+pub length_take : {A : Type 0} (n : ℕ) (xs : List A) → n ≤ length xs → length (take n xs) ≡ n
+length_take zero xs h = refl
+length_take (suc n) [] h = absurd (omega arith)
+length_take (suc n) (x ∷ xs) h = ap suc (length_take n xs (omega arith))

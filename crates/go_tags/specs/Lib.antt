@@ -1,3 +1,4 @@
+pub mod Alphabets
 pub mod NameParts
 pub mod Reading
 pub mod Reads

@@ -2,6 +2,7 @@
 //! files a platform chooses.
 #![tactic(auto)]
 
+mod characters;
 pub mod choice;
 mod cursor;
 pub mod error;
