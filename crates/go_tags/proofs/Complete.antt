@@ -118,3 +118,13 @@ nothing_read depth parts none x d = let some : or_of (or_below depth) parts ≡ 
 
 pub more_left : (depth : ℕ) (parts : List ConstraintPart) (y : Constraint) (rest : List ConstraintPart) → or_of (or_below depth) parts ≡ Some (y, rest) → rest ≢ [] → (x : Constraint) → IsOr depth parts x → ⊥
 more_left depth parts y rest some more x d = more (ap (λ p. p.1) (one (sym some ∙ expression_read d)))
+
+-- the same, where the number of levels is known by an equation
+module _ (depth n : ℕ) (is : n ≡ suc depth) (parts : List ConstraintPart) where
+  pub refused : or_below n parts ≡ None → (x : Constraint) → IsOr depth parts x → ⊥
+  unfolding or_below
+  refused none = nothing_read depth parts (subst (λ (m : ℕ). or_below m parts ≡ None) is none)
+
+  pub left_over : (y : Constraint) (rest : List ConstraintPart) → or_below n parts ≡ Some (y, rest) → rest ≢ [] → (x : Constraint) → IsOr depth parts x → ⊥
+  unfolding or_below
+  left_over y rest some more = more_left depth parts y rest (subst (λ (m : ℕ). or_below m parts ≡ Some (y, rest)) is some) more

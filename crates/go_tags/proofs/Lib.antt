@@ -4,4 +4,5 @@ pub mod Named
 pub mod NameEnds
 pub mod Runs
 pub mod Sound
+pub mod Stepping
 pub mod Turns

@@ -31,3 +31,9 @@ pub length_take : {A : Type 0} (n : ℕ) (xs : List A) → n ≤ length xs → l
 length_take zero xs h = refl
 length_take (suc n) [] h = absurd (omega arith)
 length_take (suc n) (x ∷ xs) h = ap suc (length_take n xs (omega arith))
+
+pub drop_past : {A : Type 0} (n : ℕ) (xs : List A) → length xs ≤ n → drop n xs ≡ []
+drop_past zero [] h = refl
+drop_past zero (x ∷ xs) h = absurd (omega arith)
+drop_past (suc n) [] h = refl
+drop_past (suc n) (x ∷ xs) h = drop_past n xs (omega arith)

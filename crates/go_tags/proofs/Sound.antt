@@ -168,3 +168,8 @@ pub whole_expression : (depth : ℕ) (parts : List ConstraintPart) (x : Constrai
 whole_expression depth parts x rest e done =
     let k = or_sound depth (or_below depth) (below_sound depth) parts x rest e in
     subst (λ (w : List ConstraintPart). IsOr depth w x) (sym (k.whole ∙ ap (λ w. k.front ++ w) done ∙ append-nil k.front)) k.derives
+
+-- the same, where the number of levels is known by an equation
+pub whole_below : (depth n : ℕ) → n ≡ suc depth → (parts : List ConstraintPart) (x : Constraint) (rest : List ConstraintPart) → or_below n parts ≡ Some (x, rest) → rest ≡ [] → IsOr depth parts x
+unfolding or_below
+whole_below depth n is parts x rest e done = whole_expression depth parts x rest (subst (λ (m : ℕ). or_below m parts ≡ Some (x, rest)) is e) done

@@ -1,4 +1,6 @@
 pub mod Alphabets
+pub mod Causes
 pub mod NameParts
+pub mod Parts
 pub mod Reading
 pub mod Reads

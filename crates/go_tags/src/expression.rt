@@ -1,12 +1,16 @@
 //! Build expressions, read by recursive descent. Each rule takes the reader of an expression in
 //! parentheses as a parameter.
-ghost use Rattle.std.specs.Prelude.{◌≡◌, ℕ, List as Sequence, [], IfOk};
+ghost use Rattle.std.specs.Prelude.{◌≡◌, ◌≢◌, ℕ, List as Sequence, [], IfOk, IfErr};
 ghost use Rattle.go_model.specs.BuildConstraints as grammar;
 ghost use Rattle.go_tags.specs.Reading as reading;
+ghost use Rattle.go_model.specs.BuildConstraints.{IsOr, IsExpression};
+ghost use Rattle.go_model.specs.declared.build.Constraint.{Constraint};
+ghost use Rattle.go_tags.specs.Causes.{OrCause, ExpressionCause};
 ghost use Rattle.go_tags.specs.Reads.{Reads, ReadsBelow};
 
 use crate::cursor::Cursor;
 use crate::error::TagError;
+use crate::parts::parts_of;
 use go_model::boxed::Box;
 use go_model::build::{Constraint, ConstraintPart};
 use go_model::list::List;
@@ -163,3 +167,43 @@ fn or_below(alloc: Global, parts: &mut Cursor<'_>, depth: usize) -> Result<Const
     }
     .or(parts)
 }
+
+/// How deep parentheses may nest.
+const MAX_DEPTH: usize = 256;
+
+fn read_parts(alloc: Global, parts: &[ConstraintPart]) -> Result<Constraint, TagError>
+    ensures tree { IfOk result (IsOr 256 parts.now) }
+    ensures cause { IfErr result (OrCause parts.now) }
+{
+    let mut cursor = Cursor::new(parts);
+    match or_below(alloc, &mut cursor, MAX_DEPTH + 1) {
+        Ok(found) => whole(found, &cursor),
+        Err(error) => Err(error),
+    }
+}
+
+fn whole(found: Constraint, cursor: &Cursor<'_>) -> Result<Constraint, TagError>
+    ensures tree { IfOk result (λ x. (x ≡ found) × (cursor.now ≡ [])) }
+    ensures cause { IfErr result (λ e. (e ≡ TagError.BadExpression) × (cursor.now ≢ [])) }
+{
+    if cursor.len() == 0 {
+        Ok(found)
+    } else {
+        Err(TagError::BadExpression)
+    }
+}
+
+/// The build expression that the text is. Errors: `BadExpression` exactly where it is none with
+/// parentheses at most 256 deep.
+pub fn expression_of(alloc: Global, text: &[u8]) -> Result<Constraint, TagError>
+    ensures tree { IfOk result (IsExpression text.now) }
+    ensures cause { IfErr result (ExpressionCause text.now) }
+{
+    let parts = parts_of(alloc, text)?;
+    read_parts(alloc, parts.items())
+}
+
+/// A text is at most one build expression.
+pub fn one_expression()
+    ensures { (text : Sequence ℕ) (x y : Constraint) → IsExpression text x → IsExpression text y → x ≡ y }
+{}

@@ -7,5 +7,6 @@ pub mod choice;
 mod cursor;
 pub mod error;
 mod expression;
+mod parts;
 pub mod platforms;
 pub mod tags;
