@@ -19,7 +19,7 @@ is_space b = b == 32 || b == 9 || b == 13 || b == 10
 
 -- the bytes begin with these
 abbrev pub starts_with : List ℕ → List ℕ → Bool
-starts_with start bytes = bytes_eq (take (length start) bytes) start
+starts_with start bytes = bytes_eq start (take (length start) bytes)
 
 -- the bytes up to and with the first `*/`
 abbrev pub close_len : List ℕ → Option ℕ

@@ -1,4 +1,5 @@
 pub mod Complete
+pub mod Fronts
 pub mod Lists
 pub mod Named
 pub mod NameEnds

@@ -1,5 +1,6 @@
 pub mod Alphabets
 pub mod Causes
+pub mod Lines
 pub mod NameParts
 pub mod Parts
 pub mod Reading

@@ -1,7 +1,8 @@
 //! Build tags: which of them a platform satisfies, and which words are systems or architectures.
-ghost use Rattle.std.specs.Prelude.{◌≡◌, map};
+ghost use Rattle.std.specs.Prelude.{◌≡◌};
 ghost use Rattle.go_model.specs.BuildTags.{is_one_of, known_systems, known_architectures, unix_systems, release_tags, is_system_tag, is_satisfied};
 
+use crate::words::is_one_of;
 use go_model::platform::Platform;
 
 #[rattlefmt::skip]
@@ -31,18 +32,6 @@ const RELEASE_TAGS: [&[u8]; 21] = [
     b"go1.8",  b"go1.9",  b"go1.10", b"go1.11", b"go1.12", b"go1.13", b"go1.14",
     b"go1.15", b"go1.16", b"go1.17", b"go1.18", b"go1.19", b"go1.20", b"go1.21",
 ];
-
-/// Whether the word is one of these.
-fn is_one_of(words: &[&[u8]], word: &[u8]) -> bool
-    ensures { result ≡ is_one_of (map (λ w. w.now) words.now) word.now }
-{
-    for candidate in words {
-        if word == *candidate {
-            return true;
-        }
-    }
-    false
-}
 
 /// Whether the word is a system that file names may carry.
 #[tactic(auto, unfolding(go_model::specs::BuildTags::known_systems))]
