@@ -4,6 +4,7 @@ pub mod Lists
 pub mod Named
 pub mod NameEnds
 pub mod Runs
+pub mod Scans
 pub mod Sound
 pub mod Stepping
 pub mod Turns

@@ -1,5 +1,6 @@
 pub mod Alphabets
 pub mod Causes
+pub mod Clauses
 pub mod Lines
 pub mod NameParts
 pub mod Parts

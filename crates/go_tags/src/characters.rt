@@ -1,5 +1,5 @@
 //! Characters in bytes, which need not be UTF-8 behind them.
-ghost use Rattle.std.specs.Prelude.{◌≡◌, ◌<◌, ◌≤◌, ◌++◌, ℕ, length, take, drop, IfSome, IsNone, IsUtf8};
+ghost use Rattle.std.specs.Prelude.{◌≡◌, ◌<◌, ◌≤◌, ◌++◌, ℕ, length, take, drop, IfSome, IsNone, IsUtf8, IsTrue, ◌↔◌};
 ghost use Rattle.std.specs.Char.{IsScalar, encode_utf8, len_utf8};
 ghost use Rattle.std.specs.Str.{StartsWithNoChar};
 ghost use Rattle.go_model.specs.Characters.{is_letter, BeginsPassing, IsRun};
@@ -62,6 +62,16 @@ fn first_char(bytes: &[u8]) -> Option<char>
     ensures none { IsNone result → StartsWithNoChar bytes.now }
 {
     valid_front(&bytes[..bytes.len().min(4)]).chars().next()
+}
+
+/// Whether the bytes begin with a letter.
+pub fn begins_with_letter(bytes: &[u8]) -> bool
+    ensures { IsTrue result ↔ BeginsPassing is_letter bytes.now }
+{
+    match first_char(bytes) {
+        Some(c) => is_letter(c),
+        None => false,
+    }
 }
 
 /// How many bytes the first character takes, where it is of the alphabet.

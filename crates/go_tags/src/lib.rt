@@ -4,6 +4,7 @@
 
 mod characters;
 pub mod choice;
+mod clause;
 mod cursor;
 pub mod error;
 mod expression;
