@@ -1,3 +1,4 @@
+pub mod Clauses
 pub mod Complete
 pub mod Fronts
 pub mod Lists

@@ -108,3 +108,27 @@ fails_first test bytes rest c e fails b =
     let same : c ≡ b.0 = (encode_same c b.0 rest b.1 (sym e ∙ b.4)).0 in
     let passes : test c ≡ true = ap test same ∙ b.2 in
     absurd (cc)
+
+-- whether the bytes begin with a character that passes, by the first one
+pub first_decides : (test : ℕ → Bool) (bytes rest : List ℕ) (c : ℕ) (r : Bool) → bytes ≡ encode_utf8 c ++ rest → IsScalar c → r ≡ test c → (r ≡ true → BeginsPassing test bytes) × (BeginsPassing test bytes → r ≡ true)
+first_decides test bytes rest c r e scalar is =
+    ((λ t. (c, rest, sym is ∙ t, scalar, e)), (λ b. is ∙ ap test (encode_same c b.0 rest b.1 (sym e ∙ b.4)).0 ∙ b.2))
+
+some_encoded : (c : ℕ) (front : List ℕ) → encode_utf8 c ++ front ≡ [] → ⊥
+some_encoded c front e = absurd (omega (arith, ap length e, length-append (encode_utf8 c) front, length-encode c, (len_utf8_bounds c).0))
+
+pub empty_run : (test : ℕ → Bool) {front rest : List ℕ} → IsRun test front rest → front ≡ [] → BeginsPassing test rest → ⊥
+empty_run test (run_end none) e = none
+empty_run test (run_more {c = c} {front = front} t s d) e = absurd (some_encoded c front e)
+
+pub full_run : (test : ℕ → Bool) {front rest : List ℕ} → IsRun test front rest → front ≢ [] → BeginsPassing test (front ++ rest)
+full_run test (run_end none) some = absurd (some refl)
+full_run test (run_more {c = c} {front = front} {rest = rest} t s d) some = (c, front ++ rest, t, s, append_assoc (encode_utf8 c) front rest)
+
+-- the run at the front of some bytes has no byte exactly where no character passes
+pub run_zero : (test : ℕ → Bool) (bytes : List ℕ) (n : ℕ) → IsRun test (take n bytes) (drop n bytes) → n ≡ 0 → BeginsPassing test bytes → ⊥
+run_zero test bytes n d e = empty_run test (subst (λ (m : ℕ). IsRun test (take m bytes) (drop m bytes)) e d) refl
+
+pub run_some : (test : ℕ → Bool) (bytes : List ℕ) (n : ℕ) → IsRun test (take n bytes) (drop n bytes) → n ≤ length bytes → 0 < n → BeginsPassing test bytes
+run_some test bytes n d within some =
+    subst (BeginsPassing test) (take-append-drop n bytes) (full_run test d (λ empty. omega (arith, ap length empty, length_take n bytes within, some)))

@@ -55,3 +55,24 @@ pub scanning_done : (bytes : List ℕ) (at : ℕ) (is_open : Bool) (lines : Line
 scanning_done bytes at is_open lines s e =
     let w = s.whole [] (drop at bytes) (front_end e) in
     (w.0, w.1, subst (λ (cs : List (List ℕ)). Sums cs lines) (sym (w.2 ∙ append-nil s.seen)) s.sums)
+
+-- the count of build lines with one more comment, which is none, or one with this rest
+pub count_none : (build : BuildLines) (comment : List ℕ) → build_text comment ≡ None → (comments : List (List ℕ)) → Counts (build_texts comments) build → Counts (build_texts (comments ++ (comment ∷ []))) build
+count_none build comment e comments h =
+    subst (λ (ts : List (List ℕ)). Counts ts build) (sym (texts_more comments comment ∙ ap (λ o. build_texts comments ++ as_list o) e ∙ append-nil (build_texts comments))) h
+
+texts_with : (comment text : List ℕ) → build_text comment ≡ Some text → (comments : List (List ℕ)) → build_texts (comments ++ (comment ∷ [])) ≡ build_texts comments ++ (text ∷ [])
+texts_with comment text e comments = texts_more comments comment ∙ ap (λ o. build_texts comments ++ as_list o) e
+
+pub count_first : (comment text : List ℕ) → build_text comment ≡ Some text → (comments : List (List ℕ)) → build_texts comments ≡ [] → build_texts (comments ++ (comment ∷ [])) ≡ text ∷ []
+count_first comment text e comments h = texts_with comment text e comments ∙ ap (λ ts. ts ++ (text ∷ [])) h
+
+pub count_later : (comment text : List ℕ) → build_text comment ≡ Some text → (comments : List (List ℕ)) → 1 ≤ length (build_texts comments) → 2 ≤ length (build_texts (comments ++ (comment ∷ [])))
+count_later comment text e comments h =
+    omega (arith, h, ap length (texts_with comment text e comments), length-append (build_texts comments) (text ∷ []))
+
+pub at_least_one : (texts : List (List ℕ)) (text : List ℕ) → texts ≡ text ∷ [] → 1 ≤ length texts
+at_least_one texts text e = omega (arith, ap length e)
+
+pub plus_with : (was now : Bool) (comments : List (List ℕ)) (comment : List ℕ) → now ≡ (was || is_plus_line comment) → was ≡ has_plus_line comments → now ≡ has_plus_line (comments ++ (comment ∷ []))
+plus_with was now comments comment e h = e ∙ ap (λ b. b || is_plus_line comment) h ∙ sym (plus_more comments comment)

@@ -1,6 +1,7 @@
 pub mod Alphabets
 pub mod Causes
 pub mod Clauses
+pub mod HeaderCauses
 pub mod Lines
 pub mod NameParts
 pub mod Parts

@@ -9,6 +9,7 @@ mod cursor;
 pub mod error;
 mod expression;
 mod front;
+pub mod header;
 mod lines;
 mod parts;
 pub mod platforms;

@@ -1,5 +1,5 @@
 //! Build lines among the comments of a header.
-ghost use Rattle.std.specs.Prelude.{◌≡◌, ◌++◌, ◌∷◌, [], ℕ, List, Option, option_map, codes, true, ◌≤◌, length, if◌then◌else◌, Bool, IfSome, ◌&&◌};
+ghost use Rattle.std.specs.Prelude.{◌≡◌, ◌++◌, ◌∷◌, [], ℕ, List, Option, option_map, codes, true, ◌≤◌, length, if◌then◌else◌, Bool, IfSome, ◌||◌};
 ghost use Rattle.std.specs.List.{prefix_len};
 ghost use Rattle.go_model.specs.BuildConstraints.{is_blank};
 ghost use Rattle.go_model.specs.Headers.{starts_with, build_texts, ends_word, after_word, build_text, without_blanks, is_plus_line, is_open_after, opening_comment, opening_comments, IsFront};
@@ -83,11 +83,20 @@ fn is_open_after(is_open: bool, piece: &[u8]) -> bool
 fn with_build_line<'a>(build: BuildLines<'a>, comment: &'a [u8]) -> BuildLines<'a>
     ensures { (comments : List (List ℕ)) → Counts (build_texts comments) build.entry → Counts (build_texts (comments ++ comment.now ∷ [])) result }
 {
-    match (build, build_text(comment)) {
-        (BuildLines::Nothing, Some(text)) => BuildLines::One(text),
-        (_, Some(_)) => BuildLines::Several,
-        (_, None) => build,
+    match build_text(comment) {
+        None => build,
+        Some(text) => match build {
+            BuildLines::Nothing => BuildLines::One(text),
+            BuildLines::One(_) | BuildLines::Several => BuildLines::Several,
+        },
     }
+}
+
+fn with_plus_line(has_plus: bool, comment: &[u8]) -> bool
+    requires { starts_with (codes "//") comment.now ≡ true }
+    ensures { result ≡ (has_plus || is_plus_line comment.now) }
+{
+    has_plus || is_plus_line(comment)
 }
 
 fn with_comment<'a>(lines: Lines<'a>, comment: &'a [u8]) -> Lines<'a>
@@ -96,7 +105,7 @@ fn with_comment<'a>(lines: Lines<'a>, comment: &'a [u8]) -> Lines<'a>
 {
     Lines {
         build: with_build_line(lines.build, comment),
-        has_plus: lines.has_plus || is_plus_line(comment),
+        has_plus: with_plus_line(lines.has_plus, comment),
     }
 }
 

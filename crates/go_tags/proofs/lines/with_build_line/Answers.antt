@@ -1,0 +1,16 @@
+use Rattle.std.proofs.Common.{◌≡◌, ◌∙◌, List, ℕ, sym, subst, ap}
+use Rattle.go_model.specs.Headers.{build_texts}
+use Rattle.go_tags.specs.declared.lines.BuildLines.{BuildLines}
+use Rattle.go_tags.specs.Lines.{Counts}
+use Rattle.go_tags.proofs.Scans.{count_none, count_first, count_later, at_least_one}
+use Rattle.go_tags.proofs.lines.with_build_line.Goals as goal
+
+pub returns-in-None : goal.returns-in-None
+returns-in-None c = count_none c.args.build c.args.comment.now (sym c.in-None.ensures)
+
+pub returns-in-Nothing : goal.returns-in-Nothing
+returns-in-Nothing c comments h =
+    count_first c.args.comment.now c.in-Some.text.now (sym c.in-Some.ensures) comments (subst (Counts (build_texts comments)) c.in-Nothing.is h)
+
+pub returns-in-One : goal.returns-in-One
+returns-in-One c comments h = let e = c.in-One.is in ?
