@@ -1,6 +1,7 @@
 pub mod Clauses
 pub mod Complete
 pub mod Fronts
+pub mod Headers
 pub mod Lists
 pub mod Named
 pub mod NameEnds

@@ -76,3 +76,6 @@ at_least_one texts text e = omega (arith, ap length e)
 
 pub plus_with : (was now : Bool) (comments : List (List ℕ)) (comment : List ℕ) → now ≡ (was || is_plus_line comment) → was ≡ has_plus_line comments → now ≡ has_plus_line (comments ++ (comment ∷ []))
 plus_with was now comments comment e h = e ∙ ap (λ b. b || is_plus_line comment) h ∙ sym (plus_more comments comment)
+
+pub two_or_more : (texts : List (List ℕ)) → 2 ≤ length texts → 1 ≤ length texts
+two_or_more texts h = omega arith
