@@ -1,7 +1,7 @@
 -- Letters and digits of names, after "Characters", "Letters and digits" and "Identifiers" of the Go
 -- specification, with the general categories of the Unicode Standard; and runs of characters in
 -- bytes, which need not be UTF-8 behind them.
-use Rattle.std.specs.Prelude.{◌≡◌, ℕ, Bool, true, false, ◌||◌, ◌==◌, List, [], ◌∷◌, ◌++◌}
+use Rattle.std.specs.Prelude.{◌≡◌, ℕ, Bool, true, false, ◌||◌, ◌==◌, List, [], ◌++◌}
 use Rattle.std.specs.Char.{IsScalar, encode_utf8}
 use Rattle.unicode.specs.GeneralCategory.{general_category}
 use Rattle.ucd_category.specs.declared.GeneralCategory.{GeneralCategory}

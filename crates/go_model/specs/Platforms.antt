@@ -1,6 +1,6 @@
 -- The platforms: names of systems and architectures as in Go's `go tool dist list`, and the sizes of
 -- `int` as in "Numeric types" of the Go specification, which leaves them to the architecture.
-use Rattle.std.specs.Prelude.{ℕ, List, ◌∷◌, ◌++◌, codes}
+use Rattle.std.specs.Prelude.{ℕ, List, ◌++◌, codes}
 use Rattle.go_model.specs.declared.platform.Platform.{Platform}
 use Rattle.go_model.specs.declared.platform.Platform.TheVariants as p
 

@@ -1,10 +1,10 @@
 -- A file begins with at most one package clause.
-use Rattle.std.proofs.Common.{◌≡◌, ◌≢◌, ℕ, zero, suc, ◌≤◌, ◌<◌, Bool, true, false, List, [], ◌∷◌, ◌++◌, length, take, drop, refl, sym, ap, ◌∙◌, subst, arith}
+use Rattle.std.proofs.Common.{◌≡◌, ℕ, ◌≤◌, ◌<◌, true, List, ◌++◌, length, take, drop, sym, ap, ◌∙◌, subst}
 use Rattle.std.specs.Prelude.{codes, bytes_eq}
 use Rattle.std.proofs.lemmas.Slice.Eq.{bytes_eq-Decides}
 use Rattle.std.proofs.lemmas.List.{take-append-drop}
 use Rattle.go_model.specs.Characters.{is_name_character, BeginsPassing, IsRun}
-use Rattle.go_model.specs.Headers.{IsFront, IsPackageName, BeginsClause}
+use Rattle.go_model.specs.Headers.{IsFront, BeginsClause}
 use Rattle.go_tags.specs.Clauses.{IsBehindKeyword}
 use Rattle.go_tags.proofs.Fronts.{front_once}
 use Rattle.go_tags.proofs.Runs.{run_once, run_zero, run_some}

@@ -1,12 +1,12 @@
 -- Each tree of the grammar is found, so there is at most one.
-use Rattle.std.proofs.Common.{◌≡◌, ◌≢◌, ℕ, zero, suc, ◌+◌, ◌≤◌, List, [], ◌∷◌, ◌++◌, length, Bool, true, false, Option, Some, None, refl, sym, ap, ◌∙◌, subst, append_assoc, arith}
+use Rattle.std.proofs.Common.{◌≡◌, ◌≢◌, ℕ, zero, suc, ◌≤◌, List, [], ◌∷◌, ◌++◌, length, Bool, true, false, Some, None, refl, sym, ap, ◌∙◌, subst, append_assoc, arith}
 use Rattle.std.proofs.lemmas.List.{append-nil}
 use Rattle.go_model.specs.declared.build.ConstraintPart.{ConstraintPart}
 use Rattle.go_model.specs.declared.build.ConstraintPart.TheVariants as part
 use Rattle.go_model.specs.declared.build.Constraint.{Constraint}
 use Rattle.go_model.specs.declared.build.Constraint.TheVariants as c
 use Rattle.go_model.specs.BuildConstraints.{or_chain, and_chain, IsOr, or as an_or, AreOrs, or_first, or_next, IsAnd, and as an_and, AreAnds, and_first, and_next, IsNot, plain, negated, IsOperand, tag_operand, parenthesized}
-use Rattle.go_tags.specs.Reading.{Found, Reader, Turn, Ends, Lacks, Grows, then_read, grown, after_turn, turns, all_turns, or_turn, and_turn, chain_of, closed, operand_of, not_of, and_of, or_of, or_below}
+use Rattle.go_tags.specs.Reading.{Found, Reader, Turn, Ends, Grows, then_read, grown, after_turn, turns, all_turns, or_turn, and_turn, chain_of, closed, operand_of, not_of, and_of, or_of, or_below}
 
 -- whether the first part is this sign
 abbrev begins_or : List ConstraintPart → Bool
@@ -57,6 +57,7 @@ no_shorter (x ∷ xs) ys = omega (arith, no_shorter xs ys)
 
 mutual
   unfolding or_of and_of not_of operand_of chain_of all_turns or_below
+
   complete_or : {depth : ℕ} {parts : List ConstraintPart} {x : Constraint} → IsOr depth parts x → (rest : List ConstraintPart)
       → begins_or rest ≡ false → begins_and rest ≡ false → or_of (or_below depth) (parts ++ rest) ≡ Some (x, rest)
   complete_or {depth} (an_or {x = x} {xs = xs} d) rest o a =
@@ -72,8 +73,8 @@ mutual
   complete_ors {depth} (or_next {before = before} {after = after} {x = x} {y = y} {xs = xs} d e) rest found go a =
       ap (chain_of (or_turn (and_of (or_below depth))) (and_of (or_below depth))) (seam before part.Or after rest)
       ∙ complete_ors d (part.Or ∷ (after ++ rest)) found
-        (goes_on (or_turn (and_of (or_below depth))) xs (xs ++ (y ∷ [])) part.Or (after ++ rest) rest found (ap (grown xs) (complete_and e rest a)) (no_shorter after rest) go)
-        refl
+      (goes_on (or_turn (and_of (or_below depth))) xs (xs ++ (y ∷ [])) part.Or (after ++ rest) rest found (ap (grown xs) (complete_and e rest a)) (no_shorter after rest) go)
+      refl
 
   complete_and : {depth : ℕ} {parts : List ConstraintPart} {x : Constraint} → IsAnd depth parts x → (rest : List ConstraintPart)
       → begins_and rest ≡ false → and_of (or_below depth) (parts ++ rest) ≡ Some (x, rest)
@@ -90,7 +91,7 @@ mutual
   complete_ands {depth} (and_next {before = before} {after = after} {x = x} {y = y} {xs = xs} d e) rest found go =
       ap (chain_of (and_turn (not_of (or_below depth))) (not_of (or_below depth))) (seam before part.And after rest)
       ∙ complete_ands d (part.And ∷ (after ++ rest)) found
-        (goes_on (and_turn (not_of (or_below depth))) xs (xs ++ (y ∷ [])) part.And (after ++ rest) rest found (ap (grown xs) (complete_not e rest)) (no_shorter after rest) go)
+      (goes_on (and_turn (not_of (or_below depth))) xs (xs ++ (y ∷ [])) part.And (after ++ rest) rest found (ap (grown xs) (complete_not e rest)) (no_shorter after rest) go)
 
   complete_not : {depth : ℕ} {parts : List ConstraintPart} {x : Constraint} → IsNot depth parts x → (rest : List ConstraintPart) → not_of (or_below depth) (parts ++ rest) ≡ Some (x, rest)
   complete_not {depth} (plain d) rest = no_sign d (or_below depth) rest ∙ complete_operand d rest

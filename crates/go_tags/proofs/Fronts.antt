@@ -1,8 +1,8 @@
 -- White space and comments in front of bytes.
-use Rattle.std.proofs.Common.{◌≡◌, ◌≢◌, ℕ, zero, suc, ◌+◌, ◌-◌, ◌<◌, ◌≤◌, Bool, true, false, cond, List, [], ◌∷◌, ◌++◌, length, get_or, take, drop, refl, sym, ap, ◌∙◌, subst, arith, Option, Some, None, length-drop, drop-cons, add-one, option_map}
+use Rattle.std.proofs.Common.{◌≡◌, ℕ, suc, ◌+◌, ◌<◌, ◌≤◌, false, List, [], ◌∷◌, length, get_or, take, drop, refl, sym, ap, ◌∙◌, subst, arith, Option, Some, None, length-drop, drop-cons, add-one, option_map}
 use Rattle.std.specs.Prelude.{codes}
-use Rattle.std.proofs.lemmas.List.{drop-drop, take_rest}
-use Rattle.go_model.specs.Headers.{starts_with, close_len, line_len, piece_len, IsFront, front_end, front_more}
+use Rattle.std.proofs.lemmas.List.{drop-drop}
+use Rattle.go_model.specs.Headers.{starts_with, close_len, piece_len, IsFront, front_end, front_more}
 
 -- however the front goes on from a place, it is one from the start
 pub record Passing (bytes : List ℕ) (at : ℕ) : Type 0 where

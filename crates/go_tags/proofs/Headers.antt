@@ -1,5 +1,5 @@
 -- A file has one header or one cause, and not both.
-use Rattle.std.proofs.Common.{◌≡◌, ◌≢◌, ℕ, zero, suc, ◌≤◌, Bool, true, false, List, [], ◌∷◌, length, Option, None, Some, refl, sym, ap, ◌∙◌, subst, arith}
+use Rattle.std.proofs.Common.{◌≡◌, ℕ, ◌≤◌, Bool, true, List, [], ◌∷◌, length, Option, None, Some, refl, sym, ap, ◌∙◌, subst, arith}
 use Rattle.go_model.specs.declared.build.ConstraintPart.{ConstraintPart}
 use Rattle.go_model.specs.declared.build.Constraint.{Constraint}
 use Rattle.go_model.specs.declared.build.Header.{Header}

@@ -1,13 +1,13 @@
 -- A name's parts, cut at the last underscore.
-use Rattle.std.proofs.Common.{◌≡◌, ℕ, zero, suc, ◌+◌, ◌-◌, ◌<◌, ◌≤◌, Bool, true, false, cond, List, [], ◌∷◌, ◌++◌, length, get_or, take, drop, reverse, refl, sym, ap, ◌∙◌, subst, arith, ◌==◌, add-one, nat_lt, Option, None, Some}
-use Rattle.std.specs.List.{slice_split, onto_first, All, count_by, position_or_len, position, before_first, list_all}
+use Rattle.std.proofs.Common.{◌≡◌, ℕ, suc, ◌+◌, ◌-◌, ◌<◌, ◌≤◌, Bool, true, false, cond, List, [], ◌∷◌, ◌++◌, length, get_or, take, drop, reverse, refl, sym, ap, ◌∙◌, arith, ◌==◌, add-one, nat_lt, None, Some}
+use Rattle.std.specs.List.{slice_split, onto_first, All, position_or_len, position, before_first, list_all}
 use Rattle.std.proofs.lemmas.List.{reverse-append}
 use Rattle.std.proofs.lemmas.List.Splits.{slice_split_none, slice_split_first, length-slice_split}
 use Rattle.std.proofs.lemmas.List.Sums.{fails_before_first}
 use Rattle.std.proofs.lemmas.Bool.Decides.{nat_tests}
 use Rattle.go_model.specs.declared.platform.Platform.{Platform}
 use Rattle.go_model.specs.BuildTags.{is_satisfied}
-use Rattle.go_model.specs.BuildValues.{name_parts, without_test, demanded, name_holds}
+use Rattle.go_model.specs.BuildValues.{without_test, demanded, name_holds}
 use Rattle.go_tags.specs.NameParts.{parts_back}
 use Rattle.go_tags.proofs.Lists.{split_at, rest_from, take_past}
 

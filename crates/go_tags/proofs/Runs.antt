@@ -1,6 +1,6 @@
 -- Runs of characters.
-use Rattle.std.proofs.Common.{◌≡◌, ◌≢◌, ℕ, zero, suc, ◌+◌, ◌-◌, ◌<◌, ◌≤◌, Bool, true, false, List, [], ◌∷◌, ◌++◌, length, get_or, take, drop, refl, sym, ap, ◌∙◌, subst, arith, Option, Some, None, length-append, length-drop, zero-add, add-zero, append_assoc, min, ◌&&◌}
-use Rattle.std.specs.Prelude.{IsUtf8, IfSome, IsNone}
+use Rattle.std.proofs.Common.{◌≡◌, ◌≢◌, ℕ, zero, suc, ◌+◌, ◌-◌, ◌<◌, ◌≤◌, Bool, true, false, List, [], ◌∷◌, ◌++◌, length, take, drop, refl, sym, ap, ◌∙◌, subst, arith, length-append, length-drop, zero-add, add-zero, append_assoc, min, ◌&&◌}
+use Rattle.std.specs.Prelude.{IsUtf8}
 use Rattle.std.specs.Char.{IsScalar, encode_utf8, len_utf8}
 use Rattle.std.proofs.lemmas.Str.{encode_same, length-encode, len_utf8_bounds, IsUtf8-encode, cons_from_encodes}
 use Rattle.std.proofs.lemmas.List.{take_at, drop_at, drop-drop, take-append-drop}
@@ -86,10 +86,11 @@ take_take (suc n) (suc m) (x ∷ xs) h = ap (λ ys. x ∷ ys) (take_take n m xs 
 
 -- the front of a front, and what follows it
 pub front_of : (n m : ℕ) (text bytes : List ℕ) → text ≡ take n (take m bytes) → (behind : List ℕ) × (bytes ≡ text ++ behind)
-front_of n m text bytes e =
-    (drop n (take m bytes) ++ drop m bytes,
-      sym (ap (λ (w : List ℕ). w ++ (drop n (take m bytes) ++ drop m bytes)) e ∙ sym (append_assoc (take n (take m bytes)) (drop n (take m bytes)) (drop m bytes))
-        ∙ ap (λ (w : List ℕ). w ++ drop m bytes) (take-append-drop n (take m bytes)) ∙ take-append-drop m bytes))
+front_of n m text bytes e = (
+  drop n (take m bytes) ++ drop m bytes,
+  sym (ap (λ (w : List ℕ). w ++ (drop n (take m bytes) ++ drop m bytes)) e ∙ sym (append_assoc (take n (take m bytes)) (drop n (take m bytes)) (drop m bytes))
+      ∙ ap (λ (w : List ℕ). w ++ drop m bytes) (take-append-drop n (take m bytes)) ∙ take-append-drop m bytes),
+)
 
 -- where no front of four bytes is UTF-8, no character begins
 pub no_char : (bytes : List ℕ) (m : ℕ) → m ≡ min (length bytes) 4 → ((n : ℕ) → 0 < n → n ≤ length (take m bytes) → IsUtf8 (take n (take m bytes)) → ⊥) → StartsWithNoChar bytes

@@ -1,6 +1,6 @@
 -- A text is cut into parts from the front, in one way.
-use Rattle.std.proofs.Common.{◌≡◌, ◌≢◌, ℕ, zero, suc, ◌+◌, ◌-◌, ◌<◌, ◌≤◌, Bool, true, false, cond, ◌&&◌, ◌||◌, ◌==◌, List, [], ◌∷◌, ◌++◌, length, get_or, take, drop, refl, sym, ap, ◌∙◌, subst, arith, Option, Some, None, length-append, length-drop, append_assoc, eqb-true, lit<, ◌⊎◌, inl, inr}
-use Rattle.std.specs.Char.{IsScalar, encode_utf8}
+use Rattle.std.proofs.Common.{◌≡◌, ◌≢◌, ℕ, ◌+◌, ◌<◌, ◌≤◌, Bool, true, false, cond, ◌&&◌, ◌==◌, List, [], ◌∷◌, ◌++◌, length, take, drop, refl, sym, ap, ◌∙◌, subst, arith, Option, Some, None, length-drop, append_assoc, eqb-true, lit<, ◌⊎◌, inl, inr}
+use Rattle.std.specs.Char.{encode_utf8}
 use Rattle.std.proofs.lemmas.Str.{char_from_byte}
 use Rattle.std.proofs.lemmas.List.{take-append-drop, drop-drop, append-nil}
 use Rattle.ucd_category.proofs.Computing.{ucd_category}
@@ -44,14 +44,21 @@ no_tag_and = refl
 -- a byte that is a tag's character, where it is one, is not this byte
 unlike : (b k : ℕ) → k < 128 → is_tag_character k ≡ false → (b < 128 → is_tag_character b ≡ true) → (b == k) ≡ false
 unlike b k small fails tags = elim (b == k) as (λ t. (b == k) ≡ t → t ≡ false) [
-    | true ↦ (λ e. let same : b ≡ k = eqb-true b k e in let passes : is_tag_character b ≡ true = tags (omega arith) in let other : is_tag_character b ≡ false = ap is_tag_character same ∙ fails in absurd (cc))
-    | false ↦ (λ e. refl)
-  ] refl
+  | true ↦ (λ e. let same : b ≡ k = eqb-true b k e in let passes : is_tag_character b ≡ true = tags (omega arith) in let other : is_tag_character b ≡ false = ap is_tag_character same ∙ fails in absurd (cc))
+  | false ↦ (λ e. refl)
+] refl
 
 no_sign : (b : ℕ) (bs : List ℕ) → (b < 128 → is_tag_character b ≡ true) → sign_at (b ∷ bs) ≡ None
 no_sign b bs tags =
-    rw (unlike b 32 (lit< tt) no_tag_space tags, unlike b 9 (lit< tt) no_tag_tab tags, unlike b 33 (lit< tt) no_tag_not tags, unlike b 40 (lit< tt) no_tag_open tags,
-      unlike b 41 (lit< tt) no_tag_close tags, unlike b 124 (lit< tt) no_tag_or tags, unlike b 38 (lit< tt) no_tag_and tags) refl
+    rw (
+      unlike b 32 (lit< tt) no_tag_space tags,
+      unlike b 9 (lit< tt) no_tag_tab tags,
+      unlike b 33 (lit< tt) no_tag_not tags,
+      unlike b 40 (lit< tt) no_tag_open tags,
+      unlike b 41 (lit< tt) no_tag_close tags,
+      unlike b 124 (lit< tt) no_tag_or tags,
+      unlike b 38 (lit< tt) no_tag_and tags,
+    ) refl
 
 -- what a tag's character begins has no sign in front
 no_sign_by : (whole rest : List ℕ) (c : ℕ) → whole ≡ encode_utf8 c ++ rest → is_tag_character c ≡ true → sign_at whole ≡ None
@@ -134,12 +141,12 @@ step_begins step (b ∷ bs) e =
               | inr h ↦ elim (cond_case (b == 38 && is_next 38 bs) _ _ step h.1) [
                 | inl h ↦ pair_begins b 38 bs part.And step e h.1 h.0 (λ rest parts d. and_sign d)
                 | inr h ↦ absurd (cc)
-                ]
               ]
             ]
           ]
         ]
       ]
+    ]
 
 -- a text without a sign in front begins with a tag
 tag_taken : {text : List ℕ} {all : List ConstraintPart} → AreParts text all → (name rest : List ℕ) → sign_at text ≡ None → text ≢ [] → IsRun is_tag_character name rest → text ≡ name ++ rest

@@ -1,5 +1,5 @@
 -- The characters of names and of tags.
-use Rattle.std.specs.Prelude.{◌≡◌, ◌<◌, ℕ, Bool, true, List, ◌++◌, drop}
+use Rattle.std.specs.Prelude.{◌≡◌, ℕ, Bool, true, List, ◌++◌, drop}
 use Rattle.std.specs.Char.{IsScalar, encode_utf8, len_utf8}
 use Rattle.go_model.specs.Characters.{is_name_character, is_tag_character}
 use Rattle.go_tags.specs.declared.characters.Alphabet.{Alphabet}

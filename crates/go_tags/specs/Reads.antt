@@ -1,5 +1,5 @@
 -- What a function that reads parts ensures: what the reading finds, unless memory runs out.
-use Rattle.std.specs.Prelude.{◌≡◌, ℕ, List, Option, Some, None, Result, Ok, Err}
+use Rattle.std.specs.Prelude.{◌≡◌, ℕ, List, Some, None, Result, Ok, Err}
 use Rattle.std.specs.declared.alloc.Global.{Global}
 use denote.Ref.{MutBor}
 use Rattle.go_model.specs.declared.build.ConstraintPart.{ConstraintPart}

@@ -33,8 +33,8 @@ impl Alphabet {
     fn has(self, c: char) -> bool
         ensures { result ≡ has self c }
     {
-        let is_in_names =
-            is_letter(c) || matches!(GeneralCategory::for_char(c), GeneralCategory::DecimalNumber);
+        let is_in_names = is_letter(c)
+            || matches!(GeneralCategory::for_char(c), GeneralCategory::DecimalNumber);
         match self {
             Alphabet::Name => is_in_names,
             Alphabet::Tag => c == '.' || is_in_names,

@@ -49,5 +49,9 @@ pub fn clause_name(bytes: &[u8]) -> Option<&[u8]>
 {
     let rest = past_front(past_keyword(bytes)?);
     let name = &rest[..run_len(Alphabet::Name, rest)];
-    if is_package_name(name) { Some(name) } else { None }
+    if is_package_name(name) {
+        Some(name)
+    } else {
+        None
+    }
 }

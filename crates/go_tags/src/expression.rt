@@ -26,7 +26,11 @@ struct Grammar<F> {
     inner: F,
 }
 
-fn or_chain(alloc: Global, first: Constraint, others: List<Constraint>) -> Result<Constraint, NoMemory>
+fn or_chain(
+    alloc: Global,
+    first: Constraint,
+    others: List<Constraint>,
+) -> Result<Constraint, NoMemory>
     ensures { IfOk result (λ x. x ≡ grammar.or_chain first others) }
 {
     if others.items().is_empty() {
@@ -35,7 +39,11 @@ fn or_chain(alloc: Global, first: Constraint, others: List<Constraint>) -> Resul
     Ok(Constraint::Or(Box::new(alloc, first)?, others))
 }
 
-fn and_chain(alloc: Global, first: Constraint, others: List<Constraint>) -> Result<Constraint, NoMemory>
+fn and_chain(
+    alloc: Global,
+    first: Constraint,
+    others: List<Constraint>,
+) -> Result<Constraint, NoMemory>
     ensures { IfOk result (λ x. x ≡ grammar.and_chain first others) }
 {
     if others.items().is_empty() {

@@ -33,11 +33,26 @@ fn sign_at(text: &[u8]) -> Option<Step>
     let (first, rest) = text.split_first()?;
     match *first {
         b' ' | b'\t' => Some(Step { part: None, len: 1 }),
-        b'!' => Some(Step { part: Some(ConstraintPart::Not), len: 1 }),
-        b'(' => Some(Step { part: Some(ConstraintPart::Open), len: 1 }),
-        b')' => Some(Step { part: Some(ConstraintPart::Close), len: 1 }),
-        b'|' if is_next(b'|', rest) => Some(Step { part: Some(ConstraintPart::Or), len: 2 }),
-        b'&' if is_next(b'&', rest) => Some(Step { part: Some(ConstraintPart::And), len: 2 }),
+        b'!' => Some(Step {
+            part: Some(ConstraintPart::Not),
+            len: 1,
+        }),
+        b'(' => Some(Step {
+            part: Some(ConstraintPart::Open),
+            len: 1,
+        }),
+        b')' => Some(Step {
+            part: Some(ConstraintPart::Close),
+            len: 1,
+        }),
+        b'|' if is_next(b'|', rest) => Some(Step {
+            part: Some(ConstraintPart::Or),
+            len: 2,
+        }),
+        b'&' if is_next(b'&', rest) => Some(Step {
+            part: Some(ConstraintPart::And),
+            len: 2,
+        }),
         _ => None,
     }
 }
@@ -53,7 +68,10 @@ fn first_tag(alloc: Global, text: &[u8]) -> Result<Step, TagError>
         return Err(TagError::BadExpression);
     }
     let tag = Text::of(alloc, &text[..len])?;
-    Ok(Step { part: Some(ConstraintPart::Tag(tag)), len })
+    Ok(Step {
+        part: Some(ConstraintPart::Tag(tag)),
+        len,
+    })
 }
 
 fn first_step(alloc: Global, text: &[u8]) -> Result<Step, TagError>

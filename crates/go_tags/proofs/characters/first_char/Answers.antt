@@ -1,7 +1,6 @@
-use Rattle.std.proofs.Common.{◌≡◌, ◌<◌, ◌≤◌, ◌++◌, ℕ, List, Option, Some, None, IfSome, IsNone, length, take, drop, sym, ap, ◌∙◌, subst, arith, min}
+use Rattle.std.proofs.Common.{◌≡◌, ◌++◌, ℕ, List, Option, Some, None, IfSome, IsNone, length, drop, sym, ap, ◌∙◌, arith}
 use Rattle.std.specs.Prelude.{IsUtf8, MatchOption}
 use Rattle.std.specs.Char.{IsScalar, encode_utf8, len_utf8}
-use Rattle.std.specs.Str.{StartsWithNoChar}
 use Rattle.go_tags.proofs.Runs.{known_char, known_scalar, front_of, no_char}
 use Rattle.go_tags.proofs.characters.first_char.Goals as goal
 

@@ -1,4 +1,4 @@
-use Rattle.std.proofs.Common.{◌≡◌, List, ℕ, subst, refl, sym}
+use Rattle.std.proofs.Common.{List, ℕ, subst, refl, sym}
 use Rattle.go_model.specs.Characters.{BeginsPassing}
 use Rattle.go_tags.specs.Alphabets.{has, BeginsWith}
 use Rattle.std.proofs.lemmas.List.{take_rest}

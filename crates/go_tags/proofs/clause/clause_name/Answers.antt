@@ -1,4 +1,4 @@
-use Rattle.std.proofs.Common.{◌≡◌, ◌∙◌, List, ℕ, Option, None, option_map, sym, subst, refl, true}
+use Rattle.std.proofs.Common.{◌≡◌, List, ℕ, Option, option_map, sym, subst, refl, true}
 use denote.Ref.{Bor}
 use Rattle.go_model.specs.Headers.{IsPackageName, IsClause}
 use Rattle.go_tags.proofs.Clauses.{clause_run}

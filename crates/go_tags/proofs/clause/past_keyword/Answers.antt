@@ -1,7 +1,4 @@
-use Rattle.std.proofs.Common.{◌≡◌, ◌∙◌, arith}
-use Rattle.std.specs.Prelude.{codes}
-use Rattle.std.proofs.lemmas.Slice.Eq.{bytes_eq-Decides}
-use Rattle.std.proofs.lemmas.List.{take-append-drop}
+use Rattle.std.proofs.Common.{arith}
 use Rattle.go_tags.proofs.Clauses.{whole_word, longer_word, stripped}
 use Rattle.go_tags.proofs.clause.past_keyword.Goals as goal
 

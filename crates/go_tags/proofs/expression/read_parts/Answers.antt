@@ -1,4 +1,4 @@
-use Rattle.std.proofs.Common.{◌≡◌, ◌≢◌, ℕ, List, [], Result, Ok, Err, Some, None, IfOk, refl, sym, ap, ◌∙◌, subst}
+use Rattle.std.proofs.Common.{◌≡◌, ◌≢◌, List, [], Result, Ok, Err, Some, IfOk, refl, sym, subst}
 use Rattle.std.specs.Prelude.{IfErr}
 use Rattle.go_model.specs.declared.build.ConstraintPart.{ConstraintPart}
 use Rattle.go_model.specs.declared.build.Constraint.{Constraint}

@@ -1,4 +1,4 @@
-use Rattle.std.proofs.Common.{◌≡◌, ◌∙◌, ℕ, List, Result, Ok, Err, Bool, true, false, sym, refl}
+use Rattle.std.proofs.Common.{◌≡◌, ◌∙◌, ℕ, List, Result, Ok, Err, sym}
 use Rattle.std.specs.Prelude.{IsUtf8, MatchResult}
 use Rattle.std.specs.Str.{is_utf8}
 use Rattle.std.specs.Result.{is_ok}

@@ -1,4 +1,4 @@
-use Rattle.std.proofs.Common.{◌≡◌, ◌∙◌, ◌≤◌, List, ℕ, Some, None, sym, ap, subst, length}
+use Rattle.std.proofs.Common.{◌∙◌, ◌≤◌, List, ℕ, sym, ap, subst, length}
 use Rattle.std.proofs.lemmas.List.{take_rest}
 use Rattle.go_model.specs.Headers.{piece_len, IsFront}
 use Rattle.go_tags.proofs.Fronts.{passing_more, passing_done}

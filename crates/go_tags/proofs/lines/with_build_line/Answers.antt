@@ -1,6 +1,5 @@
-use Rattle.std.proofs.Common.{◌≡◌, ◌∙◌, List, ℕ, sym, subst, inl, inr}
+use Rattle.std.proofs.Common.{sym, subst, inl, inr}
 use Rattle.go_model.specs.Headers.{build_texts}
-use Rattle.go_tags.specs.declared.lines.BuildLines.{BuildLines}
 use Rattle.go_tags.specs.Lines.{Counts}
 use Rattle.go_tags.proofs.Scans.{count_none, count_first, count_later, at_least_one, two_or_more}
 use Rattle.go_tags.proofs.lines.with_build_line.Goals as goal
@@ -18,4 +17,4 @@ returns-in-One c comments h =
     (elim c.in-One.is [
       | inl e ↦ at_least_one (build_texts comments) e.0.now (subst (Counts (build_texts comments)) e.1 h)
       | inr e ↦ two_or_more (build_texts comments) (subst (Counts (build_texts comments)) e h)
-      ])
+    ])
