@@ -1,6 +1,6 @@
 -- Build expressions: how a text is cut into signs and tags, and the grammar of these, after "Build
--- constraints" of Go's package go/build and package go/build/constraint. Parentheses nest at most to
--- a bound, which is an own limit.
+-- constraints" of Go's package go/build and package go/build/constraint. Beyond Go, parentheses nest
+-- at most to a bound.
 -- In crate go_tags, proofs/Complete.antt and proofs/Sound.antt show that the reader finds exactly
 -- the trees of this grammar, and that there is at most one.
 use Rattle.std.specs.Prelude.{◌≡◌, ◌≢◌, ℕ, suc, Bool, true, ◌||◌, ◌==◌, List, [], ◌∷◌, ◌++◌}
@@ -25,11 +25,12 @@ pub data AreParts : List ℕ → List ConstraintPart → Type 0 where
   close_sign : {text : List ℕ} {parts : List ConstraintPart} → AreParts text parts → AreParts (41 ∷ text) (part.Close ∷ parts)
   tag : {name text : List ℕ} {parts : List ConstraintPart} → name ≢ [] → IsRun is_tag_character name text → AreParts text parts → AreParts (name ++ text) (part.Tag name ∷ parts)
 
--- a chain of one operand is that operand
+-- a chain of `||`, where one operand alone is that operand
 abbrev pub or_chain : Constraint → List Constraint → Constraint
 or_chain first [] = first
 or_chain first (x ∷ xs) = c.Or first (x ∷ xs)
 
+-- the same of `&&`
 abbrev pub and_chain : Constraint → List Constraint → Constraint
 and_chain first [] = first
 and_chain first (x ∷ xs) = c.And first (x ∷ xs)

@@ -1,7 +1,7 @@
 -- The header of a Go file: the white space and comments in front, the build lines among them, and
 -- the package clause behind them; after "Comments", "Tokens" and "Package clause" of the Go
--- specification, and "Build constraints" of Go's package go/build. Own: comments are UTF-8 without
--- NUL, and a header ends before any other comment; parentheses of build expressions have a bound.
+-- specification, and "Build constraints" of Go's package go/build. Beyond Go, comments are
+-- UTF-8 without NUL, and a header ends before any other comment.
 -- In crate go_tags, the function one_header of src/header.rt says that a file has one header or one
 -- cause, and the function header finds it.
 use Rattle.std.specs.Prelude.{◌≡◌, ◌≢◌, ◌≤◌, ◌+◌, ℕ, Bool, true, false, ◌||◌, ◌&&◌, ◌==◌, not, if◌then◌else◌, Option, None, Some, option_map, List, [], ◌∷◌, ◌++◌, length, take, drop, codes, bytes_eq}
@@ -86,6 +86,7 @@ build_text comment = after_word (codes "//go:build") comment
 abbrev pub without_blanks : List ℕ → List ℕ
 without_blanks text = drop (prefix_len is_blank text) text
 
+-- there is a text
 abbrev pub is_some_text : Option (List ℕ) → Bool
 is_some_text None = false
 is_some_text (Some text) = true
@@ -94,6 +95,7 @@ is_some_text (Some text) = true
 abbrev pub is_plus_line : List ℕ → Bool
 is_plus_line comment = is_some_text (after_word (codes "+build") (without_blanks (drop 2 comment)))
 
+-- the text as a list of one, or no text
 abbrev pub as_list : Option (List ℕ) → List (List ℕ)
 as_list None = []
 as_list (Some text) = text ∷ []

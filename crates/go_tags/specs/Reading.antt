@@ -11,6 +11,7 @@ use Rattle.go_model.specs.BuildConstraints.{or_chain, and_chain}
 abbrev pub Found : Type 0 → Type 0
 Found A = Option (A × List ConstraintPart)
 
+-- a reading from the front of some parts
 abbrev pub Reader : Type 0 → Type 0
 Reader A = List ConstraintPart → Found A
 
@@ -30,6 +31,7 @@ abbrev pub grown : List Constraint → Found Constraint → Turn
 grown operands None = Lacks
 grown operands (Some found) = Grows (operands ++ (found.0 ∷ [])) found.1
 
+-- what a loop finds after a turn, where it goes on by `go`
 abbrev pub after_turn : (List Constraint → Reader (List Constraint)) → List Constraint → List ConstraintPart → Turn → Found (List Constraint)
 after_turn go operands parts Ends = Some (operands, parts)
 after_turn go operands parts Lacks = None
@@ -44,11 +46,12 @@ turns step (suc n) operands parts = after_turn (turns step n) operands parts (st
 unfoldable pub all_turns : (List Constraint → List ConstraintPart → Turn) → List Constraint → Reader (List Constraint)
 all_turns step operands parts = turns step (length parts) operands parts
 
--- an operand behind the sign of a chain
+-- an operand behind `||`
 abbrev pub or_turn : Reader Constraint → List Constraint → List ConstraintPart → Turn
 or_turn operand operands (part.Or ∷ parts) = grown operands (operand parts)
 or_turn operand operands _ = Ends
 
+-- an operand behind `&&`
 abbrev pub and_turn : Reader Constraint → List Constraint → List ConstraintPart → Turn
 and_turn operand operands (part.And ∷ parts) = grown operands (operand parts)
 and_turn operand operands _ = Ends
@@ -62,18 +65,22 @@ abbrev pub closed : Constraint → Reader Constraint
 closed x (part.Close ∷ parts) = Some (x, parts)
 closed x _ = None
 
+-- a tag, or an expression in parentheses
 unfoldable pub operand_of : Reader Constraint → Reader Constraint
 operand_of inner (part.Tag name ∷ parts) = Some (c.Tag name, parts)
 operand_of inner (part.Open ∷ parts) = then_read (inner parts) (λ x. closed (c.Paren x))
 operand_of inner _ = None
 
+-- an operand, or its negation
 unfoldable pub not_of : Reader Constraint → Reader Constraint
 not_of inner (part.Not ∷ parts) = then_read (operand_of inner parts) (λ x rest. Some (c.Not x, rest))
 not_of inner parts = operand_of inner parts
 
+-- a chain of `&&`
 unfoldable pub and_of : Reader Constraint → Reader Constraint
 and_of inner parts = then_read (chain_of (and_turn (not_of inner)) (not_of inner) parts) (λ chain end. Some (and_chain chain.0 chain.1, end))
 
+-- a chain of `||`
 unfoldable pub or_of : Reader Constraint → Reader Constraint
 or_of inner parts = then_read (chain_of (or_turn (and_of inner)) (and_of inner) parts) (λ chain end. Some (or_chain chain.0 chain.1, end))
 

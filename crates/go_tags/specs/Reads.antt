@@ -8,6 +8,7 @@ use Rattle.go_tags.specs.declared.error.TagError.{TagError}
 use Rattle.go_tags.specs.declared.error.TagError.TheVariants.{BadExpression, Twice, PlusBuild, NoMemory}
 use Rattle.go_tags.specs.Reading.{Found, or_below}
 
+-- the result is what is found, and these parts are left
 abbrev pub Reads : {A : Type 0} → Found A → Result A TagError → List ConstraintPart → Type 0
 Reads found (Ok a) rest = found ≡ Some (a, rest)
 Reads found (Err BadExpression) rest = found ≡ None

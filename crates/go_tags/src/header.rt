@@ -145,7 +145,9 @@ mod tests {
                 None => b"".as_slice(),
             };
             assert!(rt; name == clause);
-            assert!(rt; chosen(Platform::LinuxAmd64, b"a.go", found.constraint.as_ref()) == is_chosen);
+            assert!(rt;
+                chosen(Platform::LinuxAmd64, b"a.go", found.constraint.as_ref()) == is_chosen
+            );
         }
     }
 
