@@ -1,6 +1,12 @@
+pub mod BuildConstraints
+pub mod BuildTags
+pub mod BuildValues
+pub mod Characters
+pub mod Headers
 pub mod Lexemes
 pub mod Lists
 pub mod Outline
+pub mod Platforms
 pub mod Terminals
 pub mod Tokens
 pub mod Trees

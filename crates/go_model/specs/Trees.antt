@@ -8,7 +8,6 @@ use Rattle.go_model.specs.declared.tree.Tree.{Tree}
 use Rattle.go_model.specs.declared.tree.TreeFile.{TreeFile}
 use Rattle.go_model.specs.declared.tree.LimitName.{LimitName}
 use Rattle.go_model.specs.declared.tree.LimitName.TheVariants as limit
-use Rattle.go_model.specs.declared.tree.TheConstants.{MOST_FILE_BYTES, MOST_FILES, MOST_BYTES, MOST_PACKAGES, MOST_FOLDERS}
 
 -- a byte from one to another
 unfoldable pub is_within : ℕ → ℕ → ℕ → Bool
@@ -40,19 +39,19 @@ IsFolderPath folder = (folder ≡ []) ⊎ (are_elements folder ≡ true)
 
 -- the number that a count may reach
 abbrev pub most : LimitName → ℕ
-most limit.FileBytes = MOST_FILE_BYTES
-most limit.Files = MOST_FILES
-most limit.Bytes = MOST_BYTES
-most limit.Packages = MOST_PACKAGES
-most limit.Folders = MOST_FOLDERS
+most limit.FileBytes = 4194304
+most limit.Files = 20000
+most limit.Bytes = 67108864
+most limit.Packages = 4096
+most limit.Folders = 65536
 
 -- a file as it stands in a tree
 pub record IsTreeFile (file : TreeFile) : Type 0 where
   pub placed : IsFolderPath file.folder
-  pub small : length file.bytes ≤ MOST_FILE_BYTES
+  pub small : length file.bytes ≤ most limit.FileBytes
 
 -- what every tree keeps that was read, whatever the store
 pub record IsTree (tree : Tree) : Type 0 where
   pub named : (tree.module ≡ []) ⊎ IsModulePath tree.module
-  pub few : length tree.files ≤ MOST_FILES
+  pub few : length tree.files ≤ most limit.Files
   pub held : Each IsTreeFile tree.files

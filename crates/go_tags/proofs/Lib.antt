@@ -1,0 +1,12 @@
+pub mod Clauses
+pub mod Complete
+pub mod Fronts
+pub mod Headers
+pub mod Lists
+pub mod Named
+pub mod NameEnds
+pub mod Runs
+pub mod Scans
+pub mod Sound
+pub mod Stepping
+pub mod Turns

@@ -1,0 +1,17 @@
+//! Build constraints: platforms by name, the headers of Go files with their build lines, and which
+//! files a platform chooses.
+#![tactic(auto)]
+
+mod characters;
+pub mod choice;
+mod clause;
+mod cursor;
+pub mod error;
+mod expression;
+mod front;
+pub mod header;
+mod lines;
+mod parts;
+pub mod platforms;
+pub mod tags;
+mod words;

@@ -1,0 +1,55 @@
+//! Platforms by name.
+ghost use Rattle.std.specs.Prelude.{◌≡◌, MatchOption};
+ghost use Rattle.go_model.specs.Lists.{Has};
+ghost use Rattle.go_model.specs.Platforms.{name_of};
+ghost use Rattle.go_model.specs.declared.platform.Platform.{Platform};
+
+use go_model::platform::Platform;
+
+/// The platform of this name, or `None` exactly where none has it.
+pub fn platform(text: &[u8]) -> Option<Platform>
+    ensures { MatchOption result ((p : Platform) → name_of p ≡ text.now → ⊥) (λ p. name_of p ≡ text.now) }
+{
+    find_named(&Platform::ALL, text)
+}
+
+/// The first of the platforms that has the name.
+fn find_named(platforms: &[Platform], text: &[u8]) -> Option<Platform>
+    ensures { MatchOption result ((p : Platform) → Has platforms.now p → name_of p ≡ text.now → ⊥) (λ p. name_of p ≡ text.now) }
+{
+    for candidate in platforms {
+        if candidate.name() == text {
+            return Some(*candidate);
+        }
+    }
+    None
+}
+
+/// No two platforms share a name.
+pub fn one_platform()
+    ensures { (p q : Platform) → name_of p ≡ name_of q → p ≡ q }
+{}
+
+#[cfg(test)]
+mod tests {
+    use super::platform;
+    use go_model::platform::Platform;
+
+    #[test]
+    fn knows_each_name_and_no_other(rt: HostRuntime) {
+        for known in Platform::ALL {
+            assert!(rt; platform(known.name()) == Some(known));
+        }
+        let unknown: [&[u8]; 6] = [
+            b"",
+            b"linux",
+            b"linux-",
+            b"linux-amd64 ",
+            b"Linux-amd64",
+            b"js-wasm",
+        ];
+        for text in unknown {
+            assert!(rt; platform(text).is_none());
+        }
+    }
+}
