@@ -28,14 +28,14 @@ pub gathered_more : (ds : List Decl) (i : ℕ) (d : Decl) (before : List Constan
     → constants_of ds ≡ after_all before (constants_of (drop i ds)) → constants_of ds ≡ after_all (before ++ c ∷ []) (constants_of (drop (i + 1) ds))
 gathered_more ds i d before c h e is so =
     so ∙ ap (λ (rest : List Decl). after_all before (constants_of rest)) (next_drop ds i d h e)
-      ∙ ap (λ (o : Option Constant). after_all before (then_first o (constants_of (drop (i + 1) ds)))) (sym is)
-      ∙ one_more before c (constants_of (drop (i + 1) ds))
+    ∙ ap (λ (o : Option Constant). after_all before (then_first o (constants_of (drop (i + 1) ds)))) (sym is)
+    ∙ one_more before c (constants_of (drop (i + 1) ds))
 
 pub gathered_none : (ds : List Decl) (i : ℕ) (d : Decl) (before : List Constant) → i < length ds → d ≡ get_or ds i d → None ≡ constant_of d
     → constants_of ds ≡ after_all before (constants_of (drop i ds)) → constants_of ds ≡ None
 gathered_none ds i d before h e is so =
     so ∙ ap (λ (rest : List Decl). after_all before (constants_of rest)) (next_drop ds i d h e)
-      ∙ ap (λ (o : Option Constant). after_all before (then_first o (constants_of (drop (i + 1) ds)))) (sym is)
+    ∙ ap (λ (o : Option Constant). after_all before (then_first o (constants_of (drop (i + 1) ds)))) (sym is)
 
 past_all : (i : ℕ) (ds : List Decl) → length ds ≡ i → drop i ds ≡ []
 past_all zero [] h = refl

@@ -49,6 +49,7 @@ has_taken (x ∷ items) zero a b h e t = elim (subst (λ (n : ℕ). Has (take n 
   where
     zero_one : 0 + 1 ≡ suc 0
     zero_one = omega arith
+
     none : Has (take 0 items) b → ⊥
     none r = r
 has_taken (x ∷ items) (suc i) a b h e t = elim (subst (λ (n : ℕ). Has (take n (x ∷ items)) b) (suc_one i) t) [ inl s ↦ inl (inl s) | inr r ↦ elim (has_taken items i a b (omega arith) e r) [ inl f ↦ inl (inr f) | inr s ↦ inr s ] ]

@@ -52,9 +52,10 @@ module _ (words : List (List ℕ)) (m : Contents) where
 
   pub ran : (d : Decision) (got : Status) (ro re : Type 0) (out out' err err' : Bytes) → AgreesWith words m d → Delivered d got ro re out out' err err' → Ran words m got ro re out out' err err'
   ran d got ro re out out' err err' h w =
-      elim (whole_or_failed d got ro re out out' err err' w)
-        [ inl a ↦ subst (λ (s : Status). Ran words m s ro re out out' err err') (sym a.0) (ran_whole d ro re out out' err err' h a.1 a.2)
-        | inr f ↦ subst (λ (s : Status). Ran words m s ro re out out' err err') (sym f.0) (outcome_of d, may_end d h, f.1) ]
+      elim (whole_or_failed d got ro re out out' err err' w) [
+        | inl a ↦ subst (λ (s : Status). Ran words m s ro re out out' err err') (sym a.0) (ran_whole d ro re out out' err err' h a.1 a.2)
+        | inr f ↦ subst (λ (s : Status). Ran words m s ro re out out' err err') (sym f.0) (outcome_of d, may_end d h, f.1)
+      ]
 
 pub told_ran : (words : List (List ℕ)) (files : Option Contents) (d : Decision) (got : Status) (ro re : Type 0) (out out' err err' : Bytes) → Told files (λ m. AgreesWith words m d) → Delivered d got ro re out out' err err' → Told files (λ m. Ran words m got ro re out out' err err')
 told_ran words None d got ro re out out' err err' h w = tt
@@ -83,9 +84,10 @@ fixed_fault decision.NoMemory f = inr (inr (inr (inr refl)))
 
 pub wrote : (d : Decision) (got : Status) (ro re : Type 0) (out out' err err' : Bytes) → IsFixed d → Delivered d got ro re out out' err err' → Wrote got ro re out out' err err'
 wrote d got ro re out out' err err' f w =
-    elim (whole_or_failed d got ro re out out' err err' w)
-      [ inl a ↦ subst (λ (s : Status). Wrote s ro re out out' err err') (sym a.0) (wrote_whole d ro re out out' err err' f a.1 a.2)
-      | inr g ↦ subst (λ (s : Status). Wrote s ro re out out' err err') (sym g.0) (output_of d, fault_of d, fixed_output d f, fixed_fault d f, g.1) ]
+    elim (whole_or_failed d got ro re out out' err err' w) [
+      | inl a ↦ subst (λ (s : Status). Wrote s ro re out out' err err') (sym a.0) (wrote_whole d ro re out out' err err' f a.1 a.2)
+      | inr g ↦ subst (λ (s : Status). Wrote s ro re out out' err err') (sym g.0) (output_of d, fault_of d, fixed_output d f, fixed_fault d f, g.1)
+    ]
 
 -- the status is that of the decision, or of a write fault
 pub ends_as : (d : Decision) (got : Status) (ro re : Type 0) (out out' err err' : Bytes) → Delivered d got ro re out out' err err' → (got ≡ status_of d) ⊎ (got ≡ status.WriteFault)
@@ -134,10 +136,13 @@ no_output d o = elim o [ inl e ↦ ap output_of e | inr e ↦ ap output_of e ]
 pub ended_bad_words : (d : Decision) (got : Status) (ro re : Type 0) (out out' err err' : Bytes) → Delivered d got ro re out out' err err' → (d ≡ decision.Words) ⊎ (d ≡ decision.NoMemory)
     → ((got ≡ status.Words) ⊎ (got ≡ status.WriteFault) ⊎ (got ≡ status.NoMemory)) × Takes out [] out'
 ended_bad_words d got ro re out out' err err' w o =
-    elim (whole_or_failed d got ro re out out' err err' w)
-      [ inl a ↦ (elim o as (λ _. (got ≡ status.Words) ⊎ (got ≡ status.WriteFault) ⊎ (got ≡ status.NoMemory)) [ inl e ↦ inl (a.0 ∙ ap status_of e) | inr e ↦ inr (inr (a.0 ∙ ap status_of e)) ],
-          subst (λ (t : List ℕ). Takes out t out') (no_output d o) a.1)
-      | inr f ↦ (inr (inl f.0), nothing_out (output_of d) (fault_of d) ro re out out' err err' (no_output d o) f.1) ]
+    elim (whole_or_failed d got ro re out out' err err' w) [
+      | inl a ↦ (
+        elim o as (λ _. (got ≡ status.Words) ⊎ (got ≡ status.WriteFault) ⊎ (got ≡ status.NoMemory)) [ inl e ↦ inl (a.0 ∙ ap status_of e) | inr e ↦ inr (inr (a.0 ∙ ap status_of e)) ],
+        subst (λ (t : List ℕ). Takes out t out') (no_output d o) a.1,
+      )
+      | inr f ↦ (inr (inl f.0), nothing_out (output_of d) (fault_of d) ro re out out' err err' (no_output d o) f.1)
+    ]
 
 -- one outcome for words and files, from one package and one report
 module _ (one_package : (m : Contents) (dir : List ℕ) (a b : PackageConstants) → IsPackage m dir a → IsPackage m dir b → a ≡ b)

@@ -49,9 +49,12 @@ takes_piece old mid new bytes at end h first second =
 -- a front of a piece more
 pub takes_front : (old mid new : Option (List ℕ)) (bytes : List ℕ) (at end : ℕ) → at ≤ end → end ≤ length bytes → Takes old (take at bytes) mid → TakesSome mid (take (end - at) (drop at bytes)) new → TakesSome old bytes new
 takes_front old mid new bytes at end h within first second =
-    let small : second.0 ≤ end - at = omega (arith, second.1, length-take-le (end - at) (drop at bytes) (omega (arith, length-drop at bytes))) in
-    (at + second.0, omega arith, takes_piece old mid new bytes at (at + second.0) (omega arith) first
-      (subst (λ (w : List ℕ). Takes mid w new) (take_of_take second.0 (end - at) (drop at bytes) small ∙ ap (λ n. take n (drop at bytes)) (omega arith)) second.2))
+    let small : second.0 ≤ end - at = omega (arith, second.1, length-take-le (end - at) (drop at bytes) (omega (arith, length-drop at bytes))) in (
+      at + second.0,
+      omega arith,
+      takes_piece old mid new bytes at (at + second.0) (omega arith) first
+          (subst (λ (w : List ℕ). Takes mid w new) (take_of_take second.0 (end - at) (drop at bytes) small ∙ ap (λ n. take n (drop at bytes)) (omega arith)) second.2),
+    )
 
 -- what an attempt to write leaves
 pub tried : (rose : Type 0) (old new : Option (List ℕ)) (bytes : List ℕ) (before now : ℕ) (r : Result (Unit {0}) SinkError) → AnswersWrite old bytes new r → SinkCause before now r → (Rose before now → rose) → Tried rose old bytes new

@@ -38,8 +38,10 @@ or_true false = refl
 pub has_found : (ks : List (List ℕ)) (k : List ℕ) → Has ks k → list_any (λ y. is_eq (order k y)) ks ≡ true
 has_found [] k h = absurd h
 has_found (x ∷ xs) k h =
-    elim h [ inl e ↦ ap (λ o. is_eq o || list_any (λ y. is_eq (order k y)) xs) (ap (order k) e ∙ equal_itself (order k k) (nat_list_cmp_total.antisymm k k))
-           | inr r ↦ ap (λ b. is_eq (order k x) || b) (has_found xs k r) ∙ or_true (is_eq (order k x)) ]
+    elim h [
+      | inl e ↦ ap (λ o. is_eq o || list_any (λ y. is_eq (order k y)) xs) (ap (order k) e ∙ equal_itself (order k k) (nat_list_cmp_total.antisymm k k))
+      | inr r ↦ ap (λ b. is_eq (order k x) || b) (has_found xs k r) ∙ or_true (is_eq (order k x))
+    ]
 
 pub next_drop : {A : Type 0} (xs : List A) (i : ℕ) (x : A) → i < length xs → x ≡ get_or xs i x → drop i xs ≡ x ∷ drop (i + 1) xs
 next_drop [] i x h e = absurd (omega arith)

@@ -17,7 +17,8 @@ pub enum Decision {
     NoMemory,
 }
 
-const WORDS_LINE: &[u8] = b"apigate: usage: apigate features or frozen or judge or advise or gate or vet or make, then options\n";
+const WORDS_LINE: &[u8] =
+    b"apigate: usage: apigate features or frozen or judge or advise or gate or vet or make, then options\n";
 
 const READ_LINE: &[u8] = b"apigate: read fault\n";
 

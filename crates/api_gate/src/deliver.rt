@@ -30,7 +30,11 @@ pub fn write_pieces<S: Sink>(sink: &mut S, bytes: &[u8]) -> Result<(), SinkError
 {
     let mut at = 0usize;
     while at < bytes.len() {
-        let end = if bytes.len() - at < PIECE { bytes.len() } else { at + PIECE };
+        let end = if bytes.len() - at < PIECE {
+            bytes.len()
+        } else {
+            at + PIECE
+        };
         if let Err(error) = write_piece(sink, &bytes[at..end]) {
             return Err(error);
         }

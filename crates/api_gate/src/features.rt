@@ -114,5 +114,4 @@ pub fn report(alloc: Global, packages: &[PackageConstants]) -> Result<Text, NoMe
 /// Packages have one report.
 pub fn one_report()
     ensures { (packages : List PackageConstants) (a b : List ℕ) → IsReport packages a → IsReport packages b → a ≡ b }
-{
-}
+{}

@@ -56,7 +56,10 @@ fn package_from(
         return Err(FirstFormError::NotYet);
     }
     let path = path_of(alloc, form.path.bytes(), form.folder.bytes())?;
-    let Source { package_name: _, constants } = source;
+    let Source {
+        package_name: _,
+        constants,
+    } = source;
     Ok(PackageConstants { path, constants })
 }
 

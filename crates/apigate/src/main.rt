@@ -7,10 +7,9 @@ use go_model::steps::Steps;
 use go_outside::gate::OpenGate;
 use go_outside::host_files::HostFiles;
 use go_outside::host_sink::HostSink;
-use std::env;
-use std::io;
 use std::io::ErrorKind;
 use std::process::ExitCode;
+use std::{env, io};
 
 // The words after the program's name.
 fn words_of(rt: &HostRuntime) -> io::Result<Vec<String>> {

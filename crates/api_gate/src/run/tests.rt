@@ -12,7 +12,8 @@ use go_outside::memory_sink::MemorySink;
 use go_outside::sink::SinkError;
 use std::test::Fail;
 
-const WORDS_LINE: &[u8] = b"apigate: usage: apigate features or frozen or judge or advise or gate or vet or make, then options\n";
+const WORDS_LINE: &[u8] =
+    b"apigate: usage: apigate features or frozen or judge or advise or gate or vet or make, then options\n";
 
 fn store(alloc: Global, pairs: &[(&str, &[u8])]) -> Result<MemoryFiles, Fail> {
     let mut list = List::new(alloc);
@@ -42,7 +43,16 @@ fn features_of<R: Threads + Sync + AllocGlobal, F: Files, S: Sink, E: Sink>(
 ) -> Result<u8, Fail> {
     let words = words_of(rt.alloc(), &["features", "--new", "new"])?;
     let mut steps = Steps::new(());
-    let status = run(rt, rt.alloc(), &words, files, out, err, &OpenGate, &mut steps);
+    let status = run(
+        rt,
+        rt.alloc(),
+        &words,
+        files,
+        out,
+        err,
+        &OpenGate,
+        &mut steps,
+    );
     let _checks = steps.end();
     Ok(status.code())
 }
@@ -75,13 +85,17 @@ fn prints_the_lines_of_constants_in_order(rt: HostRuntime) -> Result<(), Fail> {
     let alloc = rt.alloc();
     let pairs = [
         ("new/go.mod", b"module m\n".as_slice()),
-        ("new/p/p.go", b"package p\nconst Xb = 5\nconst X =\n5\nconst X0 = 170141183460469231731687303715884105727".as_slice()),
+        (
+            "new/p/p.go",
+            b"package p\nconst Xb = 5\nconst X =\n5\nconst X0 = 170141183460469231731687303715884105727".as_slice(),
+        ),
     ];
     let mut files = store(alloc, &pairs)?;
     let mut out = MemorySink::with_capacity(alloc, 1000)?;
     let mut err = MemorySink::new();
     assert_eq!(rt; features_of(&rt, &mut files, &mut out, &mut err)?, 0);
-    let report = b"pkg m/p, const X = 5\npkg m/p, const X ideal-int\npkg m/p, const X0 = 170141183460469231731687303715884105727\npkg m/p, const X0 ideal-int\npkg m/p, const Xb = 5\npkg m/p, const Xb ideal-int\n";
+    let report =
+        b"pkg m/p, const X = 5\npkg m/p, const X ideal-int\npkg m/p, const X0 = 170141183460469231731687303715884105727\npkg m/p, const X0 ideal-int\npkg m/p, const Xb = 5\npkg m/p, const Xb ideal-int\n";
     assert_eq!(rt; out.bytes(), report.as_slice());
     Ok(())
 }
@@ -107,10 +121,7 @@ fn numbers(alloc: Global, all: &[u64]) -> Result<List<u64>, NoMemory> {
     Ok(list)
 }
 
-fn refuses<R: Threads + Sync + AllocGlobal>(
-    rt: &R,
-    pairs: &[(&str, &[u8])],
-) -> Result<bool, Fail> {
+fn refuses<R: Threads + Sync + AllocGlobal>(rt: &R, pairs: &[(&str, &[u8])]) -> Result<bool, Fail> {
     let alloc = rt.alloc();
     let mut files = store(alloc, pairs)?;
     let mut out = MemorySink::new();
@@ -142,7 +153,10 @@ fn refuses_sources_of_other_forms(rt: HostRuntime) -> Result<(), Fail> {
         b"package p\nconst\nX = 5\nconst X\n= 5\n".as_slice(),
         b"const X = 5\n".as_slice(),
     ] {
-        let pairs = [("new/go.mod", b"module m\n".as_slice()), ("new/p/p.go", source)];
+        let pairs = [
+            ("new/go.mod", b"module m\n".as_slice()),
+            ("new/p/p.go", source),
+        ];
         assert!(rt; refuses(&rt, &pairs)?, "{source:?}");
     }
     Ok(())
@@ -169,7 +183,10 @@ fn refuses_module_lines_of_other_forms(rt: HostRuntime) -> Result<(), Fail> {
         b"module m/\n".as_slice(),
         b"module m\xc3\x84\n".as_slice(),
     ] {
-        let pairs = [("new/go.mod", line), ("new/p/p.go", b"package p".as_slice())];
+        let pairs = [
+            ("new/go.mod", line),
+            ("new/p/p.go", b"package p".as_slice()),
+        ];
         assert!(rt; refuses(&rt, &pairs)?, "{line:?}");
     }
     Ok(())
@@ -180,7 +197,11 @@ fn refuses_trees_of_other_forms(rt: HostRuntime) -> Result<(), Fail> {
     let module = ("new/go.mod", b"module m\n".as_slice());
     let source = b"package p".as_slice();
     let trees = [
-        [("old/go.mod", b"module m\n".as_slice()), ("old/p/p.go", source), ("old/q", source)],
+        [
+            ("old/go.mod", b"module m\n".as_slice()),
+            ("old/p/p.go", source),
+            ("old/q", source),
+        ],
         [module, ("new/p/p.go", source), ("new/README", source)],
         [module, ("new/p/p.go", source), ("new/p/q.go", source)],
         [module, ("new/p/p.go", source), ("new/q/q.go", source)],
@@ -194,8 +215,16 @@ fn refuses_trees_of_other_forms(rt: HostRuntime) -> Result<(), Fail> {
         [module, ("new/p/p", source), ("old", source)],
         [module, ("new/p/p1.go", source), ("old", source)],
         [module, ("new/p.go", source), ("old", source)],
-        [("new/go.mod/x", source), ("new/p/p.go", source), ("old", source)],
-        [("new/go.mo", source), ("new/p/p.go", source), ("old", source)],
+        [
+            ("new/go.mod/x", source),
+            ("new/p/p.go", source),
+            ("old", source),
+        ],
+        [
+            ("new/go.mo", source),
+            ("new/p/p.go", source),
+            ("old", source),
+        ],
     ];
     for (number, tree) in trees.iter().enumerate() {
         assert!(rt; refuses(&rt, tree)?, "tree {number}");
@@ -226,7 +255,9 @@ fn knows_good_words_from_others(rt: HostRuntime) -> Result<(), Fail> {
         let mut out = MemorySink::new();
         let mut err = MemorySink::with_capacity(alloc, 1000)?;
         let mut steps = Steps::new(());
-        let status = run(&rt, alloc, &all, &mut files, &mut out, &mut err, &OpenGate, &mut steps);
+        let status = run(
+            &rt, alloc, &all, &mut files, &mut out, &mut err, &OpenGate, &mut steps,
+        );
         assert_eq!(rt; steps.end(), 0);
         assert_eq!(rt; status.code(), 2, "{words:?}");
         assert_eq!(rt; err.bytes(), WORDS_LINE);
@@ -307,14 +338,22 @@ fn large(alloc: Global) -> Result<MemoryFiles, Fail> {
     for number in 1000..4200 {
         source.extend_from_slice(format!(in alloc; "const X{number} = {number}\n")?.as_bytes())?;
     }
-    store(alloc, &[("new/go.mod", b"module m\n".as_slice()), ("new/p/p.go", source.as_slice())])
+    store(
+        alloc,
+        &[
+            ("new/go.mod", b"module m\n".as_slice()),
+            ("new/p/p.go", source.as_slice()),
+        ],
+    )
 }
 
 #[test]
 fn writes_pieces_of_65536_bytes(rt: HostRuntime) -> Result<(), Fail> {
     let alloc = rt.alloc();
     let mut files = large(alloc)?;
-    let mut out = Sizes { sizes: List::new(alloc) };
+    let mut out = Sizes {
+        sizes: List::new(alloc),
+    };
     let mut err = MemorySink::new();
     assert_eq!(rt; features_of(&rt, &mut files, &mut out, &mut err)?, 0);
     assert_eq!(rt; out.sizes.items(), [65536, 65536, 57728].as_slice());
@@ -326,7 +365,10 @@ fn names_each_fault_of_an_output(rt: HostRuntime) -> Result<(), Fail> {
     let alloc = rt.alloc();
     for (write, taken) in [(1, 0), (2, 65536), (3, 131072)] {
         let mut files = large(alloc)?;
-        let mut out = FailingSink::new(MemorySink::with_capacity(alloc, 200_000)?, numbers(alloc, &[write])?);
+        let mut out = FailingSink::new(
+            MemorySink::with_capacity(alloc, 200_000)?,
+            numbers(alloc, &[write])?,
+        );
         let mut err = MemorySink::with_capacity(alloc, 1000)?;
         assert_eq!(rt; features_of(&rt, &mut files, &mut out, &mut err)?, 5);
         assert_eq!(rt; out.bytes().len(), taken);
@@ -337,7 +379,16 @@ fn names_each_fault_of_an_output(rt: HostRuntime) -> Result<(), Fail> {
     let mut out = MemorySink::new();
     let mut err = MemorySink::new();
     let mut steps = Steps::new(());
-    let status = run(&rt, alloc, &words, &mut Silent, &mut out, &mut err, &OpenGate, &mut steps);
+    let status = run(
+        &rt,
+        alloc,
+        &words,
+        &mut Silent,
+        &mut out,
+        &mut err,
+        &OpenGate,
+        &mut steps,
+    );
     let _checks = steps.end();
     assert_eq!(rt; status.code(), 5);
     Ok(())

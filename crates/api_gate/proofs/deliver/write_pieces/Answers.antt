@@ -6,7 +6,7 @@ use Rattle.api_gate.proofs.deliver.write_pieces.Goals.{then-bytes-at-lt-PIECE, e
 pub loop-at-preserved : goal.loop-at-preserved
 loop-at-preserved g c =
     let ends : (c.loop-at.at ≤ c.if-bytes-at-lt-PIECE.end) × (c.if-bytes-at-lt-PIECE.end ≤ length c.args.bytes.now) =
-      elim c.if-bytes-at-lt-PIECE.branch [ then-bytes-at-lt-PIECE w ↦ (omega arith, omega arith) | else-bytes-at-lt-PIECE w ↦ (omega arith, omega arith) ] in
+    elim c.if-bytes-at-lt-PIECE.branch [ then-bytes-at-lt-PIECE w ↦ (omega arith, omega arith) | else-bytes-at-lt-PIECE w ↦ (omega arith, omega arith) ] in
     record {
       taken = takes_piece _ _ _ c.args.bytes.now c.loop-at.at c.if-bytes-at-lt-PIECE.end ends.0 c.loop-at.invariant.taken c.in_default.ensures.bytes;
       within = ends.1;
@@ -16,5 +16,5 @@ loop-at-preserved g c =
 pub returns-in-Err-clause-bytes : goal.returns-in-Err-clause-bytes
 returns-in-Err-clause-bytes g c =
     let ends : (c.loop-at.at ≤ c.if-bytes-at-lt-PIECE.end) × (c.if-bytes-at-lt-PIECE.end ≤ length c.args.bytes.now) =
-      elim c.if-bytes-at-lt-PIECE.branch [ then-bytes-at-lt-PIECE w ↦ (omega arith, omega arith) | else-bytes-at-lt-PIECE w ↦ (omega arith, omega arith) ] in
+    elim c.if-bytes-at-lt-PIECE.branch [ then-bytes-at-lt-PIECE w ↦ (omega arith, omega arith) | else-bytes-at-lt-PIECE w ↦ (omega arith, omega arith) ] in
     takes_front _ _ _ c.args.bytes.now c.loop-at.at c.if-bytes-at-lt-PIECE.end ends.0 ends.1 c.loop-at.invariant.taken c.in-Err.ensures.bytes

@@ -9,8 +9,8 @@ returns-clause-outcome g c = told_ran _ _ _ _ _ _ _ _ _ _ c.decide-decision.ensu
 pub returns-clause-complete : goal.returns-clause-complete
 returns-clause-complete g c =
     told_complete c.one_outcome.ensures _ _ _ _ _ _ _ _ _ _ (told_ran _ _ _ _ _ _ _ _ _ _ c.decide-decision.ensures.told c.deliver.ensures.written)
-      (λ h. inl (c.decide-decision.ensures.read (ended_read _ _ _ _ _ _ _ _ c.deliver.ensures.written h)))
-      (λ h. inr (c.deliver.ensures.cause h))
+    (λ h. inl (c.decide-decision.ensures.read (ended_read _ _ _ _ _ _ _ _ c.deliver.ensures.written h)))
+    (λ h. inr (c.deliver.ensures.cause h))
 
 pub returns-clause-wrote : goal.returns-clause-wrote
 returns-clause-wrote g c = wrote _ _ _ _ _ _ _ _ c.decide-decision.ensures.fixed c.deliver.ensures.written
