@@ -1,25 +1,21 @@
 -- A folder's entries, and what is told of them.
-use Rattle.std.proofs.Common.{◌≡◌, ◌≢◌, ℕ, Bool, true, false, not, ◌&&◌, ◌||◌, nat_eq, cond, Option, Some, None, List, [], ◌∷◌, ◌++◌, length, refl, sym, ap, ◌∙◌, subst, ◌⊎◌, inl, inr, Result, Ok, Err, append_assoc, arith}
+use Rattle.std.proofs.Common.{◌≡◌, ℕ, Bool, true, false, not, ◌&&◌, ◌||◌, nat_eq, cond, List, [], ◌∷◌, ◌++◌, length, refl, sym, ap, ◌∙◌, subst, inl, inr, Result, Ok, Err, arith}
 use mathlib.Core.Bool.{true≢false}
-use Rattle.std.specs.FinMap.{get}
-use Rattle.std.specs.List.{list_any, list_all, prefix_len, slice_split, onto_first}
+use Rattle.std.specs.List.{list_any, list_all, slice_split, onto_first}
 use Rattle.std.proofs.lemmas.Bool.Decides.{Decides-eqb}
 use Rattle.go_model.specs.Lists.{Has, Ascending}
-use Rattle.go_model.specs.Trees.{most, is_element, is_element_byte, is_within, begins_element, are_elements, IsFolderPath}
-use Rattle.go_model.specs.declared.tree.TreeFile.{TreeFile}
+use Rattle.go_model.specs.Trees.{is_element, is_element_byte, is_within, begins_element, are_elements, IsFolderPath}
 use Rattle.go_outside.specs.declared.files.Entry.{Entry}
 use Rattle.go_outside.specs.declared.files.EntryKind.TheVariants as entry
 use Rattle.go_outside.specs.Paths.{Path, not_slash}
 use Rattle.go_outside.specs.Stores.{Contents, IsTold, IsListing}
 use Rattle.go_load.specs.Names.{is_candidate, is_walked, is_hidden, go_mod, under, place, entry_place}
-use Rattle.go_load.specs.Walk.{is_deep, takes_files, IsThere, IsOtherModule, IsChild, IsCandidate, AreCandidates, Event, folder_event, events_of, files_of, first_refusal}
-use Rattle.go_load.specs.Steps.{Grows, Enters, ListsModule, AreNamed, TakesAll, Takes, with_package, Counted, Lists, Visits, ArePlaced, IsName, IsSub, IsChildAt, file_entry, folder_entry, files_at}
-use Rattle.go_load.specs.declared.counts.Counts.{Counts}
+use Rattle.go_load.specs.Walk.{takes_files, IsOtherModule, AreCandidates, folder_event, files_of}
+use Rattle.go_load.specs.Steps.{Grows, Enters, ListsModule, AreNamed, TakesAll, with_package, Counted, Lists, Visits, ArePlaced, IsName, IsChildAt, file_entry, folder_entry}
 use Rattle.go_load.specs.declared.walk.Taken.{Taken}
 use Rattle.go_load.specs.declared.error.LoadError.{LoadError}
 use Rattle.go_load.specs.declared.error.LoadError.TheVariants as error
 use Rattle.go_load.specs.declared.kind.TreeKind.{TreeKind}
-use Rattle.go_load.specs.declared.kind.TreeKind.TheVariants as kind
 use Rattle.go_load.specs.declared.walk.Wanted.TheVariants as wanted
 use Rattle.std.proofs.lemmas.List.Splits.{length-slice_split}
 use Rattle.std.proofs.lemmas.List.Folds.{list_all-append}
@@ -133,19 +129,6 @@ are_named tree folder entries names takes up g = record {
   complete = λ name t c h. g.complete name (file_entry name, h, (refl, c, refl));
 }
 
-pub none_named : (tree : TreeKind) (folder : Path) (entries : List Entry) → takes_files tree folder ≡ false → AreNamed tree folder entries []
-none_named tree folder entries f = record { ascending = tt; sound = λ name h. absurd h; complete = λ name t c h. true≢false (sym t ∙ f) }
-
--- the folders among entries
-pub enters_none : (tree : TreeKind) (folder : Path) (entries : List Entry) (old : List Path) → is_deep tree ≡ false → Grows (Enters tree folder entries) old old
-enters_none tree folder entries old f = record { sound = λ x h. inl h; kept = λ x h. h; complete = λ x c. absurd (true≢false (sym c.0 ∙ f)) }
-
-pub enters_all : (tree : TreeKind) (folder : Path) (entries : List Entry) (files old new : List Path) → is_deep tree ≡ true → Grows (IsName wanted.All entries) [] files → Grows (IsSub folder files entries) old new → Grows (Enters tree folder entries) old new
-enters_all tree folder entries files old new deep names g = grows_as
-    (λ x c. (deep, (c.0, c.1, c.2.0.folder, c.2.0.walked, (λ h. c.2.0.alone (names.complete c.0.name (file_entry c.0.name, h, (refl, refl, refl)))), c.2.1)))
-    (λ x c. (c.1.0, c.1.1, (record { folder = c.1.2; walked = c.1.3; alone = λ h. elim (names.sound c.1.0.name h) [ inl o ↦ absurd o | inr n ↦ c.1.4 (subst (Has entries) (file_named n.0 c.1.0.name n.2.0 n.2.2) n.1) ] }, c.1.5)))
-    g
-
 folder_of : (e : Entry) → e.kind ≡ entry.Folder → e ≡ folder_entry e.name
 folder_of e k = λ i. record { name = e.name; kind = k i }
 
@@ -202,22 +185,6 @@ module _ (m : Contents) (tree : TreeKind) (root folder : Path) (entries : List E
 
 -- a turn of the walk
 module _ (m : Contents) (tree : TreeKind) (root folder : Path) (pending pending' : List Path) (old new : Taken) where
-  pub visits_uncounted : (mid : Counts) (e : LoadError) → Counted (folder_event folder ∷ []) old.counts mid (Err e) → Visits m tree root folder pending pending' old new (Err e)
-  visits_uncounted mid (error.Missing p) c = absurd c
-  visits_uncounted mid error.NoModule c = c
-  visits_uncounted mid error.BadModule c = c
-  visits_uncounted mid (error.Limit l p) c = inl c
-  visits_uncounted mid error.ReadFault c = tt
-  visits_uncounted mid error.NoMemory c = tt
-
-  pub visits_unlisted : (at : Path) (e : LoadError) → at ≡ place root folder → Lists m at folder (Err e) → Visits m tree root folder pending pending' old new (Err e)
-  visits_unlisted at (error.Missing p) is l = (subst (λ (w : Path). IsThere m w → ⊥) is l.0, l.1)
-  visits_unlisted at error.NoModule is l = l
-  visits_unlisted at error.BadModule is l = l
-  visits_unlisted at (error.Limit l p) is h = absurd h
-  visits_unlisted at error.ReadFault is l = tt
-  visits_unlisted at error.NoMemory is l = tt
-
   -- another module
   pub visits_other : (at : Path) (entries : List Entry) → at ≡ place root folder → Lists m at folder (Ok entries) → ListsModule tree folder entries → Counted (folder_event folder ∷ []) old.counts new.counts (Ok tt) → pending' ≡ pending → new.files ≡ old.files → Visits m tree root folder pending pending' old new (Ok tt)
   visits_other at entries is l other c same files =

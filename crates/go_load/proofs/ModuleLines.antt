@@ -1,14 +1,13 @@
 -- Lines of `go.mod`, and the path that one of them names.
-use Rattle.std.proofs.Common.{◌≡◌, ℕ, zero, suc, ◌+◌, ◌-◌, ◌<◌, ◌≤◌, Bool, true, false, not, cond, if◌then◌else◌, ◌&&◌, nat_eq, nat_lt, Option, Some, None, List, [], ◌∷◌, ◌++◌, length, take, drop, get_or, refl, sym, ap, ◌∙◌, subst, ◌⊎◌, inl, inr, arith, append_assoc, IsTrue, filter}
+use Rattle.std.proofs.Common.{◌≡◌, ℕ, zero, suc, ◌+◌, ◌-◌, ◌<◌, ◌≤◌, Bool, true, false, not, cond, if◌then◌else◌, ◌&&◌, nat_eq, List, [], ◌∷◌, ◌++◌, length, take, drop, get_or, refl, sym, ap, ◌∙◌, subst, inl, inr, arith}
 use mathlib.Core.Bool.{true≢false}
 use Rattle.std.specs.Cmp.Lexicographic.{pointwise}
-use Rattle.std.specs.List.{list_all, slice_split, onto_first, position, prefix_len}
-use Rattle.std.proofs.Math.Seq.{take-append_seam, drop-append_seam}
+use Rattle.std.specs.List.{list_all, slice_split, onto_first, prefix_len}
+use Rattle.std.proofs.Math.Seq.{take-append_seam}
 use Rattle.std.proofs.lemmas.List.{take-append-drop, length-append}
 use Rattle.std.proofs.lemmas.Slice.Eq.{bytes_eq-Decides}
-use Rattle.std.proofs.lemmas.List.Quantifiers.{position-Some}
 use Rattle.go_model.specs.Trees.{is_element_byte, is_element, is_within, begins_element, are_elements, IsModulePath}
-use Rattle.go_load.specs.GoMod.{is_module_line, module_lines, second_word, after_second, is_blank, Names, IsModuleOf, IsWritten, before_comment}
+use Rattle.go_load.specs.GoMod.{second_word, IsWritten, before_comment}
 use Rattle.go_load.specs.Steps.{IsUnquoted, NamesModule}
 use Rattle.go_load.specs.Names.{begins}
 
@@ -48,28 +47,6 @@ pub parts_at : (separator : ℕ) (bytes front rest : Text) (n : ℕ) → n ≡ b
 parts_at separator bytes front rest n e l ne f r =
     parts_front separator bytes (omega (arith, e, l, ne)) ∙ (λ i. (ap (λ k. take k bytes) (sym e) ∙ sym f) i ∷ parts separator ((ap (λ k. drop (k + 1) bytes) (sym e) ∙ sym r) i))
 
--- module lines
-pub line_found : (bytes line more : Text) → parts 10 bytes ≡ line ∷ parts 10 more → is_module_line line ≡ true → module_lines bytes ≡ line ∷ module_lines more
-line_found bytes line more e t = ap (filter is_module_line) e ∙ ap (λ b. cond b (line ∷ module_lines more) (module_lines more)) t
-
-pub line_passed : (bytes line more : Text) → parts 10 bytes ≡ line ∷ parts 10 more → is_module_line line ≡ false → module_lines bytes ≡ module_lines more
-line_passed bytes line more e t = ap (filter is_module_line) e ∙ ap (λ b. cond b (line ∷ module_lines more) (module_lines more)) t
-
-pub last_found : (bytes : Text) → parts 10 bytes ≡ bytes ∷ [] → is_module_line bytes ≡ true → module_lines bytes ≡ bytes ∷ module_lines []
-last_found bytes e t = ap (filter is_module_line) e ∙ ap (λ b. cond b (bytes ∷ []) []) t
-
-pub last_passed : (bytes : Text) → parts 10 bytes ≡ bytes ∷ [] → is_module_line bytes ≡ false → module_lines bytes ≡ []
-last_passed bytes e t = ap (filter is_module_line) e ∙ ap (λ b. cond b (bytes ∷ []) []) t
-
-pub no_line : (line : Text) (found : List Text) → found ≡ [] → found ≡ line ∷ [] → ⊥
-no_line line found none one = let h : ◌≡◌ {A = List Text} [] (line ∷ []) = sym none ∙ one in cc
-
-pub two_lines : (line first second : Text) (found more rest : List Text) → found ≡ first ∷ more → more ≡ second ∷ rest → found ≡ line ∷ [] → ⊥
-two_lines line first second found more rest e f one = let h : ◌≡◌ {A = List Text} (first ∷ second ∷ rest) (line ∷ []) = sym (e ∙ ap (λ w. first ∷ w) f) ∙ one in cc
-
-pub one_line : (first : Text) (found more : List Text) → found ≡ first ∷ more → more ≡ [] → found ≡ first ∷ []
-one_line first found more e f = e ∙ ap (λ w. first ∷ w) f
-
 -- a text between two others
 pub fronted : (text front rest : Text) → pointwise nat_eq (take (length front) text) front ≡ true → rest ≡ drop (length front) text → text ≡ front ++ rest
 fronted text front rest t e = sym (take-append-drop (length front) text) ∙ (λ i. (bytes_eq-Decides (take (length front) text) front).0 t i ++ sym e i)
@@ -77,21 +54,8 @@ fronted text front rest t e = sym (take-append-drop (length front) text) ∙ (λ
 pub not_fronted : (text front rest : Text) → pointwise nat_eq (take (length front) text) front ≡ false → text ≡ front ++ rest → ⊥
 not_fronted text front rest f e = true≢false (sym ((bytes_eq-Decides (take (length front) text) front).1 (ap (take (length front)) e ∙ take-append_seam front rest)) ∙ f)
 
-before_tail : (text tail rest : Text) → text ≡ rest ++ tail → length text - length tail ≡ length rest
-before_tail text tail rest e = let l : length text ≡ length rest + length tail = ap length e ∙ length-append rest tail in omega (arith, l)
-
 pub tailed : (text tail rest : Text) → pointwise nat_eq (drop (length text - length tail) text) tail ≡ true → rest ≡ take (length text - length tail) text → text ≡ rest ++ tail
 tailed text tail rest t e = sym (take-append-drop (length text - length tail) text) ∙ (λ i. sym e i ++ (bytes_eq-Decides (drop (length text - length tail) text) tail).0 t i)
-
-pub not_tailed : (text tail rest : Text) → pointwise nat_eq (drop (length text - length tail) text) tail ≡ false → text ≡ rest ++ tail → ⊥
-not_tailed text tail rest f e =
-    let same : drop (length text - length tail) text ≡ tail = (λ i. drop (before_tail text tail rest e i) (e i)) ∙ drop-append_seam rest tail in
-    true≢false (sym ((bytes_eq-Decides (drop (length text - length tail) text) tail).1 same) ∙ f)
-
-pub no_tail : (text front rest tail : Text) → text ≡ front ++ rest → pointwise nat_eq (drop (length rest - length tail) rest) tail ≡ false → (path : Text) → text ≡ front ++ (path ++ tail) → ⊥
-no_tail text front rest tail e f path h =
-    let same : rest ≡ path ++ tail = sym (drop-append_seam front rest) ∙ ap (drop (length front)) (sym e ∙ h) ∙ drop-append_seam front (path ++ tail) in
-    not_tailed rest tail path f same
 
 -- the path of a module begins with no quote
 and_left : (a b : Bool) → (a && b) ≡ true → a ≡ true
@@ -161,34 +125,13 @@ bare written double back = record {
   only = λ other is w. elim w [ inl e ↦ sym e | inr r ↦ elim r [ inl e ↦ absurd (double other e) | inr e ↦ absurd (back other e) ] ];
 }
 
--- the path that a line names
-pub names_path : (line word path : Text) → word ≡ second_word line → list_all is_blank (after_second line) ≡ true → IsUnquoted word path → IsModulePath path → NamesModule line path
-names_path line word path e alone u is = (record { written = subst (λ (w : Text). IsWritten w path) e u.writes; alone = alone }, is)
-
 pub names_none : (line word path : Text) → word ≡ second_word line → IsUnquoted word path → (IsModulePath path → ⊥) → (other : Text) → NamesModule line other → ⊥
 names_none line word path e u not_path other n = not_path (subst IsModulePath (u.only other n.1 (subst (λ (w : Text). IsWritten w other) (sym e) n.0.written)) n.1)
-
-pub names_more : (line : Text) → list_all is_blank (after_second line) ≡ false → (other : Text) → NamesModule line other → ⊥
-names_more line f other n = true≢false (sym n.0.alone ∙ f)
-
-pub module_is : (bytes line path : Text) → module_lines bytes ≡ line ∷ [] → NamesModule line path → IsModuleOf bytes path
-module_is bytes line path e n = record { line = line; only = e; names = n.0; path_of = n.1 }
-
-pub module_not : (bytes line : Text) → module_lines bytes ≡ line ∷ [] → ((path : Text) → NamesModule line path → ⊥) → (path : Text) → IsModuleOf bytes path → ⊥
-module_not bytes line e none path m =
-    let same : m.line ≡ line = ap (λ (w : List Text). get_or w 0 []) (sym m.only ∙ e) in
-    none path (subst (λ (w : Text). Names w path) same m.names, m.path_of)
-
-pub module_none : (bytes : Text) → ((line : Text) → module_lines bytes ≡ line ∷ [] → ⊥) → (path : Text) → IsModuleOf bytes path → ⊥
-module_none bytes none path m = none m.line m.only
 
 -- a line before its comment
 comment_by : (b : ℕ) (bs : Text) (t : Bool) → begins (b ∷ bs) (47 ∷ 47 ∷ []) ≡ t → t ≡ false → before_comment (b ∷ bs) ≡ b ∷ before_comment bs
 comment_by b bs true e f = absurd (true≢false f)
 comment_by b bs false e f = ap (λ t. if t then [] else b ∷ before_comment bs) e
-
-comment_at : (b : ℕ) (bs : Text) → begins (b ∷ bs) (47 ∷ 47 ∷ []) ≡ true → before_comment (b ∷ bs) ≡ []
-comment_at b bs e = ap (λ t. if t then [] else b ∷ before_comment bs) e
 
 pub comment_next : (line : Text) (i : ℕ) → i < length line → begins (drop i line) (47 ∷ 47 ∷ []) ≡ false → before_comment line ≡ take i line ++ before_comment (drop i line) → before_comment line ≡ take (i + 1) line ++ before_comment (drop (i + 1) line)
 comment_next line i l f e = e ∙ step line i l f
@@ -199,11 +142,3 @@ comment_next line i l f e = e ∙ step line i l f
     step (b ∷ bs) (suc i) l f =
         let more : suc (i + 1) ≡ suc i + 1 = omega arith in
         ap (λ w. b ∷ w) (step bs i (omega arith) f) ∙ (λ j. take (more j) (b ∷ bs) ++ before_comment (drop (more j) (b ∷ bs)))
-
-pub comment_here : (line : Text) (i : ℕ) → i < length line → begins (drop i line) (47 ∷ 47 ∷ []) ≡ true → before_comment line ≡ take i line ++ before_comment (drop i line) → before_comment line ≡ take i line
-comment_here line i l t e = e ∙ here line i l t
-  where
-    here : (line : Text) (i : ℕ) → i < length line → begins (drop i line) (47 ∷ 47 ∷ []) ≡ true → take i line ++ before_comment (drop i line) ≡ take i line
-    here [] i l t = absurd (omega arith)
-    here (b ∷ bs) zero l t = comment_at b bs t
-    here (b ∷ bs) (suc i) l t = ap (λ w. b ∷ w) (here bs i (omega arith) t)

@@ -1,18 +1,16 @@
 -- The answers of the loads over one store agree.
-use Rattle.std.proofs.Common.{◌≡◌, ℕ, ◌<◌, ◌≤◌, Option, Some, None, List, [], ◌∷◌, ◌++◌, length, get_or, refl, sym, ap, ◌∙◌, subst, ◌⊎◌, inl, inr, Result, Ok, Err, arith}
-use Rattle.std.specs.FinMap.{get}
+use Rattle.std.proofs.Common.{◌≡◌, ℕ, ◌<◌, ◌≤◌, Option, Some, None, List, [], ◌∷◌, ◌++◌, length, get_or, refl, sym, ap, ◌∙◌, subst, inl, inr, Result, Ok, Err, arith}
 use Rattle.go_model.specs.Trees.{most, IsModulePath}
 use Rattle.go_model.specs.declared.tree.Tree.{Tree}
-use Rattle.go_model.specs.declared.tree.TreeFile.{TreeFile}
 use Rattle.go_model.specs.declared.tree.LimitName.{LimitName}
 use Rattle.go_model.specs.declared.tree.LimitName.TheVariants as limit
 use Rattle.go_outside.specs.Paths.{Path}
 use Rattle.go_outside.specs.Stores.{Contents}
-use Rattle.go_load.specs.Names.{go_mod, entry_place}
-use Rattle.go_load.specs.GoMod.{Names, IsModuleOf, IsWritten, second_word}
+use Rattle.go_load.specs.Names.{go_mod}
+use Rattle.go_load.specs.GoMod.{IsModuleOf, IsWritten, second_word}
 use Rattle.go_load.specs.Walk.{IsThere}
-use Rattle.go_load.specs.Loads.{AreFiles, PassesIn, Walks, LoadsFiles, told_module, IsModuleAt, Passes, LoadsModule}
-use Rattle.go_load.specs.Answers.{IsFree, Agree}
+use Rattle.go_load.specs.Loads.{AreFiles, LoadsFiles, told_module, IsModuleAt, Passes, LoadsModule}
+use Rattle.go_load.specs.Answers.{Agree}
 use Rattle.go_load.specs.Steps.{IsUnquoted}
 use Rattle.go_load.specs.declared.error.LoadError.{LoadError}
 use Rattle.go_load.specs.declared.error.LoadError.TheVariants as error

@@ -1,6 +1,5 @@
 -- There is one walk over the told files.
-use Rattle.std.proofs.Common.{◌≡◌, ℕ, zero, suc, ◌+◌, ◌<◌, ◌≤◌, Bool, true, false, Option, Some, None, List, [], ◌∷◌, ◌++◌, length, refl, sym, ap, ◌∙◌, subst, ◌⊎◌, inl, inr, append_assoc, arith}
-use mathlib.Core.Bool.{true≢false}
+use Rattle.std.proofs.Common.{◌≡◌, ℕ, zero, suc, ◌+◌, ◌<◌, ◌≤◌, Option, Some, None, List, [], ◌∷◌, ◌++◌, length, refl, sym, ap, ◌∙◌, subst, ◌⊎◌, inl, inr, append_assoc, arith}
 use Rattle.std.specs.Ordering.{nat_cmp, is_lt, ordering_reverse}
 use Rattle.std.specs.declared.cmp.Ordering.{Ordering}
 use Rattle.std.specs.declared.cmp.Ordering.TheVariants.{Less, Equal, Greater}
@@ -12,7 +11,7 @@ use Rattle.go_model.specs.Lists.{Has, Each, Before, Ascending}
 use Rattle.go_model.specs.declared.tree.TreeFile.{TreeFile}
 use Rattle.go_outside.specs.Paths.{Path}
 use Rattle.go_outside.specs.Stores.{Contents}
-use Rattle.go_load.specs.Walk.{AreCandidates, IsFolder, IsNext, Event, folder_event, events_of, files_of, package_events, file_events, Walked, start, next, Reaches, before, within, IsWhole, Refusal, first_refusal, no_counts}
+use Rattle.go_load.specs.Walk.{AreCandidates, IsNext, Event, folder_event, events_of, files_of, package_events, file_events, Walked, start, next, Reaches, before, within, IsWhole, Refusal, first_refusal, no_counts}
 use Rattle.go_load.specs.Loads.{AreFiles, PassesIn}
 use Rattle.go_load.specs.declared.kind.TreeKind.{TreeKind}
 use Rattle.go_load.proofs.Counting.{append_nil, first_front}

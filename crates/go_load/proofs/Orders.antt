@@ -1,16 +1,14 @@
 -- The order of the paths of folders.
-use Rattle.std.proofs.Common.{◌≡◌, ℕ, Bool, true, false, List, [], ◌∷◌, ◌++◌, refl, sym, ap, ◌∙◌, subst, ◌⊎◌, inl, inr, append_assoc}
+use Rattle.std.proofs.Common.{◌≡◌, ℕ, true, false, List, [], ◌∷◌, ◌++◌, refl, sym, ap, ◌∙◌, subst, ◌⊎◌, inl, inr, append_assoc}
 use mathlib.Core.Bool.{true≢false}
 use Rattle.std.specs.Prelude.{All}
-use Rattle.std.proofs.Common.{◌<◌, suc, zero, arith, length}
+use Rattle.std.proofs.Common.{◌<◌, suc, arith, length}
 use Rattle.std.specs.Ordering.{nat_cmp, is_lt, ordering_then}
 use Rattle.std.specs.declared.cmp.Ordering.{Ordering}
 use Rattle.std.specs.declared.cmp.Ordering.TheVariants.{Less, Equal, Greater}
 use Rattle.std.specs.Cmp.Lexicographic.{slice_cmp}
-use Rattle.std.specs.List.{list_all}
-use Rattle.std.specs.List.Sorted.{IsStrictlySortedBy}
 use Rattle.std.proofs.lemmas.Cmp.{nat_cmp_total, nat_list_cmp_total, tied_itself}
-use Rattle.go_model.specs.Lists.{Has, Each, Before, Ascending}
+use Rattle.go_model.specs.Lists.{Has, Before}
 use Rattle.go_model.specs.Trees.{is_element, begins_element}
 use Rattle.go_outside.specs.Paths.{Path}
 use Rattle.go_load.specs.Names.{is_walked, under, place, entry_place}

@@ -1,8 +1,7 @@
 -- The entry of a path in a folder, seen from the path.
-use Rattle.std.proofs.Common.{◌≡◌, ◌≢◌, ℕ, zero, suc, ◌+◌, ◌<◌, Bool, true, false, not, cond, if◌then◌else◌, nat_eq, Option, Some, None, List, [], ◌∷◌, ◌++◌, length, take, drop, refl, sym, ap, ◌∙◌, subst, ◌⊎◌, inl, inr, arith, append_assoc}
+use Rattle.std.proofs.Common.{◌≡◌, ◌≢◌, ℕ, suc, ◌+◌, Bool, true, false, not, cond, if◌then◌else◌, nat_eq, Option, Some, None, List, [], ◌∷◌, ◌++◌, length, take, drop, refl, sym, ap, ◌∙◌, subst, ◌⊎◌, inl, inr, arith, append_assoc}
 use mathlib.Core.Bool.{true≢false}
-use Rattle.std.specs.Cmp.Lexicographic.{pointwise}
-use Rattle.std.specs.List.{prefix_len, list_any, list_all}
+use Rattle.std.specs.List.{prefix_len}
 use Rattle.std.proofs.Math.Seq.{take-append_seam, drop-append_seam, take-length}
 use Rattle.std.proofs.lemmas.List.{take-append-drop, length-append}
 use Rattle.std.proofs.lemmas.Slice.Eq.{bytes_eq-Decides}
@@ -10,7 +9,6 @@ use Rattle.std.proofs.lemmas.Bool.{ne_eqb}
 use Rattle.std.proofs.lemmas.Bool.Decides.{Decides-eqb}
 use Rattle.go_model.specs.Lists.{Has}
 use Rattle.go_outside.specs.declared.files.Entry.{Entry}
-use Rattle.go_outside.specs.declared.files.EntryKind.{EntryKind}
 use Rattle.go_outside.specs.declared.files.EntryKind.TheVariants as kind
 use Rattle.go_outside.specs.Paths.{Path, after, after_slash, within, not_slash, entry_at, entry_of_rest, entry_of}
 use Rattle.go_outside.specs.Stores.{Contents, IsTold, IsListing}

@@ -1,16 +1,13 @@
 -- What the walk knows between two folders.
-use Rattle.std.proofs.Common.{◌≡◌, ℕ, ◌+◌, Bool, true, false, nat_le, if◌then◌else◌, Option, Some, None, List, [], ◌∷◌, ◌++◌, length, map, refl, sym, ap, ◌∙◌, subst, ◌⊎◌, inl, inr, Result, Ok, Err, append_assoc, arith}
+use Rattle.std.proofs.Common.{◌≡◌, Option, Some, None, List, [], ◌∷◌, ◌++◌, refl, sym, ap, ◌∙◌, subst, ◌⊎◌, inl, inr, Ok, Err, append_assoc}
 use Rattle.go_model.specs.Lists.{Has, Before}
-use Rattle.go_model.specs.Trees.{most}
 use Rattle.go_model.specs.declared.tree.TreeFile.{TreeFile}
-use Rattle.go_model.specs.declared.tree.LimitName.TheVariants as limit
 use Rattle.go_outside.specs.Paths.{Path}
 use Rattle.go_outside.specs.Stores.{Contents, IsTold}
-use Rattle.go_load.specs.Names.{under, place, entry_place}
-use Rattle.go_load.specs.Walk.{IsThere, IsFolder, top, sub, IsChild, AreCandidates, IsNext, Event, folder_event, events_of, package_events, file_events, files_of, Walked, start, next, Reaches, before, within, IsWhole, Refusal, first_refusal, no_counts}
-use Rattle.go_load.specs.Loads.{AreFiles, PassesIn, Walks}
+use Rattle.go_load.specs.Names.{under, place}
+use Rattle.go_load.specs.Walk.{IsThere, IsFolder, top, sub, IsChild, IsNext, Event, folder_event, events_of, package_events, file_events, files_of, Walked, start, next, before, within, Refusal, first_refusal, no_counts}
+use Rattle.go_load.specs.Loads.{Walks}
 use Rattle.go_load.specs.Steps.{Grows, IsChildAt, Visits}
-use Rattle.go_load.specs.declared.counts.Counts.{Counts}
 use Rattle.go_load.specs.declared.walk.Taken.{Taken}
 use Rattle.go_load.specs.declared.error.LoadError.{LoadError}
 use Rattle.go_load.specs.declared.error.LoadError.TheVariants as error

@@ -1,11 +1,10 @@
 -- Steps over a store that may tell its contents.
-use Rattle.std.proofs.Common.{true, false, ap, ◌∙◌, ◌≡◌, ℕ, ◌≤◌, Option, Some, None, List, [], ◌∷◌, ◌++◌, length, refl, sym, ◌⊎◌, inl, inr, Result, Ok, Err, subst, OnOk, arith}
+use Rattle.std.proofs.Common.{true, ap, ◌∙◌, ◌≡◌, ℕ, ◌≤◌, Option, Some, None, List, [], ◌∷◌, length, refl, sym, inl, inr, Result, Ok, Err, subst, OnOk, arith}
 use Rattle.std.specs.Prelude.{All}
 use Rattle.std.specs.Ordering.{nat_cmp}
 use Rattle.std.specs.declared.cmp.Ordering.TheVariants.{Less}
 use Rattle.std.specs.Cmp.Lexicographic.{slice_cmp}
-use Rattle.std.specs.FinMap.{get}
-use Rattle.go_model.specs.Lists.{Has, Each, Before, Ascending}
+use Rattle.go_model.specs.Lists.{Has, Each, Ascending}
 use Rattle.go_model.specs.Trees.{most, IsTreeFile, IsFolderPath}
 use Rattle.go_model.specs.declared.tree.LimitName.TheVariants as limit
 use Rattle.go_outside.specs.Faults.{Told}
@@ -19,14 +18,14 @@ use Rattle.go_load.specs.declared.error.LoadError.{LoadError}
 use Rattle.go_load.specs.declared.error.LoadError.TheVariants as error
 use Rattle.go_load.specs.declared.kind.TreeKind.{TreeKind}
 use Rattle.go_load.specs.declared.walk.Taken.{Taken}
-use Rattle.go_load.specs.Names.{under, place}
-use Rattle.go_load.specs.Walk.{event, counts_with, file_events, folder_event, first_refusal, no_counts, takes_files}
+use Rattle.go_load.specs.Names.{place}
+use Rattle.go_load.specs.Walk.{counts_with, file_events, folder_event, no_counts, takes_files}
 use Rattle.go_load.specs.Loads.{Walks}
-use Rattle.go_load.specs.Steps.{Lists, Reads, IsRefusal, Counted, Takes, TakesAll, AreNamed, package_of, with_package, Grows, Enters, ListsModule, Visits, IsName, IsKept, ArePlaced}
+use Rattle.go_load.specs.Steps.{Lists, IsRefusal, Counted, Takes, TakesAll, package_of, Grows, Enters, ListsModule, Visits, IsName, IsKept, ArePlaced}
 use Rattle.go_load.specs.declared.walk.Wanted.TheVariants as wanted
 use Rattle.go_load.proofs.Paths.{not_there}
-use Rattle.go_load.proofs.Counting.{append_nil, kept_counts, Taking, taking_refused, package_refused, package_then, takes_all}
-use Rattle.go_load.proofs.Folders.{are_named, none_named, visits_uncounted, visits_unlisted, visits_other, visits_own}
+use Rattle.go_load.proofs.Counting.{kept_counts, Taking, taking_refused, package_refused, package_then, takes_all}
+use Rattle.go_load.proofs.Folders.{are_named, visits_other, visits_own}
 use Rattle.go_load.proofs.Orders.{above_of}
 use Rattle.go_load.proofs.State.{State, state_first, state_whole, state_next, state_refused}
 
@@ -74,18 +73,8 @@ takes_told o tree at folder entries names old mid new r takes up g same c t =
     told_then o (λ m. Takes m at folder file_events names mid new r) (λ m. TakesAll m tree at folder entries old new r)
     (λ m t'. takes_all m tree at folder entries names old new r (are_named tree folder entries names takes up g) (package_then m at folder names old mid new r same c t')) t
 
-pub untaken_told : (o : Option Contents) (tree : TreeKind) (at folder : Path) (entries : List Entry) (old : Taken) → takes_files tree folder ≡ false → Told o (λ m. TakesAll m tree at folder entries old old (Ok tt))
-untaken_told o tree at folder entries old f =
-    told_all o (λ m. TakesAll m tree at folder entries old old (Ok tt)) (λ m. takes_all m tree at folder entries [] old old (Ok tt) (none_named tree folder entries f) (sym (append_nil old.files), λ rest. (λ i. first_refusal old.counts rest)))
-
 -- a turn of the walk
 module _ (o : Option Contents) (tree : TreeKind) (root folder : Path) (pending pending' : List Path) (old new : Taken) where
-  pub uncounted_visit : (mid : Counts) (e : LoadError) → Counted (folder_event folder ∷ []) old.counts mid (Err e) → Told o (λ m. Visits m tree root folder pending pending' old new (Err e))
-  uncounted_visit mid e c = told_all o (λ m. Visits m tree root folder pending pending' old new (Err e)) (λ m. visits_uncounted m tree root folder pending pending' old new mid e c)
-
-  pub unlisted_visit : (at : Path) (e : LoadError) → at ≡ place root folder → Told o (λ m. Lists m at folder (Err e)) → Told o (λ m. Visits m tree root folder pending pending' old new (Err e))
-  unlisted_visit at e is t = told_then o (λ m. Lists m at folder (Err e)) (λ m. Visits m tree root folder pending pending' old new (Err e)) (λ m l. visits_unlisted m tree root folder pending pending' old new at e is l) t
-
   pub other_visit : (at : Path) (entries : List Entry) → at ≡ place root folder → ListsModule tree folder entries → Counted (folder_event folder ∷ []) old.counts new.counts (Ok tt) → pending' ≡ pending → new.files ≡ old.files
       → Told o (λ m. Lists m at folder (Ok entries)) → Told o (λ m. Visits m tree root folder pending pending' old new (Ok tt))
   other_visit at entries is other c same files t = told_then o (λ m. Lists m at folder (Ok entries)) (λ m. Visits m tree root folder pending pending' old new (Ok tt)) (λ m l. visits_other m tree root folder pending pending' old new at entries is l other c same files) t

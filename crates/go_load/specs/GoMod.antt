@@ -1,7 +1,7 @@
 -- The module line of a file `go.mod`.
 -- Public source: Go Modules Reference, "go.mod files": "Lexical elements", "Module paths" and "Grammar". Of the grammar only the directive `module` is read,
 -- in the form of one line; only newlines end lines, so a carriage return belongs to its line.
-use Rattle.std.specs.Prelude.{◌≡◌, ◌⊎◌, ℕ, Bool, true, false, not, ◌||◌, nat_eq, if◌then◌else◌, List, [], ◌∷◌, ◌++◌, take, drop, filter, codes}
+use Rattle.std.specs.Prelude.{◌≡◌, ◌⊎◌, ℕ, Bool, true, not, ◌||◌, nat_eq, if◌then◌else◌, List, [], ◌∷◌, ◌++◌, take, drop, filter, codes}
 use Rattle.std.specs.List.{prefix_len, slice_split, list_all}
 use Rattle.go_model.specs.Trees.{IsModulePath}
 use Rattle.go_load.specs.Names.{begins, is_text}

@@ -1,5 +1,5 @@
 -- What the loads of one tree answer.
-use Rattle.std.specs.Prelude.{◌≡◌, ◌≤◌, ◌<◌, ◌⊎◌, ℕ, Option, Some, None, List, [], ◌∷◌, length, Result, Ok, Err}
+use Rattle.std.specs.Prelude.{◌≡◌, ◌≤◌, ◌<◌, ◌⊎◌, ℕ, Option, Some, None, List, [], length, Result, Ok, Err}
 use Rattle.std.specs.FinMap.{get}
 use Rattle.go_model.specs.Trees.{most}
 use Rattle.go_model.specs.declared.tree.Tree.{Tree}

@@ -1,7 +1,7 @@
 -- Which entries of a folder the walk takes, and the paths of a tree in its store.
 -- Public source: the documentation of Go's command line, "Package lists and patterns" (names that begin with `.` or `_`, and the folders `testdata`), its
 -- section on vendoring (the folders `vendor`), and package go/build (the files `.go`, apart from `_test.go`).
-use Rattle.std.specs.Prelude.{ℕ, Bool, true, false, not, ◌&&◌, ◌||◌, nat_eq, List, [], ◌∷◌, ◌++◌, codes}
+use Rattle.std.specs.Prelude.{Bool, not, ◌&&◌, ◌||◌, nat_eq, [], ◌∷◌, ◌++◌, codes}
 use Rattle.std.specs.Cmp.Lexicographic.{pointwise}
 use Rattle.std.specs.List.{starts_with, ends_with, list_any}
 use Rattle.go_model.specs.Trees.{is_element}

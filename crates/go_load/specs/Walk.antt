@@ -1,8 +1,7 @@
 -- The walk over the told files of one tree: its folders, their candidate files, and the order of all that counts for a limit.
 -- Public source for what is ignored: as in Names. The order and the limits are this project's own.
 -- That the answers over one store agree is stated at the public calls.
-use Rattle.std.specs.Prelude.{◌≡◌, ◌≢◌, ◌≤◌, ℕ, ◌+◌, Bool, true, false, nat_le, if◌then◌else◌, Option, Some, None, unwrap_or, List, [], ◌∷◌, ◌++◌, length, map}
-use Rattle.std.specs.Ordering.{nat_cmp}
+use Rattle.std.specs.Prelude.{◌≡◌, ℕ, ◌+◌, Bool, true, false, nat_le, if◌then◌else◌, Option, Some, None, unwrap_or, List, [], ◌∷◌, ◌++◌, length, map}
 use Rattle.std.specs.FinMap.{get}
 use Rattle.go_model.specs.Lists.{Has, Ascending, Before}
 use Rattle.go_model.specs.Trees.{most}
@@ -11,7 +10,7 @@ use Rattle.go_model.specs.declared.tree.LimitName.{LimitName}
 use Rattle.go_model.specs.declared.tree.LimitName.TheVariants as limit
 use Rattle.go_outside.specs.Paths.{Path}
 use Rattle.go_outside.specs.Stores.{Contents, IsTold}
-use Rattle.go_load.specs.Names.{is_walked, is_candidate, go_mod, under, place, entry_place}
+use Rattle.go_load.specs.Names.{is_walked, is_candidate, go_mod, under, entry_place}
 use Rattle.go_load.specs.declared.kind.TreeKind.{TreeKind}
 use Rattle.go_load.specs.declared.kind.TreeKind.TheVariants as kind
 use Rattle.go_load.specs.declared.counts.Counts.{Counts}

@@ -1,5 +1,5 @@
-use Rattle.std.proofs.Common.{◌≡◌, ◌++◌, sym, ◌∙◌, ap}
-use Rattle.go_load.proofs.ModuleLines.{fronted, not_fronted, tailed, no_tail}
+use Rattle.std.proofs.Common.{◌++◌, ◌∙◌, ap}
+use Rattle.go_load.proofs.ModuleLines.{fronted, not_fronted, tailed}
 use Rattle.go_load.proofs.go_mod.between.Goals as goal
 
 pub returns-in-None-clause-none : goal.returns-in-None-clause-none

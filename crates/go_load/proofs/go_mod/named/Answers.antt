@@ -1,4 +1,4 @@
-use Rattle.std.proofs.Common.{◌≡◌, true, false, sym, ◌∙◌}
+use Rattle.std.proofs.Common.{sym, ◌∙◌}
 use mathlib.Core.Bool.{true≢false}
 use Rattle.go_load.proofs.ModuleLines.{names_none}
 use Rattle.go_load.proofs.go_mod.named.Goals as goal

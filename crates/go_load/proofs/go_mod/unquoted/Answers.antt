@@ -1,4 +1,4 @@
-use Rattle.go_load.proofs.ModuleLines.{quoted, backquoted, bare}
+use Rattle.go_load.proofs.ModuleLines.{quoted, backquoted}
 use Rattle.go_load.proofs.go_mod.unquoted.Goals as goal
 
 pub returns-in-Some : goal.returns-in-Some

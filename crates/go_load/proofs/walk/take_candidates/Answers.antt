@@ -1,4 +1,4 @@
-use Rattle.std.proofs.Common.{◌≡◌, refl, sym, ◌∙◌}
+use Rattle.std.proofs.Common.{refl, sym, ◌∙◌}
 use Rattle.go_load.proofs.Told.{uncounted_told, takes_told}
 use Rattle.go_load.proofs.walk.take_candidates.Goals as goal
 

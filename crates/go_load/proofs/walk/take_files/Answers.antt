@@ -1,4 +1,3 @@
-use Rattle.std.proofs.Common.{◌≡◌, sym, ◌∙◌}
 use Rattle.go_load.proofs.Told.{told_same, taking_refused_told}
 use Rattle.go_load.proofs.walk.take_files.Goals as goal
 

@@ -1,6 +1,4 @@
-use Rattle.std.proofs.Common.{◌≡◌, refl, sym, ◌∙◌, List, subst}
-use Rattle.go_outside.specs.declared.files.Entry.{Entry}
-use Rattle.go_load.specs.Steps.{IsKept, ArePlaced}
+use Rattle.std.proofs.Common.{refl, ◌∙◌}
 use Rattle.go_load.proofs.Folders.{placed_more}
 use Rattle.go_load.proofs.Told.{told_same, listed_as, other_visit, own_visit, on_ok, kept_mid}
 use Rattle.go_load.proofs.walk.visit.Goals as goal

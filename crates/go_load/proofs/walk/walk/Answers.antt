@@ -1,4 +1,4 @@
-use Rattle.std.proofs.Common.{◌≡◌, ◌≤◌, refl, arith, sym, ◌∙◌, List, subst, ap, ◌∷◌}
+use Rattle.std.proofs.Common.{◌≡◌, refl, arith, sym, ◌∙◌, List, subst}
 use Rattle.go_outside.specs.Paths.{Path}
 use Rattle.go_model.specs.Trees.{IsFolderPath}
 use Rattle.go_load.specs.Steps.{Grows}
