@@ -1,5 +1,5 @@
 //! The loads of trees.
-ghost use Rattle.std.specs.Prelude.{◌≡◌, List, ℕ, Result, Err, IfOk, IfErr};
+ghost use Rattle.std.specs.Prelude.{◌≡◌, [], List, ℕ, Result, Err, IfOk, IfErr};
 ghost use Rattle.go_model.specs.Trees.{IsTree, IsModulePath};
 ghost use Rattle.go_outside.specs.Faults.{Told};
 ghost use Rattle.go_load.specs.Loads.{LoadsModule, LoadsFiles, LoadCause};
@@ -98,6 +98,7 @@ fn load_files<F: Files>(
     ensures cause { LoadCause (F.faults files.old) (F.faults files.new) result }
     ensures tree { IfOk result IsTree }
     ensures own { IfErr result IsOfWalk }
+    ensures module { IfOk result (λ tree. tree.module ≡ []) }
 {
     let found = match walk(alloc, files, kind, root) {
         Ok(found) => found,
@@ -118,6 +119,7 @@ pub fn load_std<F: Files>(alloc: Global, files: &mut F, root: &[u8]) -> Result<T
     // These hold over every store, also over one that tells nothing.
     ensures tree { IfOk result IsTree }
     ensures own { IfErr result IsOfWalk }
+    ensures module { IfOk result (λ tree. tree.module ≡ []) }
 {
     load_files(alloc, files, TreeKind::Std, root)
 }
@@ -130,6 +132,7 @@ pub fn load_client<F: Files>(alloc: Global, files: &mut F, root: &[u8]) -> Resul
     // These hold over every store, also over one that tells nothing.
     ensures tree { IfOk result IsTree }
     ensures own { IfErr result IsOfWalk }
+    ensures module { IfOk result (λ tree. tree.module ≡ []) }
 {
     load_files(alloc, files, TreeKind::Client, root)
 }

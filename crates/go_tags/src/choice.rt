@@ -148,43 +148,49 @@ mod tests {
     /// File names, and whether they are chosen on linux-amd64, windows-386, android-arm64,
     /// illumos-amd64 and ios-arm64.
     #[rattlefmt::skip]
-    const NAMES: [(&[u8], [bool; 5]); 20] = [
-        (b"file_linux.go",         [true,  false, true,  false, false]),
-        (b"linux.go",              [true,  true,  true,  true,  true]),
-        (b"a_unix.go",             [true,  true,  true,  true,  true]),
-        (b"b_linux_arm.go",        [false, false, false, false, false]),
-        (b"c_windows.go",          [false, true,  false, false, false]),
-        (b"d_android.go",          [false, false, true,  false, false]),
-        (b"e_solaris.go",          [false, false, false, true,  false]),
-        (b"f_darwin_arm64.go",     [false, false, false, false, true]),
-        (b"g_linux_test.go",       [true,  false, true,  false, false]),
-        (b"h_linux_test_test.go",  [true,  true,  true,  true,  true]),
-        (b"i_test.go",             [true,  true,  true,  true,  true]),
-        (b"linux_amd64.go",        [true,  false, false, true,  false]),
-        (b"windows_linux.go",      [true,  false, true,  false, false]),
-        (b"a_arm_linux.go",        [true,  false, true,  false, false]),
-        (b"x.y_windows.go",        [true,  true,  true,  true,  true]),
-        (b"_386.go",               [false, true,  false, false, false]),
-        (b"a_linux_test_x.go",     [true,  true,  true,  true,  true]),
-        (b"a__arm64.s.go",         [false, false, true,  false, true]),
-        (b"\xff_js_wasm.go",       [false, false, false, false, false]),
-        (b"a_linux_.go",           [true,  true,  true,  true,  true]),
-    ];
-
-    const PLATFORMS: [Platform; 5] = [
-        Platform::LinuxAmd64,
-        Platform::Windows386,
-        Platform::AndroidArm64,
-        Platform::IllumosAmd64,
-        Platform::IosArm64,
+    const NAMES: [(&[u8], bool, bool, bool, bool, bool); 20] = [
+        (b"file_linux.go",         true,  false, true,  false, false),
+        (b"linux.go",              true,  true,  true,  true,  true),
+        (b"a_unix.go",             true,  true,  true,  true,  true),
+        (b"b_linux_arm.go",        false, false, false, false, false),
+        (b"c_windows.go",          false, true,  false, false, false),
+        (b"d_android.go",          false, false, true,  false, false),
+        (b"e_solaris.go",          false, false, false, true,  false),
+        (b"f_darwin_arm64.go",     false, false, false, false, true),
+        (b"g_linux_test.go",       true,  false, true,  false, false),
+        (b"h_linux_test_test.go",  true,  true,  true,  true,  true),
+        (b"i_test.go",             true,  true,  true,  true,  true),
+        (b"linux_amd64.go",        true,  false, false, true,  false),
+        (b"windows_linux.go",      true,  false, true,  false, false),
+        (b"a_arm_linux.go",        true,  false, true,  false, false),
+        (b"x.y_windows.go",        true,  true,  true,  true,  true),
+        (b"_386.go",               false, true,  false, false, false),
+        (b"a_linux_test_x.go",     true,  true,  true,  true,  true),
+        (b"a__arm64.s.go",         false, false, true,  false, true),
+        (b"\xff_js_wasm.go",       false, false, false, false, false),
+        (b"a_linux_.go",           true,  true,  true,  true,  true),
     ];
 
     #[test]
     fn chooses_by_name(rt: HostRuntime) {
-        for (name, wanted) in NAMES {
-            for (platform, is_chosen) in PLATFORMS.iter().zip(wanted.iter()) {
-                assert!(rt; chosen(*platform, name, None) == *is_chosen);
-            }
+        for (name, linux, windows, android, illumos, ios) in NAMES {
+            assert_eq!(rt; chosen(Platform::LinuxAmd64, name, None), linux, "{name:?}");
+            assert_eq!(rt;
+                chosen(Platform::Windows386, name, None),
+                windows,
+                "{name:?}"
+            );
+            assert_eq!(rt;
+                chosen(Platform::AndroidArm64, name, None),
+                android,
+                "{name:?}"
+            );
+            assert_eq!(rt;
+                chosen(Platform::IllumosAmd64, name, None),
+                illumos,
+                "{name:?}"
+            );
+            assert_eq!(rt; chosen(Platform::IosArm64, name, None), ios, "{name:?}");
         }
     }
 }
