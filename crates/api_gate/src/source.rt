@@ -1,5 +1,7 @@
 //! A source file of the first form.
 ghost use Rattle.std.specs.Prelude.{◌≡◌, ◌≤◌, ℕ, List, IfOk, Err, length};
+ghost use Rattle.go_model.specs.declared.syntax.declaration.File.{File};
+ghost use Rattle.go_model.specs.Outline.{IsOutline};
 ghost use Rattle.api_gate.specs.declared.source.Source.{Source};
 ghost use Rattle.api_gate.specs.Sources.{Declares, IsParsed, IsSource};
 
@@ -58,14 +60,25 @@ fn source_of(alloc: Global, outline: &File) -> Result<Source, SourceError>
     })
 }
 
-fn parse_source(alloc: Global, tokens: &[Token]) -> Result<Source, SourceError>
-    ensures ok { IfOk result (IsParsed tokens.now) }
-    ensures not_yet { result ≡ Err SourceError.NotYet → (s : Source) → IsParsed tokens.now s → ⊥ }
+// The tree of these tokens, which are given up.
+fn outline_of(alloc: Global, tokens: List<Token>) -> Result<File, SourceError>
+    ensures ok { IfOk result (IsOutline tokens) }
+    ensures not_yet { result ≡ Err SourceError.NotYet → (f : File) → IsOutline tokens f → ⊥ }
 {
-    one_tree();
-    match parse_outline(alloc, tokens) {
+    match parse_outline(alloc, tokens.items()) {
         Err(ParseError::NoMemory) => Err(SourceError::NoMemory),
         Err(ParseError::Syntax) => Err(SourceError::NotYet),
+        Ok(outline) => Ok(outline),
+    }
+}
+
+fn parse_source(alloc: Global, tokens: List<Token>) -> Result<Source, SourceError>
+    ensures ok { IfOk result (IsParsed tokens) }
+    ensures not_yet { result ≡ Err SourceError.NotYet → (s : Source) → IsParsed tokens s → ⊥ }
+{
+    one_tree();
+    match outline_of(alloc, tokens) {
+        Err(error) => Err(error),
         Ok(outline) => source_of(alloc, &outline),
     }
 }
@@ -81,7 +94,7 @@ pub fn read_source(alloc: Global, bytes: &[u8]) -> Result<Source, SourceError>
     match scan(alloc, bytes) {
         Err(LexError::NoMemory) => Err(SourceError::NoMemory),
         Err(LexError::BadToken(_)) => Err(SourceError::NotYet),
-        Ok(tokens) => parse_source(alloc, tokens.items()),
+        Ok(tokens) => parse_source(alloc, tokens),
     }
 }
 

@@ -1,5 +1,5 @@
 //! The outline of a file.
-ghost use Rattle.std.specs.Prelude.{◌≡◌, ◌≢◌, List, [], IfOk, IsErr, IsErrOf};
+ghost use Rattle.std.specs.Prelude.{◌≡◌, ◌≢◌, ◌∷◌, List, [], IfOk, IsErr, IsErrOf};
 ghost use Rattle.go_model.specs.Outline.{IsOutline};
 ghost use Rattle.go_model.specs.Terminals.{terminals};
 ghost use Rattle.go_model.specs.declared.syntax.declaration.File.{File};
@@ -10,22 +10,30 @@ ghost use Rattle.go_parse.specs.Reads.{Reads};
 use crate::cursor::Cursor;
 use crate::error::ParseError;
 use go_model::list::List;
+use go_model::memory::NoMemory;
 use go_model::syntax::declaration::{ConstSpec, Decl, File};
 use go_model::syntax::expression::Expr;
 use go_model::syntax::name::Name;
 use go_model::token::{Token, TokenKind};
 use std::alloc::Global;
 
+// A list of one item, with room for no more.
+fn one<T: Drop>(alloc: Global, item: T) -> Result<List<T>, NoMemory>
+    ensures { IfOk result (λ list. list ≡ item ∷ []) }
+{
+    let mut items = Vec::with_capacity(alloc, 1)?;
+    items.push(item)?;
+    Ok(List::from_vec(items))
+}
+
 /// `X = 1`.
 #[tactic(auto, unfolding(crate::specs::Parsing::const_spec))]
 fn const_spec(alloc: Global, tokens: &mut Cursor<'_>) -> Result<ConstSpec, ParseError>
     ensures { Reads (parsing.const_spec (terminals tokens.old)) result tokens.new }
 {
-    let mut names = List::new(alloc);
-    names.push(tokens.name(alloc)?)?;
+    let names = one(alloc, tokens.name(alloc)?)?;
     tokens.expect(TokenKind::Assign)?;
-    let mut values = List::new(alloc);
-    values.push(Expr::Literal(tokens.integer()?))?;
+    let values = one(alloc, Expr::Literal(tokens.integer()?))?;
     Ok(ConstSpec {
         names,
         type_: None,
@@ -38,8 +46,7 @@ fn const_spec(alloc: Global, tokens: &mut Cursor<'_>) -> Result<ConstSpec, Parse
 fn const_decl(alloc: Global, tokens: &mut Cursor<'_>) -> Result<Decl, ParseError>
     ensures { Reads (parsing.const_decl (terminals tokens.old)) result tokens.new }
 {
-    let mut specs = List::new(alloc);
-    specs.push(const_spec(alloc, tokens)?)?;
+    let specs = one(alloc, const_spec(alloc, tokens)?)?;
     tokens.expect(TokenKind::Semicolon)?;
     Ok(Decl::ConstGroup(specs))
 }

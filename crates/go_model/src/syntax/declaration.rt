@@ -1,4 +1,5 @@
 //! Files and declarations.
+use crate::boxed::Box;
 use crate::list::List;
 use crate::syntax::expression::Expr;
 use crate::syntax::name::Name;
@@ -38,7 +39,8 @@ pub enum Decl {
     ConstGroup(List<ConstSpec>),
     VarGroup(List<VarSpec>),
     TypeGroup(List<TypeSpec>),
-    FuncDecl(Func),
+    /// Boxed, so that the other declarations are small.
+    FuncDecl(Box<Func>),
 }
 
 /// Constants. One without values, which then has no type either, repeats type and values of the
