@@ -1,8 +1,9 @@
 -- Constants that are gathered from the declarations one by one.
-use Rattle.std.proofs.Common.{◌≡◌, ℕ, zero, suc, ◌+◌, ◌<◌, List, [], ◌∷◌, ◌++◌, length, drop, get_or, Option, Some, None, refl, sym, ap, ◌∙◌, subst, append_assoc, arith}
+use Rattle.std.proofs.Common.{◌≡◌, ℕ, ◌+◌, ◌<◌, List, [], ◌∷◌, ◌++◌, length, drop, get_or, Option, Some, None, refl, sym, ap, ◌∙◌, append_assoc}
 use Rattle.go_model.specs.declared.syntax.declaration.Decl.{Decl}
 use Rattle.api_gate.specs.declared.constants.Constant.{Constant}
 use Rattle.api_gate.specs.Constants.{constants_of, constant_of, then_first}
+use Rattle.api_gate.proofs.Drops.{next_drop, past_all, append_nothing}
 
 -- those so far before the others, where there are others
 abbrev pub after_all : List Constant → Option (List Constant) → Option (List Constant)
@@ -12,13 +13,6 @@ after_all before (Some after) = Some (before ++ after)
 pub none_yet : (o : Option (List Constant)) → o ≡ after_all [] o
 none_yet None = refl
 none_yet (Some cs) = refl
-
-next_drop : (ds : List Decl) (i : ℕ) (d : Decl) → i < length ds → d ≡ get_or ds i d → drop i ds ≡ d ∷ drop (i + 1) ds
-next_drop [] i d h e = absurd (omega arith)
-next_drop (x ∷ ds) zero d h e = rw e refl
-next_drop (x ∷ ds) (suc i) d h e =
-    let one : suc (i + 1) ≡ suc i + 1 = omega arith in
-    subst (λ (n : ℕ). drop i ds ≡ d ∷ drop n (x ∷ ds)) one (next_drop ds i d (omega arith) e)
 
 one_more : (before : List Constant) (c : Constant) (o : Option (List Constant)) → after_all before (then_first (Some c) o) ≡ after_all (before ++ c ∷ []) o
 one_more before c None = refl
@@ -36,16 +30,6 @@ pub gathered_none : (ds : List Decl) (i : ℕ) (d : Decl) (before : List Constan
 gathered_none ds i d before h e is so =
     so ∙ ap (λ (rest : List Decl). after_all before (constants_of rest)) (next_drop ds i d h e)
     ∙ ap (λ (o : Option Constant). after_all before (then_first o (constants_of (drop (i + 1) ds)))) (sym is)
-
-past_all : (i : ℕ) (ds : List Decl) → length ds ≡ i → drop i ds ≡ []
-past_all zero [] h = refl
-past_all zero (d ∷ ds) h = absurd (omega arith)
-past_all (suc i) [] h = refl
-past_all (suc i) (d ∷ ds) h = past_all i ds (omega arith)
-
-append_nothing : (cs : List Constant) → cs ++ [] ≡ cs
-append_nothing [] = refl
-append_nothing (c ∷ cs) = ap (λ ds. c ∷ ds) (append_nothing cs)
 
 pub gathered_all : (ds : List Decl) (i : ℕ) (before : List Constant) → length ds ≡ i → constants_of ds ≡ after_all before (constants_of (drop i ds)) → Some before ≡ constants_of ds
 gathered_all ds i before h so = sym (so ∙ ap (λ (rest : List Decl). after_all before (constants_of rest)) (past_all i ds h) ∙ ap Some (append_nothing before))

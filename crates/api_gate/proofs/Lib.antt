@@ -1,11 +1,12 @@
-pub mod FirstFormEntries
-pub mod FirstFormListings
-pub mod FirstFormNames
-pub mod FirstFormSteps
+pub mod ChosenFiles
+pub mod Drops
 pub mod Gathered
 pub mod Grown
-pub mod OnePackage
+pub mod Named
+pub mod OneSource
 pub mod Ordered
+pub mod Outcomes
 pub mod Ran
+pub mod Settings
 pub mod Taken
 pub mod Tested

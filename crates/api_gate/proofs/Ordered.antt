@@ -1,5 +1,5 @@
 -- A strictly ascending list is determined by its members.
-use Rattle.std.proofs.Common.{◌≡◌, ℕ, List, [], ◌∷◌, ◌++◌, refl, sym, ap, ◌∙◌, subst, ◌⊎◌, inl, inr}
+use Rattle.std.proofs.Common.{◌≡◌, ℕ, List, [], ◌∷◌, refl, sym, ap, ◌∙◌, subst, inl, inr}
 use Rattle.std.specs.Ordering.{nat_cmp}
 use Rattle.std.specs.declared.cmp.Ordering.{Ordering}
 use Rattle.std.specs.declared.cmp.Ordering.TheVariants.{Less, Equal, Greater}
@@ -8,8 +8,8 @@ use Rattle.std.specs.Cmp.Lexicographic.{slice_cmp, nat_list_cmp_total}
 use Rattle.std.specs.List.{AllByRecursion}
 use Rattle.std.specs.List.Sorted.{IsStrictlySortedBy}
 use Rattle.go_model.specs.Lists.{Has}
-use Rattle.api_gate.specs.declared.features.PackageConstants.{PackageConstants}
-use Rattle.api_gate.specs.Features.{IsOrdered, IsFeature, IsReport, unlines}
+use Rattle.api_gate.specs.declared.sources.FileSource.{FileSource}
+use Rattle.api_gate.specs.Features.{IsReport, unlines}
 
 abbrev order : List ℕ → List ℕ → Ordering
 order = slice_cmp nat_cmp
@@ -45,6 +45,6 @@ same_lists (x ∷ xs) (y ∷ ys) a b f g =
     let rest : xs ≡ ys = same_lists xs ys a.1 b.1 (λ z h. tail_member x y z xs ys first a.0 h (f z (inr h))) (λ z h. tail_member y x z ys xs (sym first) b.0 h (g z (inr h))) in
     cc
 
-pub same_report : (ps : List PackageConstants) (a b : List ℕ) → IsReport ps a → IsReport ps b → a ≡ b
-same_report ps a b r s =
+pub same_report : (path : List ℕ) (sources : List FileSource) (a b : List ℕ) → IsReport path sources a → IsReport path sources b → a ≡ b
+same_report path sources a b r s =
     r.2 ∙ ap unlines (same_lists r.0 s.0 r.1.ordered s.1.ordered (λ z h. s.1.complete z (r.1.sound z h)) (λ z h. r.1.complete z (s.1.sound z h))) ∙ sym s.2

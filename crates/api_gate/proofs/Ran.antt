@@ -1,26 +1,30 @@
 -- From a decision and its delivery to what a run did.
-use Rattle.std.proofs.Common.{◌≡◌, ℕ, zero, suc, List, [], ◌∷◌, take, Option, Some, None, refl, sym, ap, ◌∙◌, subst, ◌⊎◌, inl, inr}
+use Rattle.std.proofs.Common.{◌≡◌, ℕ, zero, suc, List, [], take, Option, Some, None, refl, sym, ap, ◌∙◌, subst, ◌⊎◌, inl, inr, Result, Ok, Err}
 use Rattle.go_outside.specs.Faults.{Told}
 use Rattle.go_outside.specs.Sinks.{Takes, TakesSome}
 use Rattle.go_outside.specs.Stores.{Contents}
 use Rattle.api_gate.specs.declared.decision.Decision.{Decision}
 use Rattle.api_gate.specs.declared.decision.Decision.TheVariants as decision
-use Rattle.api_gate.specs.declared.features.PackageConstants.{PackageConstants}
 use Rattle.api_gate.specs.declared.status.Status.{Status}
 use Rattle.api_gate.specs.declared.status.Status.TheVariants as status
 use Rattle.api_gate.specs.declared.words.Request.{Request}
 use Rattle.api_gate.specs.Delivery.{output_of, fault_of, status_of, Delivered, WriteFailed}
-use Rattle.api_gate.specs.Features.{IsReport}
-use Rattle.api_gate.specs.Outcome.{not_yet_line}
-use Rattle.api_gate.specs.Packages.{IsPackage}
-use Rattle.api_gate.specs.Runs.{Outcome, IsOutcome, ends_words, ends_refused, ends_reported, Asks, AgreesWith, AgreesWithFeatures, MayEnd, by_files, by_fault, by_memory, IsFixed, IsOutput, IsFaultLine, Ran, Wrote, IsComplete, reported, refused, bad_words, one}
+use Rattle.go_load.specs.Loads.{LoadsModule, LoadCause}
+use Rattle.go_load.specs.declared.error.LoadError.{LoadError}
+use Rattle.go_model.specs.declared.platform.Platform.{Platform}
+use Rattle.go_outside.specs.Faults.{Rose}
+use Rattle.go_tags.specs.declared.error.TagError.{TagError}
+use Rattle.api_gate.specs.declared.choice.ChoiceError.{ChoiceError}
+use Rattle.api_gate.specs.declared.choice.ChoiceError.TheVariants as choice
+use Rattle.api_gate.specs.ChoiceReading.{ChoiceCause}
+use Rattle.api_gate.specs.Refusals.{tag_line}
+use Rattle.go_model.specs.declared.tree.Tree.{Tree}
+use Rattle.api_gate.specs.RunsReading.{AgreesWith, AgreesWithLoad, AgreesWithSome}
+use Rattle.api_gate.specs.Runs.{Outcome, IsOutcome, ends_words, ends_asked, EndsWith, unloaded, refused_tree, reported_tree, IsTreeRefusal, by_header, new_side, MayEnd, may_words, may_ask, Decides, Ran, IsComplete, outcome_of, reported, refused, bad_words}
 use Rattle.api_gate.specs.Words.{IsRequest}
 
 abbrev Bytes : Type 0
 Bytes = Option (List ℕ)
-
-abbrev outcome_of : Decision → Outcome
-outcome_of d = record { output = output_of d; fault = fault_of d; status = status_of d }
 
 -- both texts were written whole
 abbrev Whole : Decision → Status → Bytes → Bytes → Bytes → Bytes → Type 0
@@ -35,59 +39,9 @@ whole_or_failed d status.ReadFault ro re out out' err err' h = inl h
 whole_or_failed d status.WriteFault ro re out out' err err' h = inr (refl, h)
 whole_or_failed d status.NoMemory ro re out out' err err' h = inl h
 
-module _ (words : List (List ℕ)) (m : Contents) where
-  may_end : (d : Decision) → AgreesWith words m d → MayEnd words m (outcome_of d)
-  may_end (decision.Report text) h = by_files h
-  may_end decision.Words h = by_files h
-  may_end (decision.Refused line) h = by_files h
-  may_end decision.ReadFault h = by_fault refl
-  may_end decision.NoMemory h = by_memory refl
-
-  ran_whole : (d : Decision) (ro re : Type 0) (out out' err err' : Bytes) → AgreesWith words m d → Takes out (output_of d) out' → Takes err (fault_of d) err' → Ran words m (status_of d) ro re out out' err err'
-  ran_whole (decision.Report text) ro re out out' err err' h t s = (outcome_of (decision.Report text), h, refl, t, s)
-  ran_whole decision.Words ro re out out' err err' h t s = (outcome_of decision.Words, h, refl, t, s)
-  ran_whole (decision.Refused line) ro re out out' err err' h t s = (outcome_of (decision.Refused line), h, refl, t, s)
-  ran_whole decision.ReadFault ro re out out' err err' h t s = (t, s)
-  ran_whole decision.NoMemory ro re out out' err err' h t s = (t, s)
-
-  pub ran : (d : Decision) (got : Status) (ro re : Type 0) (out out' err err' : Bytes) → AgreesWith words m d → Delivered d got ro re out out' err err' → Ran words m got ro re out out' err err'
-  ran d got ro re out out' err err' h w =
-      elim (whole_or_failed d got ro re out out' err err' w) [
-        | inl a ↦ subst (λ (s : Status). Ran words m s ro re out out' err err') (sym a.0) (ran_whole d ro re out out' err err' h a.1 a.2)
-        | inr f ↦ subst (λ (s : Status). Ran words m s ro re out out' err err') (sym f.0) (outcome_of d, may_end d h, f.1)
-      ]
-
-pub told_ran : (words : List (List ℕ)) (files : Option Contents) (d : Decision) (got : Status) (ro re : Type 0) (out out' err err' : Bytes) → Told files (λ m. AgreesWith words m d) → Delivered d got ro re out out' err err' → Told files (λ m. Ran words m got ro re out out' err err')
-told_ran words None d got ro re out out' err err' h w = tt
-told_ran words (Some m) d got ro re out out' err err' h w = ran words m d got ro re out out' err err' h w
-
-wrote_whole : (d : Decision) (ro re : Type 0) (out out' err err' : Bytes) → IsFixed d → Takes out (output_of d) out' → Takes err (fault_of d) err' → Wrote (status_of d) ro re out out' err err'
-wrote_whole (decision.Report text) ro re out out' err err' f t s = ((f.0, text, f.1, t), s)
-wrote_whole decision.Words ro re out out' err err' f t s = (t, s)
-wrote_whole (decision.Refused line) ro re out out' err err' f t s = (t, subst (λ (w : List ℕ). Takes err w err') f s)
-wrote_whole decision.ReadFault ro re out out' err err' f t s = (t, s)
-wrote_whole decision.NoMemory ro re out out' err err' f t s = (t, s)
-
-fixed_output : (d : Decision) → IsFixed d → IsOutput (output_of d)
-fixed_output (decision.Report text) f = inr f
-fixed_output decision.Words f = inl refl
-fixed_output (decision.Refused line) f = inl refl
-fixed_output decision.ReadFault f = inl refl
-fixed_output decision.NoMemory f = inl refl
-
-fixed_fault : (d : Decision) → IsFixed d → IsFaultLine (fault_of d)
-fixed_fault (decision.Report text) f = inl refl
-fixed_fault decision.Words f = inr (inl refl)
-fixed_fault (decision.Refused line) f = inr (inr (inl f))
-fixed_fault decision.ReadFault f = inr (inr (inr (inl refl)))
-fixed_fault decision.NoMemory f = inr (inr (inr (inr refl)))
-
-pub wrote : (d : Decision) (got : Status) (ro re : Type 0) (out out' err err' : Bytes) → IsFixed d → Delivered d got ro re out out' err err' → Wrote got ro re out out' err err'
-wrote d got ro re out out' err err' f w =
-    elim (whole_or_failed d got ro re out out' err err' w) [
-      | inl a ↦ subst (λ (s : Status). Wrote s ro re out out' err err') (sym a.0) (wrote_whole d ro re out out' err err' f a.1 a.2)
-      | inr g ↦ subst (λ (s : Status). Wrote s ro re out out' err err') (sym g.0) (output_of d, fault_of d, fixed_output d f, fixed_fault d f, g.1)
-    ]
+pub told_ran : (P : Contents → Outcome → Type 0) (files : Option Contents) (d : Decision) (got : Status) (rf ro re : Type 0) (out out' err err' : Bytes) → Told files (λ m. Decides (P m) rf d) → Delivered d got ro re out out' err err' → Told files (λ m. Ran (P m) got rf ro re out out' err err')
+told_ran P None d got rf ro re out out' err err' h w = tt
+told_ran P (Some m) d got rf ro re out out' err err' h w = (d, h, w)
 
 -- the status is that of the decision, or of a write fault
 pub ends_as : (d : Decision) (got : Status) (ro re : Type 0) (out out' err err' : Bytes) → Delivered d got ro re out out' err err' → (got ≡ status_of d) ⊎ (got ≡ status.WriteFault)
@@ -128,7 +82,7 @@ none_of_none out out' t = subst (λ (w : List ℕ). Takes out w out') (front_of_
 
 nothing_out : (output fault : List ℕ) (ro re : Type 0) (out out' err err' : Bytes) → output ≡ [] → WriteFailed output fault ro re out out' err err' → Takes out [] out'
 nothing_out output fault ro re out out' err err' e f =
-    elim f [ inl a ↦ none_of_none out out' (subst (λ (w : List ℕ). TakesSome out w out') e a.1) | inr b ↦ subst (λ (w : List ℕ). Takes out w out') e b.1 ]
+    elim f [ inl a ↦ none_of_none out out' (subst (λ (w : List ℕ). TakesSome out w out') e a.2) | inr b ↦ subst (λ (w : List ℕ). Takes out w out') e b.2 ]
 
 no_output : (d : Decision) → (d ≡ decision.Words) ⊎ (d ≡ decision.NoMemory) → output_of d ≡ []
 no_output d o = elim o [ inl e ↦ ap output_of e | inr e ↦ ap output_of e ]
@@ -144,60 +98,84 @@ ended_bad_words d got ro re out out' err err' w o =
       | inr f ↦ (inr (inl f.0), nothing_out (output_of d) (fault_of d) ro re out out' err err' (no_output d o) f.1)
     ]
 
--- one outcome for words and files, from one package and one report
-module _ (one_package : (m : Contents) (dir : List ℕ) (a b : PackageConstants) → IsPackage m dir a → IsPackage m dir b → a ≡ b)
-    (one_report : (ps : List PackageConstants) (a b : List ℕ) → IsReport ps a → IsReport ps b → a ≡ b) where
-  third : (a b c x y z : List ℕ) (xs ys : List (List ℕ)) → a ∷ b ∷ c ∷ xs ≡ x ∷ y ∷ z ∷ ys → c ≡ z
-  third a b c x y z xs ys e = cc
+-- a request doesn't end with the line for bad words
+asked_ends : (r : Request) (answer : Result Tree LoadError) (o : Outcome) → EndsWith r answer o → o.status ≡ status.Words → ⊥
+asked_ends r answer o (unloaded e n) s = cc
+asked_ends r answer o (refused_tree t line h) s = cc
+asked_ends r answer o (reported_tree t text h) s = cc
 
-  one_request : (words : List (List ℕ)) (r s : Request) → IsRequest words r → IsRequest words s → r ≡ s
-  one_request words r s p q = ap (λ (new : List ℕ). let r : Request = record { new = new } in r) (third _ _ r.new _ _ s.new [] [] (sym p.spelled ∙ q.spelled))
+may_not_ask : (words : List (List ℕ)) (o : Outcome) → MayEnd words o → o.status ≡ status.Words → (r : Request) → IsRequest words r → ⊥
+may_not_ask words o (may_words n) s = n
+may_not_ask words o (may_ask r answer i l e) s = absurd (asked_ends r answer o e s)
 
-  same_asked : (words : List (List ℕ)) (m : Contents) (p q : PackageConstants) → Asks words m p → Asks words m q → p ≡ q
-  same_asked words m p q a b =
-      one_package m b.request.new p q (subst (λ (r : Request). IsPackage m r.new p) (one_request words a.request b.request a.is_request b.is_request) a.is_package) b.is_package
+pub words_bad : (words : List (List ℕ)) (d : Decision) (got : Status) (rf ro re : Type 0) (out out' err err' : Bytes) → Decides (MayEnd words) rf d → Delivered d got ro re out out' err err' → got ≡ status.Words → (r : Request) → IsRequest words r → ⊥
+words_bad words d got rf ro re out out' err err' h w e = may_not_ask words (outcome_of decision.Words) (subst (Decides (MayEnd words) rf) (ended_words d got ro re out out' err err' w e) h) refl
 
-  pub same_outcome : (words : List (List ℕ)) (m : Contents) (a b : Outcome) → IsOutcome words m a → IsOutcome words m b → a ≡ b
-  same_outcome words m a b (ends_words n e) (ends_words n' e') = e ∙ sym e'
-  same_outcome words m a b (ends_words n e) (ends_refused r i none e') = absurd (n r i)
-  same_outcome words m a b (ends_words n e) (ends_reported p text q r e') = absurd (n q.request q.is_request)
-  same_outcome words m a b (ends_refused r i none e) (ends_words n e') = absurd (n r i)
-  same_outcome words m a b (ends_refused r i none e) (ends_refused r' i' none' e') = e ∙ sym e'
-  same_outcome words m a b (ends_refused r i none e) (ends_reported p text q t e') = absurd (none p (subst (λ (x : Request). IsPackage m x.new p) (one_request words q.request r q.is_request i) q.is_package))
-  same_outcome words m a b (ends_reported p text q t e) (ends_words n e') = absurd (n q.request q.is_request)
-  same_outcome words m a b (ends_reported p text q t e) (ends_refused r i none e') = absurd (none p (subst (λ (x : Request). IsPackage m x.new p) (one_request words q.request r q.is_request i) q.is_package))
-  same_outcome words m a b (ends_reported p text q t e) (ends_reported p' text' q' t' e') =
-      e ∙ ap reported (one_report (one p') text text' (subst (λ (x : PackageConstants). IsReport (one x) text) (same_asked words m p p' q q') t) t') ∙ sym e'
+pub read_rose : (P : Outcome → Type 0) (d : Decision) (got : Status) (rf ro re : Type 0) (out out' err err' : Bytes) → Decides P rf d → Delivered d got ro re out out' err err' → got ≡ status.ReadFault → rf
+read_rose P d got rf ro re out out' err err' h w e = subst (Decides P rf) (ended_read d got ro re out out' err err' w e) h
 
 module _ (same : (words : List (List ℕ)) (m : Contents) (a b : Outcome) → IsOutcome words m a → IsOutcome words m b → a ≡ b) where
-  passes : (words : List (List ℕ)) (m : Contents) (got : Status) (text : List ℕ) (o : Outcome) → IsOutcome words m (reported text) → IsOutcome words m o → got ≡ o.status → got ≡ status.Pass
-  passes words m got text o a b e = e ∙ ap (λ (x : Outcome). x.status) (same words m o (reported text) b a)
+  passes : (words : List (List ℕ)) (m : Contents) (text : List ℕ) (o : Outcome) → IsOutcome words m (reported text) → IsOutcome words m o → o.status ≡ status.Pass
+  passes words m text o a b = ap (λ (x : Outcome). x.status) (same words m o (reported text) b a)
 
-  complete : (words : List (List ℕ)) (m : Contents) (got : Status) (rose : Type 0) (ro re : Type 0) (out out' err err' : Bytes) → Ran words m got ro re out out' err err' → (got ≡ status.ReadFault → rose) → (got ≡ status.WriteFault → rose) → IsComplete words m got rose
-  complete words m status.Pass rose ro re out out' err err' r read write text o none = inl refl
-  complete words m status.Broken rose ro re out out' err err' r read write text o none = inl (passes words m status.Broken text r.0 o r.1 r.2)
-  complete words m status.Words rose ro re out out' err err' r read write text o none = inl (passes words m status.Words text r.0 o r.1 r.2)
-  complete words m status.Refused rose ro re out out' err err' r read write text o none = inl (passes words m status.Refused text r.0 o r.1 r.2)
-  complete words m status.ReadFault rose ro re out out' err err' r read write text o none = absurd (none (read refl))
-  complete words m status.WriteFault rose ro re out out' err err' r read write text o none = absurd (none (write refl))
-  complete words m status.NoMemory rose ro re out out' err err' r read write text o none = inr refl
+  whole : (words : List (List ℕ)) (m : Contents) (rose : Type 0) (d : Decision) (text : List ℕ) → Decides (IsOutcome words m) rose d → IsOutcome words m (reported text) → (rose → ⊥) → (status_of d ≡ status.Pass) ⊎ (status_of d ≡ status.NoMemory)
+  whole words m rose (decision.Report t) text h o none = inl refl
+  whole words m rose decision.Words text h o none = inl (passes words m text (outcome_of decision.Words) o h)
+  whole words m rose (decision.Refused line) text h o none = inl (passes words m text (outcome_of (decision.Refused line)) o h)
+  whole words m rose decision.ReadFault text h o none = absurd (none h)
+  whole words m rose decision.NoMemory text h o none = inr refl
 
-  pub told_complete : (words : List (List ℕ)) (files : Option Contents) (got : Status) (rose : Type 0) (ro re : Type 0) (out out' err err' : Bytes) → Told files (λ m. Ran words m got ro re out out' err err') → (got ≡ status.ReadFault → rose) → (got ≡ status.WriteFault → rose) → Told files (λ m. IsComplete words m got rose)
-  told_complete words None got rose ro re out out' err err' r read write = tt
-  told_complete words (Some m) got rose ro re out out' err err' r read write = complete words m got rose ro re out out' err err' r read write
+  complete : (words : List (List ℕ)) (m : Contents) (got : Status) (rose : Type 0) (rf ro re : Type 0) (out out' err err' : Bytes) → Ran (IsOutcome words m) got rf ro re out out' err err' → (rf → rose) → (got ≡ status.WriteFault → rose) → IsComplete words m got rose
+  complete words m got rose rf ro re out out' err err' r read write text o none =
+      elim (whole_or_failed r.0 got ro re out out' err err' r.2) as (λ _. (got ≡ status.Pass) ⊎ (got ≡ status.NoMemory)) [
+        | inl a ↦ elim (whole words m rf r.0 text r.1 o (λ f. none (read f))) [ inl p ↦ inl (a.0 ∙ p) | inr q ↦ inr (a.0 ∙ q) ]
+        | inr f ↦ absurd (none (write f.0))
+      ]
 
--- from the features of a folder to the decision for the words
-decides : (words : List (List ℕ)) (m : Contents) (r : Request) (d : Decision) → IsRequest words r → AgreesWithFeatures m r.new d → AgreesWith words m d
-decides words m r (decision.Report text) i h = ends_reported h.0 text (record { request = r; is_request = i; is_package = h.1 }) h.2 refl
-decides words m r decision.Words i h = absurd h
-decides words m r (decision.Refused line) i h = ends_refused r i h.0 (ap refused h.1)
-decides words m r decision.ReadFault i h = tt
-decides words m r decision.NoMemory i h = tt
+  pub told_complete : (words : List (List ℕ)) (files : Option Contents) (got : Status) (rose : Type 0) (rf ro re : Type 0) (out out' err err' : Bytes) → Told files (λ m. Ran (IsOutcome words m) got rf ro re out out' err err') → (rf → rose) → (got ≡ status.WriteFault → rose) → Told files (λ m. IsComplete words m got rose)
+  told_complete words None got rose rf ro re out out' err err' r read write = tt
+  told_complete words (Some m) got rose rf ro re out out' err err' r read write = complete words m got rose rf ro re out out' err err' r read write
 
-pub told_decides : (words : List (List ℕ)) (files : Option Contents) (r : Request) (d : Decision) → IsRequest words r → Told files (λ m. AgreesWithFeatures m r.new d) → Told files (λ m. AgreesWith words m d)
-told_decides words None r d i h = tt
-told_decides words (Some m) r d i h = decides words m r d i h
+-- what the decision for the answer of a load ends with
+ends_with : (r : Request) (answer : Result Tree LoadError) (rose : Type 0) (d : Decision) → (d ≡ decision.ReadFault → rose) → AgreesWith r.platform answer d → Decides (EndsWith r answer) rose d
+ends_with r (Ok t) rose (decision.Report text) f h = reported_tree t text h
+ends_with r (Ok t) rose decision.Words f h = absurd h
+ends_with r (Ok t) rose (decision.Refused line) f h = refused_tree t line h
+ends_with r (Ok t) rose decision.ReadFault f h = f refl
+ends_with r (Ok t) rose decision.NoMemory f h = tt
+ends_with r (Err e) rose (decision.Report text) f h = absurd h
+ends_with r (Err e) rose decision.Words f h = absurd h
+ends_with r (Err e) rose (decision.Refused line) f h = subst (λ (l : List ℕ). EndsWith r (Err e) (refused l)) (sym h.1) (unloaded e h.0)
+ends_with r (Err e) rose decision.ReadFault f h = f refl
+ends_with r (Err e) rose decision.NoMemory f h = tt
 
-pub told_bad_words : (words : List (List ℕ)) (files : Option Contents) → ((r : Request) → IsRequest words r → ⊥) → Told files (λ m. AgreesWith words m decision.Words)
+decides_map : (P Q : Outcome → Type 0) (rose : Type 0) (d : Decision) → ((o : Outcome) → P o → Q o) → Decides P rose d → Decides Q rose d
+decides_map P Q rose (decision.Report text) f h = f (outcome_of (decision.Report text)) h
+decides_map P Q rose decision.Words f h = f (outcome_of decision.Words) h
+decides_map P Q rose (decision.Refused line) f h = f (outcome_of (decision.Refused line)) h
+decides_map P Q rose decision.ReadFault f h = h
+decides_map P Q rose decision.NoMemory f h = h
+
+pub told_decides : (words : List (List ℕ)) (files : Option Contents) (r : Request) (rose : Type 0) (d : Decision) → IsRequest words r → (d ≡ decision.ReadFault → rose) → Told files (λ m. AgreesWithLoad m r d) → Told files (λ m. Decides (IsOutcome words m) rose d)
+told_decides words None r rose d i f h = tt
+told_decides words (Some m) r rose d i f h = decides_map (EndsWith r h.0) (IsOutcome words m) rose d (λ o e. ends_asked r h.0 i h.1 e) (ends_with r h.0 rose d f h.2)
+
+pub some_decides : (words : List (List ℕ)) (r : Request) (rose : Type 0) (d : Decision) → IsRequest words r → (d ≡ decision.ReadFault → rose) → AgreesWithSome r d → Decides (MayEnd words) rose d
+some_decides words r rose d i f h = decides_map (EndsWith r h.0) (MayEnd words) rose d (λ o e. may_ask r h.0 i h.1 e) (ends_with r h.0 rose d f h.2)
+
+pub told_bad_words : (words : List (List ℕ)) (files : Option Contents) → ((r : Request) → IsRequest words r → ⊥) → Told files (λ m. IsOutcome words m bad_words)
 told_bad_words words None n = tt
-told_bad_words words (Some m) n = ends_words n refl
+told_bad_words words (Some m) n = ends_words n
+
+-- a load that failed decides so
+pub told_load : (files : Option Contents) (r : Request) (root : List ℕ) (answer : Result Tree LoadError) (d : Decision) → root ≡ r.new → Told files (λ m. LoadsModule m root answer) → AgreesWith r.platform answer d → Told files (λ m. AgreesWithLoad m r d)
+told_load None r root answer d e l h = tt
+told_load (Some m) r root answer d e l h = (answer, subst (λ (dir : List ℕ). LoadsModule m dir answer) e l, h)
+
+pub unloaded_read : (p : Platform) (e : LoadError) (d : Decision) (before now : ℕ) → AgreesWith p (Err e) d → LoadCause {A = Tree} before now (Err e) → d ≡ decision.ReadFault → Rose before now
+unloaded_read p e d before now h c is = subst (λ (x : LoadError). LoadCause {A = Tree} before now (Err x)) (subst (AgreesWith p (Err e)) is h) c
+
+pub tree_refused : (p : Platform) (t : Tree) (path line : List ℕ) (cause : TagError) (e : ChoiceError) → e ≡ choice.Refused path cause → line ≡ tag_line new_side p path cause → ChoiceCause p t.files e → IsTreeRefusal p t line
+tree_refused p t path line cause e is so c =
+    let d : ChoiceCause p t.files (choice.Refused path cause) = subst (ChoiceCause p t.files) is c in
+    by_header d.0 cause d.1 (so ∙ ap (λ (x : List ℕ). tag_line new_side p x cause) d.2)

@@ -1,13 +1,10 @@
 -- Bytes that a sink takes in pieces.
-use Rattle.std.proofs.Common.{◌≡◌, ℕ, zero, suc, ◌+◌, ◌-◌, ◌^◌, min, ◌≤◌, List, [], ◌∷◌, ◌++◌, length, take, drop, Option, Some, None, Result, Ok, Err, refl, sym, ap, ◌∙◌, subst, append_assoc, inl, inr, arith, length-drop, length-take-le}
+use Rattle.std.proofs.Common.{◌≡◌, ℕ, zero, suc, ◌+◌, ◌-◌, ◌≤◌, List, [], ◌∷◌, ◌++◌, length, take, drop, Option, Some, None, Result, Ok, Err, refl, sym, ap, ◌∙◌, subst, append_assoc, inl, inr, arith, length-drop, length-take-le}
 use Rattle.go_outside.specs.Faults.{Rose}
 use Rattle.go_outside.specs.Sinks.{Takes, TakesSome, AnswersWrite, SinkCause}
 use Rattle.go_outside.specs.declared.sink.SinkError.{SinkError}
 use Rattle.api_gate.specs.Delivery.{Tried, NeverFell}
-
-append_nothing : (xs : List ℕ) → xs ++ [] ≡ xs
-append_nothing [] = refl
-append_nothing (x ∷ xs) = ap (λ ys. x ∷ ys) (append_nothing xs)
+use Rattle.api_gate.proofs.Drops.{append_nothing}
 
 pub takes_nothing : (old : Option (List ℕ)) → Takes old [] old
 takes_nothing None = refl

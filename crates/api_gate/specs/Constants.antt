@@ -1,7 +1,7 @@
 -- The constants that the declarations of a file give, where each declares one constant by one
 -- literal of a whole number.
 -- Source: Go specification, "Constant declarations", in the first form of this project.
-use Rattle.std.specs.Prelude.{ℕ, ℤ, Bool, false, ◌&&◌, nat_le, Option, Some, None, List, [], ◌∷◌, map}
+use Rattle.std.specs.Prelude.{ℕ, ℤ, Bool, false, ◌&&◌, nat_le, Option, Some, None, List, [], ◌∷◌}
 use Rattle.go_model.specs.Lists.{Passes}
 use Rattle.go_model.specs.declared.syntax.declaration.Decl.{Decl}
 use Rattle.go_model.specs.declared.syntax.declaration.Decl.TheVariants as decl
@@ -51,9 +51,6 @@ then_first c cs = None
 abbrev pub constants_of : List Decl → Option (List Constant)
 constants_of [] = Some []
 constants_of (d ∷ ds) = then_first (constant_of d) (constants_of ds)
-
-abbrev pub names_of : List Constant → List (List ℕ)
-names_of cs = map (λ c. c.name) cs
 
 abbrev pub begins_upper : List ℕ → Bool
 begins_upper [] = false

@@ -1,6 +1,6 @@
 -- How a decision is written to the two sinks.
 -- Source: this project's reports and exit statuses, docs/definitions.md, "Runs".
-use Rattle.std.specs.Prelude.{◌≡◌, ◌≤◌, ◌-◌, ◌^◌, min, ◌⊎◌, ℕ, List, [], Option}
+use Rattle.std.specs.Prelude.{◌≡◌, ◌<◌, ◌≤◌, ◌-◌, ◌^◌, min, ◌⊎◌, ℕ, List, [], length, Option}
 use Rattle.api_gate.specs.declared.status.Status.{Status}
 use Rattle.api_gate.specs.declared.status.Status.TheVariants as status
 use Rattle.api_gate.specs.declared.decision.Decision.{Decision}
@@ -29,7 +29,7 @@ status_of (Refused line) = status.Refused
 status_of ReadFault = status.ReadFault
 status_of NoMemory = status.NoMemory
 
--- a count didn't fall, where it stood at a value of its type
+-- a count didn't fall, up to the last value of its type
 abbrev pub NeverFell : ℕ → ℕ → Type 0
 NeverFell before now = min before (2 ^ 64 - 1) ≤ now
 
@@ -38,10 +38,11 @@ abbrev pub Tried : Type 0 → Option (List ℕ) → List ℕ → Option (List �
 Tried rose old text new = Takes old text new ⊎ (rose × TakesSome old text new)
 
 -- the output failed after a front of its text, and then the line of a write fault was tried; or the
--- output was taken whole, and the error output failed after a front of the fault line
+-- output was taken whole, and the error output failed after a front of the fault line; what failed
+-- wasn't empty
 abbrev pub WriteFailed : List ℕ → List ℕ → Type 0 → Type 0 → Option (List ℕ) → Option (List ℕ) → Option (List ℕ) → Option (List ℕ) → Type 0
 WriteFailed output fault out_rose err_rose out out' err err' =
-    (out_rose × TakesSome out output out' × Tried err_rose err write_line err') ⊎ (err_rose × Takes out output out' × TakesSome err fault err')
+    (out_rose × (0 < length output) × TakesSome out output out' × Tried err_rose err write_line err') ⊎ (err_rose × (0 < length fault) × Takes out output out' × TakesSome err fault err')
 
 -- both texts were written whole, or a write failed; the facts say that the count of faults rose of
 -- the output and of the error output

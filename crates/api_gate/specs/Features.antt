@@ -1,13 +1,28 @@
 -- The feature lines of constants of whole numbers, and the report that holds each of them once.
--- Source: the lines that Go's cmd/api writes to its files api/go1.txt and later.
-use Rattle.std.specs.Prelude.{◌≡◌, ◌⊎◌, ℕ, List, [], ◌∷◌, ◌++◌, codes}
+-- Source: the lines that Go's cmd/api writes to its files api/go1.txt and later; which packages are
+-- public is this project's own, after "Internal packages" of the Go command's documentation.
+use Rattle.std.specs.Prelude.{◌≡◌, ◌≢◌, ◌⊎◌, ℕ, Bool, true, not, nat_eq, bytes_eq, List, [], ◌∷◌, ◌++◌, codes}
 use Rattle.std.specs.Fmt.{signed_decimal}
+use Rattle.std.specs.List.{list_all, slice_split}
 use Rattle.std.specs.Ordering.{nat_cmp}
 use Rattle.std.specs.Cmp.Lexicographic.{slice_cmp}
 use Rattle.std.specs.List.Sorted.{IsStrictlySortedBy}
+use Rattle.go_load.specs.Names.{place}
 use Rattle.go_model.specs.Lists.{Has}
 use Rattle.api_gate.specs.declared.constants.Constant.{Constant}
-use Rattle.api_gate.specs.declared.features.PackageConstants.{PackageConstants}
+use Rattle.api_gate.specs.declared.sources.FileSource.{FileSource}
+
+-- a byte ends an element of a path
+abbrev pub is_slash : ℕ → Bool
+is_slash b = nat_eq b 47
+
+abbrev pub is_public_element : List ℕ → Bool
+is_public_element element = not (bytes_eq element (codes "internal"))
+
+-- no element of the import path is `internal`, and the package isn't `main`
+pub record IsPublic (module_path : List ℕ) (s : FileSource) : Type 0 where
+  pub path : list_all is_public_element (slice_split is_slash (place module_path s.folder)) ≡ true
+  pub library : s.source.package_name ≢ codes "main"
 
 -- `pkg PATH, const X = V`
 abbrev pub value_line : List ℕ → Constant → List ℕ
@@ -21,13 +36,13 @@ kind_line path c = codes "pkg " ++ path ++ codes ", const " ++ c.name ++ codes "
 abbrev pub IsLineOf : List ℕ → Constant → List ℕ → Type 0
 IsLineOf path c line = (value_line path c ≡ line) ⊎ (kind_line path c ≡ line)
 
--- a line of a constant of the package
-abbrev pub IsFeatureOf : PackageConstants → List ℕ → Type 0
-IsFeatureOf p line = (c : Constant) × Has p.constants c × IsLineOf p.path c line
+-- a line of a constant that a file of a public package declares
+abbrev pub IsFeatureOf : List ℕ → FileSource → List ℕ → Type 0
+IsFeatureOf module_path s line = IsPublic module_path s × (c : Constant) × Has s.source.constants c × IsLineOf (place module_path s.folder) c line
 
--- a line of one of the packages
-abbrev pub IsFeature : List PackageConstants → List ℕ → Type 0
-IsFeature packages line = (p : PackageConstants) × Has packages p × IsFeatureOf p line
+-- a line of one of the files
+abbrev pub IsFeature : List ℕ → List FileSource → List ℕ → Type 0
+IsFeature module_path sources line = (s : FileSource) × Has sources s × IsFeatureOf module_path s line
 
 -- the lines, each ended by a newline
 abbrev pub unlines : List (List ℕ) → List ℕ
@@ -41,11 +56,5 @@ pub record IsOrdered (P : List ℕ → Type 0) (lines : List (List ℕ)) : Type 
   pub ordered : IsStrictlySortedBy (slice_cmp nat_cmp) lines
 
 -- the text of all features
-abbrev pub IsReport : List PackageConstants → List ℕ → Type 0
-IsReport packages text = (lines : List (List ℕ)) × IsOrdered (IsFeature packages) lines × (text ≡ unlines lines)
-
--- the new list has the members of the old one, and those with the property
-pub record Grows (P : List ℕ → Type 0) (old new : List (List ℕ)) : Type 0 where
-  pub sound : (x : List ℕ) → Has new x → Has old x ⊎ P x
-  pub kept : (x : List ℕ) → Has old x → Has new x
-  pub complete : (x : List ℕ) → P x → Has new x
+abbrev pub IsReport : List ℕ → List FileSource → List ℕ → Type 0
+IsReport module_path sources text = (lines : List (List ℕ)) × IsOrdered (IsFeature module_path sources) lines × (text ≡ unlines lines)

@@ -1,5 +1,5 @@
 -- What a run writes and how it ends: the texts that don't depend on the input.
-use Rattle.std.specs.Prelude.{ℕ, List, [], codes}
+use Rattle.std.specs.Prelude.{ℕ, List, codes}
 use Rattle.api_gate.specs.declared.status.Status.{Status}
 use Rattle.api_gate.specs.declared.status.Status.TheVariants as status
 

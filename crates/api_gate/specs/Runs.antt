@@ -1,19 +1,29 @@
 -- What a run writes and how it ends, by the words and the told files. This is what the top call's
 -- clauses speak of: `IsOutcome` says what the definitions give, and `Ran` what a run may do.
 -- Source: this project's reports and exit statuses, docs/definitions.md, "Runs".
-use Rattle.std.specs.Prelude.{◌≡◌, ◌⊎◌, ℕ, List, [], ◌∷◌, Option}
-use Rattle.go_outside.specs.Sinks.{Takes}
+use Rattle.std.specs.Prelude.{◌≡◌, ◌⊎◌, ℕ, List, [], Option, Result, Err, Ok, codes}
+use Rattle.go_load.specs.Answers.{IsFree}
+use Rattle.go_load.specs.Loads.{LoadsModule}
+use Rattle.go_load.specs.declared.error.LoadError.{LoadError}
+use Rattle.go_model.specs.declared.platform.Platform.{Platform}
+use Rattle.go_model.specs.declared.tree.Tree.{Tree}
+use Rattle.go_model.specs.declared.tree.TreeFile.{TreeFile}
+use Rattle.go_model.specs.Lists.{Each}
+use Rattle.go_model.specs.Trees.{IsTree, IsModulePath}
 use Rattle.go_outside.specs.Stores.{Contents}
+use Rattle.go_tags.specs.declared.error.TagError.{TagError}
 use Rattle.api_gate.specs.declared.decision.Decision.{Decision}
 use Rattle.api_gate.specs.declared.decision.Decision.TheVariants as decision
-use Rattle.api_gate.specs.declared.features.PackageConstants.{PackageConstants}
+use Rattle.api_gate.specs.declared.sources.FileSource.{FileSource}
 use Rattle.api_gate.specs.declared.status.Status.{Status}
 use Rattle.api_gate.specs.declared.status.Status.TheVariants as status
 use Rattle.api_gate.specs.declared.words.Request.{Request}
-use Rattle.api_gate.specs.Delivery.{output_of, fault_of, status_of, WriteFailed}
+use Rattle.api_gate.specs.Choice.{IsFirstFaulty, IsSound}
+use Rattle.api_gate.specs.Delivery.{output_of, fault_of, status_of, Delivered}
 use Rattle.api_gate.specs.Features.{IsReport}
-use Rattle.api_gate.specs.Outcome.{words_line, not_yet_line, read_line, memory_line}
-use Rattle.api_gate.specs.Packages.{IsPackage}
+use Rattle.api_gate.specs.Outcome.{words_line, not_yet_line}
+use Rattle.api_gate.specs.Refusals.{load_line, tag_line, file_path}
+use Rattle.api_gate.specs.Sources.{AreSources, ArePackages}
 use Rattle.api_gate.specs.Words.{IsRequest}
 
 -- what goes to the output, the fault line, and the status
@@ -31,76 +41,62 @@ bad_words = record { output = []; fault = words_line; status = status.Words }
 abbrev pub refused : List ℕ → Outcome
 refused line = record { output = []; fault = line; status = status.Refused }
 
-abbrev pub one : PackageConstants → List PackageConstants
-one p = p ∷ []
+-- how fault lines name the tree of the option `--new`
+abbrev pub new_side : List ℕ
+new_side = codes "new"
 
--- the words ask for the features of this folder of the store, which holds this package
-pub record Asks (words : List (List ℕ)) (m : Contents) (p : PackageConstants) : Type 0 where
-  pub request : Request
-  pub is_request : IsRequest words request
-  pub is_package : IsPackage m request.new p
+-- no header is refused, and the chosen files declare packages in the form that is read today
+pub record AreReadAs (p : Platform) (files : List TreeFile) (sources : List FileSource) : Type 0 where
+  pub sound : Each (IsSound p) files
+  pub read : AreSources p files sources
+  pub packages : ArePackages sources
+
+-- why a loaded tree is refused on a platform: a header before a form that isn't built yet
+pub data IsTreeRefusal (p : Platform) (t : Tree) (line : List ℕ) : Type 0 where
+  by_header : (file : TreeFile) (error : TagError) → IsFirstFaulty p t.files file error → line ≡ tag_line new_side p (file_path file) error → IsTreeRefusal p t line
+  by_form : Each (IsSound p) t.files → ((sources : List FileSource) → AreReadAs p t.files sources → ⊥) → line ≡ not_yet_line → IsTreeRefusal p t line
+
+-- the report on a loaded tree
+abbrev pub IsTreeReport : Platform → Tree → List ℕ → Type 0
+IsTreeReport p t text = (sources : List FileSource) × AreReadAs p t.files sources × IsReport t.module sources text
+
+-- what a request ends with, where the load of its tree gave this answer
+pub data EndsWith (r : Request) : Result Tree LoadError → Outcome → Type 0 where
+  unloaded : (e : LoadError) → (IsFree (Err e) → ⊥) → EndsWith r (Err e) (refused (load_line new_side e))
+  refused_tree : (t : Tree) (line : List ℕ) → IsTreeRefusal r.platform t line → EndsWith r (Ok t) (refused line)
+  reported_tree : (t : Tree) (text : List ℕ) → IsTreeReport r.platform t text → EndsWith r (Ok t) (reported text)
 
 -- what the definitions give for the words and the files
-pub data IsOutcome (words : List (List ℕ)) (m : Contents) (o : Outcome) : Type 0 where
-  ends_words : ((r : Request) → IsRequest words r → ⊥) → o ≡ bad_words → IsOutcome words m o
-  ends_refused : (r : Request) → IsRequest words r → ((p : PackageConstants) → IsPackage m r.new p → ⊥) → o ≡ refused not_yet_line → IsOutcome words m o
-  ends_reported : (p : PackageConstants) (text : List ℕ) → Asks words m p → IsReport (one p) text → o ≡ reported text → IsOutcome words m o
+pub data IsOutcome (words : List (List ℕ)) (m : Contents) : Outcome → Type 0 where
+  ends_words : ((r : Request) → IsRequest words r → ⊥) → IsOutcome words m bad_words
+  ends_asked : {o : Outcome} (r : Request) (answer : Result Tree LoadError) → IsRequest words r → LoadsModule m r.new answer → EndsWith r answer o → IsOutcome words m o
 
--- a decision says what the definitions give, but for a fault of reading or want of memory
-abbrev pub AgreesWith : List (List ℕ) → Contents → Decision → Type 0
-AgreesWith words m decision.ReadFault = Unit {0}
-AgreesWith words m decision.NoMemory = Unit {0}
-AgreesWith words m d = IsOutcome words m (record { output = output_of d; fault = fault_of d; status = status_of d })
+abbrev pub outcome_of : Decision → Outcome
+outcome_of d = record { output = output_of d; fault = fault_of d; status = status_of d }
 
--- an outcome of the definitions, or that of a fault of reading or want of memory
-pub data MayEnd (words : List (List ℕ)) (m : Contents) (o : Outcome) : Type 0 where
-  by_files : IsOutcome words m o → MayEnd words m o
-  by_fault : o ≡ record { output = []; fault = read_line; status = status.ReadFault } → MayEnd words m o
-  by_memory : o ≡ record { output = []; fault = memory_line; status = status.NoMemory } → MayEnd words m o
+-- a decision is an outcome, but for a fault of reading and want of memory; the fact says that the
+-- count of faults rose of the store
+abbrev pub Decides : (Outcome → Type 0) → (rose : Type 0) → Decision → Type 0
+Decides P rose decision.ReadFault = rose
+Decides P rose decision.NoMemory = Unit {0}
+Decides P rose d = P (outcome_of d)
 
--- what a run may write on the two sinks, by its status; the facts say that the count of faults rose
--- of the output and of the error output
-abbrev pub Ran : List (List ℕ) → Contents → Status → Type 0 → Type 0 → Option (List ℕ) → Option (List ℕ) → Option (List ℕ) → Option (List ℕ) → Type 0
-Ran words m status.ReadFault out_rose err_rose out out' err err' = Takes out [] out' × Takes err read_line err'
-Ran words m status.NoMemory out_rose err_rose out out' err err' = Takes out [] out' × Takes err memory_line err'
-Ran words m status.WriteFault out_rose err_rose out out' err err' = (o : Outcome) × MayEnd words m o × WriteFailed o.output o.fault out_rose err_rose out out' err err'
-Ran words m got out_rose err_rose out out' err err' = (o : Outcome) × IsOutcome words m o × (got ≡ o.status) × Takes out o.output out' × Takes err o.fault err'
+-- what a run may do on the two sinks: deliver a decision; the facts say that the count of faults
+-- rose of the store, of the output and of the error output
+abbrev pub Ran : (Outcome → Type 0) → Status → (files_rose out_rose err_rose : Type 0) → Option (List ℕ) → Option (List ℕ) → Option (List ℕ) → Option (List ℕ) → Type 0
+Ran P got files_rose out_rose err_rose out out' err err' = (d : Decision) × Decides P files_rose d × Delivered d got out_rose err_rose out out' err err'
 
--- nothing, or the report of some package
-abbrev pub IsOutput : List ℕ → Type 0
-IsOutput text = (text ≡ []) ⊎ ((p : PackageConstants) × IsReport (one p) text)
+-- an answer that a load may give over any store
+abbrev pub MayLoad : Result Tree LoadError → Type 0
+MayLoad (Ok t) = IsTree t × IsModulePath t.module
+MayLoad (Err e) = Unit {0}
 
--- no fault line, or one of those that are fixed
-abbrev pub IsFaultLine : List ℕ → Type 0
-IsFaultLine line = (line ≡ []) ⊎ (line ≡ words_line) ⊎ (line ≡ not_yet_line) ⊎ (line ≡ read_line) ⊎ (line ≡ memory_line)
-
--- what a run writes over any store, told or not: but for a report, nothing goes to the output
-abbrev pub Wrote : Status → Type 0 → Type 0 → Option (List ℕ) → Option (List ℕ) → Option (List ℕ) → Option (List ℕ) → Type 0
-Wrote status.Pass out_rose err_rose out out' err err' = ((p : PackageConstants) × (text : List ℕ) × IsReport (one p) text × Takes out text out') × Takes err [] err'
-Wrote status.Broken out_rose err_rose out out' err err' = ⊥
-Wrote status.Words out_rose err_rose out out' err err' = Takes out [] out' × Takes err words_line err'
-Wrote status.Refused out_rose err_rose out out' err err' = Takes out [] out' × Takes err not_yet_line err'
-Wrote status.ReadFault out_rose err_rose out out' err err' = Takes out [] out' × Takes err read_line err'
-Wrote status.WriteFault out_rose err_rose out out' err err' = (output : List ℕ) × (fault : List ℕ) × IsOutput output × IsFaultLine fault × WriteFailed output fault out_rose err_rose out out' err err'
-Wrote status.NoMemory out_rose err_rose out out' err err' = Takes out [] out' × Takes err memory_line err'
-
--- a decision writes only what `Wrote` allows
-abbrev pub IsFixed : Decision → Type 0
-IsFixed (decision.Report text) = (p : PackageConstants) × IsReport (one p) text
-IsFixed decision.Words = Unit {0}
-IsFixed (decision.Refused line) = line ≡ not_yet_line
-IsFixed decision.ReadFault = Unit {0}
-IsFixed decision.NoMemory = Unit {0}
+-- what the definitions may give for the words over some store
+pub data MayEnd (words : List (List ℕ)) : Outcome → Type 0 where
+  may_words : ((r : Request) → IsRequest words r → ⊥) → MayEnd words bad_words
+  may_ask : {o : Outcome} (r : Request) (answer : Result Tree LoadError) → IsRequest words r → MayLoad answer → EndsWith r answer o → MayEnd words o
 
 -- where the definitions give a report and no count of faults rose, the report was written, or no
 -- memory was left
 abbrev pub IsComplete : List (List ℕ) → Contents → Status → (rose : Type 0) → Type 0
 IsComplete words m got rose = (text : List ℕ) → IsOutcome words m (reported text) → (rose → ⊥) → (got ≡ status.Pass) ⊎ (got ≡ status.NoMemory)
-
--- what the features of a folder's module tree decide, but for a fault of reading or want of memory
-abbrev pub AgreesWithFeatures : Contents → List ℕ → Decision → Type 0
-AgreesWithFeatures m dir (decision.Report text) = (p : PackageConstants) × IsPackage m dir p × IsReport (one p) text
-AgreesWithFeatures m dir decision.Words = ⊥
-AgreesWithFeatures m dir (decision.Refused line) = ((p : PackageConstants) → IsPackage m dir p → ⊥) × (line ≡ not_yet_line)
-AgreesWithFeatures m dir decision.ReadFault = Unit {0}
-AgreesWithFeatures m dir decision.NoMemory = Unit {0}

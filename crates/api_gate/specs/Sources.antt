@@ -1,13 +1,19 @@
--- What a source file declares, by its tokens and its syntax.
--- Source: Go specification, "Source file organization" and "Constant declarations", in the first
--- form of this project.
-use Rattle.std.specs.Prelude.{◌≡◌, ℕ, List, [], Some}
+-- What a source file declares, by its tokens and its syntax, and what the chosen files of a tree declare.
+-- Source: Go specification, "Source file organization", "Packages" and "Constant declarations". What
+-- is read today is the first form: no import, and constants each declared by one literal of a whole number.
+use Rattle.std.specs.Prelude.{◌≡◌, ℕ, List, [], ◌∷◌, ◌++◌, Some, map}
+use Rattle.go_model.specs.declared.platform.Platform.{Platform}
 use Rattle.go_model.specs.declared.syntax.declaration.File.{File}
 use Rattle.go_model.specs.declared.token.Token.{Token}
+use Rattle.go_model.specs.declared.tree.TreeFile.{TreeFile}
+use Rattle.go_model.specs.Lists.{Has, Each, Once}
 use Rattle.go_model.specs.Outline.{IsOutline}
 use Rattle.go_model.specs.Tokens.{IsTokens}
+use Rattle.api_gate.specs.declared.constants.Constant.{Constant}
 use Rattle.api_gate.specs.declared.source.Source.{Source}
-use Rattle.api_gate.specs.Constants.{constants_of}
+use Rattle.api_gate.specs.declared.sources.FileSource.{FileSource}
+use Rattle.api_gate.specs.Choice.{IsChosen}
+use Rattle.api_gate.specs.Constants.{constants_of, AreExported}
 
 -- the syntax tree has no import, has this package name and declares these constants
 pub record Declares (outline : File) (source : Source) : Type 0 where
@@ -22,3 +28,37 @@ IsParsed tokens source = (outline : File) × IsOutline tokens outline × Declare
 -- the bytes have tokens with such a tree
 abbrev pub IsSource : List ℕ → Source → Type 0
 IsSource bytes source = (tokens : List Token) × IsTokens bytes tokens × IsParsed tokens source
+
+-- the file declares this
+pub record IsFileSource (file : TreeFile) (s : FileSource) : Type 0 where
+  pub folder : s.folder ≡ file.folder
+  pub source : IsSource file.bytes s.source
+
+-- what the chosen ones of these files declare, in the order of the files
+pub data AreSources (p : Platform) : List TreeFile → List FileSource → Type 0 where
+  no_file : AreSources p [] []
+  left_out : {file : TreeFile} {files : List TreeFile} {sources : List FileSource} → (IsChosen p file → ⊥) → AreSources p files sources → AreSources p (file ∷ files) sources
+  chosen : {file : TreeFile} {files : List TreeFile} {sources : List FileSource} (s : FileSource) → IsChosen p file → IsFileSource file s → AreSources p files sources → AreSources p (file ∷ files) (s ∷ sources)
+
+-- a name with the folder in whose package it is declared
+abbrev pub Declared : Type 0
+Declared = List ℕ × List ℕ
+
+-- the names that a file declares
+abbrev pub declared_in : FileSource → List Declared
+declared_in s = map (λ (c : Constant). (s.folder, c.name)) s.source.constants
+
+-- the names that the files declare
+abbrev pub declared : List FileSource → List Declared
+declared [] = []
+declared (s ∷ sources) = declared_in s ++ declared sources
+
+-- the files of one folder have one package name
+abbrev pub AreOfOnePackage : List FileSource → Type 0
+AreOfOnePackage sources = (s t : FileSource) → Has sources s → Has sources t → s.folder ≡ t.folder → s.source.package_name ≡ t.source.package_name
+
+-- each name is exported and is declared once in its folder, and the files of one folder have one package name
+pub record ArePackages (sources : List FileSource) : Type 0 where
+  pub exported : Each (λ (s : FileSource). AreExported s.source.constants) sources
+  pub one_name : AreOfOnePackage sources
+  pub once : Once (declared sources)

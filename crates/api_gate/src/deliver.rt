@@ -1,5 +1,5 @@
 //! Writing: a text in pieces, and a decision to both sinks.
-ghost use Rattle.std.specs.Prelude.{◌≡◌, ◌≤◌, ◌<◌, ◌⊎◌, ℕ, length};
+ghost use Rattle.std.specs.Prelude.{◌≡◌, ◌≤◌, ◌<◌, ◌⊎◌, ℕ, length, IfErr};
 ghost use Rattle.go_outside.specs.Faults.{Rose};
 ghost use Rattle.go_outside.specs.Sinks.{AnswersWrite, SinkCause};
 ghost use Rattle.api_gate.specs.Delivery.{Delivered, NeverFell};
@@ -26,6 +26,7 @@ fn write_piece<S: Sink>(sink: &mut S, piece: &[u8]) -> Result<(), SinkError>
 /// Writes the bytes in pieces of at most `PIECE` bytes, none of them empty.
 pub fn write_pieces<S: Sink>(sink: &mut S, bytes: &[u8]) -> Result<(), SinkError>
     ensures bytes { AnswersWrite (S.told sink.old) bytes.now (S.told sink.new) result }
+    ensures some { IfErr result (λ _. 0 < length bytes.now) }
     ensures cause { SinkCause (S.faults sink.old) (S.faults sink.new) result }
 {
     let mut at = 0usize;

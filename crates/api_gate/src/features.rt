@@ -1,24 +1,20 @@
 //! Feature lines of constants, and the report that holds each once in the order of bytes.
-ghost use Rattle.std.specs.Prelude.{◌≡◌, ◌⊎◌, IfOk, OnOk, List, [], ◌++◌, ◌∷◌, codes, ℕ};
+ghost use Rattle.std.specs.Prelude.{◌≡◌, ◌≢◌, ◌⊎◌, IfOk, OnOk, Decides, List, [], ◌++◌, ◌∷◌, true, codes, ℕ};
 ghost use Rattle.std.specs.Fmt.{signed_decimal};
-ghost use Rattle.api_gate.specs.declared.features.PackageConstants.{PackageConstants};
-ghost use Rattle.api_gate.specs.Features.{value_line, kind_line, IsLineOf, IsFeature, IsFeatureOf, IsReport, Grows, unlines};
+ghost use Rattle.std.specs.List.{list_all, slice_split};
+ghost use Rattle.api_gate.specs.declared.sources.FileSource.{FileSource};
+ghost use Rattle.api_gate.specs.Features.{value_line, kind_line, is_public_element, is_slash, IsLineOf, IsFeature, IsFeatureOf, IsReport, unlines};
+ghost use Rattle.api_gate.specs.Growing.{Grows};
+ghost use Rattle.api_gate.specs.FeaturesReading.{IsLineOfSome};
 
 use crate::constants::Constant;
-use go_model::list::List;
+use crate::sources::FileSource;
+use go_load::names::place;
 use go_model::memory::NoMemory;
 use go_model::text::Text;
 use itoa::Buffer;
 use std::alloc::Global;
 use std::collections::BTreeSet;
-
-/// The constants of a package that features speak of.
-#[derive(Debug, Drop)]
-pub struct PackageConstants {
-    /// The import path.
-    pub path: Text,
-    pub constants: List<Constant>,
-}
 
 fn line_of(alloc: Global, path: &[u8], name: &[u8], rest: &[u8]) -> Result<Text, NoMemory>
     ensures { IfOk result (λ line. line ≡ codes "pkg " ++ path.now ++ codes ", const " ++ name.now ++ rest.now) }
@@ -68,25 +64,62 @@ fn add_constant(
     insert(lines, kind_line(alloc, path, constant)?)
 }
 
-fn add_package(
+fn is_public(path: &[u8], package_name: &[u8]) -> bool
+    ensures { Decides result ((list_all is_public_element (slice_split is_slash path.now) ≡ true) × (package_name.now ≢ codes "main")) }
+{
+    if package_name == b"main".as_slice() {
+        return false;
+    }
+    are_public(path)
+}
+
+// Whether no element of the import path is `internal`.
+fn are_public(path: &[u8]) -> bool
+    ensures { result ≡ list_all is_public_element (slice_split is_slash path.now) }
+{
+    path.split(|b| *b == b'/')
+        .all(|element| element != b"internal".as_slice())
+}
+
+fn add_constants(
     alloc: Global,
     lines: &mut BTreeSet<Text>,
-    package: &PackageConstants,
+    path: &[u8],
+    constants: &[Constant],
 ) -> Result<(), NoMemory>
-    ensures { OnOk result (Grows (IsFeatureOf «package».now) lines.old.keys lines.new.keys) }
+    ensures { OnOk result (Grows (IsLineOfSome path.now constants.now) lines.old.keys lines.new.keys) }
 {
-    for constant in package.constants.items() {
-        add_constant(alloc, lines, package.path.bytes(), constant)?;
+    for constant in constants {
+        add_constant(alloc, lines, path, constant)?;
     }
     Ok(())
 }
 
-fn feature_lines(alloc: Global, packages: &[PackageConstants]) -> Result<BTreeSet<Text>, NoMemory>
-    ensures { IfOk result (λ lines. Grows (IsFeature packages.now) [] lines.keys) }
+fn add_source(
+    alloc: Global,
+    lines: &mut BTreeSet<Text>,
+    module: &[u8],
+    file: &FileSource,
+) -> Result<(), NoMemory>
+    ensures { OnOk result (Grows (IsFeatureOf «module».now file.now) lines.old.keys lines.new.keys) }
+{
+    let path = place(alloc, module, file.folder.bytes())?;
+    if !is_public(path.bytes(), file.source.package_name.bytes()) {
+        return Ok(());
+    }
+    add_constants(alloc, lines, path.bytes(), file.source.constants.items())
+}
+
+fn feature_lines(
+    alloc: Global,
+    module: &[u8],
+    sources: &[FileSource],
+) -> Result<BTreeSet<Text>, NoMemory>
+    ensures { IfOk result (λ lines. Grows (IsFeature «module».now sources.now) [] lines.keys) }
 {
     let mut lines = BTreeSet::new(alloc);
-    for package in packages {
-        add_package(alloc, &mut lines, package)?;
+    for file in sources {
+        add_source(alloc, &mut lines, module, file)?;
     }
     Ok(lines)
 }
@@ -102,16 +135,17 @@ fn unlines(alloc: Global, mut lines: BTreeSet<Text>) -> Result<Text, NoMemory>
     Ok(Text::from_vec(text))
 }
 
-/// The report on these packages: each of their feature lines once, in the order of bytes.
-pub fn report(alloc: Global, packages: &[PackageConstants]) -> Result<Text, NoMemory>
-    ensures { IfOk result (IsReport packages.now) }
+/// The report on the files of a module: the feature lines of its public packages, each once, in the
+/// order of bytes.
+pub fn report(alloc: Global, module: &[u8], sources: &[FileSource]) -> Result<Text, NoMemory>
+    ensures { IfOk result (IsReport «module».now sources.now) }
 {
-    let lines = feature_lines(alloc, packages)?;
+    let lines = feature_lines(alloc, module, sources)?;
     let _count = lines.len();
     unlines(alloc, lines)
 }
 
-/// Packages have one report.
+/// The files of a module have one report.
 pub fn one_report()
-    ensures { (packages : List PackageConstants) (a b : List ℕ) → IsReport packages a → IsReport packages b → a ≡ b }
+    ensures { (path : List ℕ) (sources : List FileSource) (a b : List ℕ) → IsReport path sources a → IsReport path sources b → a ≡ b }
 {}

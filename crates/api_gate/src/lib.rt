@@ -1,15 +1,16 @@
 //! The gate's top call: words and a store of files in, a report or a fault line and a status out.
 #![tactic(auto)]
 
+pub mod choice;
 pub mod constants;
 pub mod decision;
 pub mod deliver;
 pub mod features;
-pub mod first_form;
 pub mod names;
-pub mod package;
+pub mod refusals;
 pub mod run;
 pub mod source;
+pub mod sources;
 pub mod status;
 pub mod words;
 

@@ -1,28 +1,44 @@
 //! The top call.
-ghost use Rattle.std.specs.Prelude.{◌≡◌, ◌≢◌, ◌⊎◌, List, [], ℕ, map, string_bytes};
+ghost use Rattle.std.specs.Prelude.{◌≡◌, ◌⊎◌, List, [], ℕ, map, string_bytes, Ok, Err};
+ghost use Rattle.go_model.specs.Trees.{IsTree};
+ghost use Rattle.go_model.specs.declared.platform.Platform.{Platform};
+ghost use Rattle.go_model.specs.declared.tree.Tree.{Tree};
 ghost use Rattle.go_outside.specs.Faults.{Told, Rose};
 ghost use Rattle.go_outside.specs.Sinks.{Takes};
 ghost use Rattle.go_outside.specs.Stores.{Contents};
+ghost use Rattle.api_gate.specs.ChoiceReading.{ChoiceCause};
 ghost use Rattle.api_gate.specs.Delivery.{NeverFell};
 ghost use Rattle.api_gate.specs.Outcome.{not_yet_line};
-ghost use Rattle.api_gate.specs.Runs.{Outcome, IsOutcome, AgreesWith, AgreesWithFeatures, IsFixed, Ran, Wrote, IsComplete};
+ghost use Rattle.api_gate.specs.Runs.{Outcome, IsOutcome, MayEnd, Decides, Ran, IsComplete};
+ghost use Rattle.api_gate.specs.RunsReading.{AgreesWith, AgreesWithLoad, AgreesWithSome, Reports};
 ghost use Rattle.api_gate.specs.Words.{IsRequest};
 
+use crate::choice::{ChoiceError, choose};
 use crate::decision::Decision;
 use crate::deliver::deliver;
 use crate::features::{one_report, report};
-use crate::first_form::FirstFormError;
-use crate::package::{load_package, one_package};
+use crate::names::are_packages;
+use crate::refusals::{load_line, tag_line};
+use crate::source::SourceError;
+use crate::sources::{FileSource, one_sources, read_sources};
 use crate::status::Status;
-use crate::words::{Request, read_words};
+use crate::words::{Request, one_request, read_words};
+use go_load::error::LoadError;
+use go_load::load::{load_module, one_answer};
 use go_model::memory::NoMemory;
+use go_model::platform::Platform;
 use go_model::steps::Steps;
 use go_model::text::Text;
+use go_model::tree::Tree;
 use go_outside::files::Files;
 use go_outside::gate::Gate;
 use go_outside::sink::Sink;
+use go_tags::header::one_header;
 use std::alloc::Global;
 use std::thread::Threads;
+
+/// The tree that fault lines name `new`.
+const NEW_SIDE: &[u8] = b"new";
 
 const NOT_YET_LINE: &[u8] = b"apigate: input of a form not built yet\n";
 
@@ -35,40 +51,92 @@ fn not_yet(alloc: Global) -> Decision
     }
 }
 
-// The features of the module tree in a folder.
-fn features<F: Files>(alloc: Global, files: &mut F, dir: &[u8]) -> Decision
-    ensures told { Told (F.told files.old) (λ m. AgreesWithFeatures m dir.now result) }
-    ensures read { result ≡ Decision.ReadFault → Rose (F.faults files.old) (F.faults files.new) }
-    ensures words { result ≢ Decision.Words }
-    ensures fixed { IsFixed result }
-    ensures same { F.told files.new ≡ F.told files.old }
-    ensures counts { NeverFell (F.faults files.old) (F.faults files.new) }
+// What a tree that isn't loaded decides.
+fn unloaded(alloc: Global, error: &LoadError) -> Decision
+    ensures { (p : Platform) → AgreesWith p (Err error.now) result }
 {
-    match load_package(alloc, files, dir) {
-        Err(FirstFormError::NotYet) => not_yet(alloc),
-        Err(FirstFormError::ReadFault) => Decision::ReadFault,
-        Err(FirstFormError::NoMemory) => Decision::NoMemory,
-        Ok(package) => match report(alloc, &[package]) {
+    match error {
+        LoadError::ReadFault => Decision::ReadFault,
+        LoadError::NoMemory => Decision::NoMemory,
+        _ => match load_line(alloc, NEW_SIDE, error) {
+            Ok(line) => Decision::Refused(line),
+            Err(NoMemory) => Decision::NoMemory,
+        },
+    }
+}
+
+// The report on the sources of a tree, or a refusal of their form.
+fn report_on(alloc: Global, module: &[u8], sources: &[FileSource]) -> Decision
+    ensures { Reports «module».now sources.now result }
+{
+    match are_packages(alloc, sources) {
+        Err(NoMemory) => Decision::NoMemory,
+        Ok(false) => not_yet(alloc),
+        Ok(true) => match report(alloc, module, sources) {
             Ok(text) => Decision::Report(text),
             Err(NoMemory) => Decision::NoMemory,
         },
     }
 }
 
+fn refuse_header(alloc: Global, platform: Platform, error: ChoiceError) -> Decision
+    ensures { (t : Tree) → ChoiceCause platform t.files error → AgreesWith platform (Ok t) result }
+{
+    match error {
+        ChoiceError::NoMemory => Decision::NoMemory,
+        ChoiceError::Refused(path, cause) => {
+            match tag_line(alloc, NEW_SIDE, platform, path.bytes(), cause) {
+                Ok(line) => Decision::Refused(line),
+                Err(NoMemory) => Decision::NoMemory,
+            }
+        }
+    }
+}
+
+// The features of a loaded tree on a platform.
+fn tree_features(alloc: Global, platform: Platform, tree: &Tree) -> Decision
+    requires { IsTree tree.now }
+    ensures { AgreesWith platform (Ok tree.now) result }
+{
+    one_sources();
+    let files = tree.files.items();
+    let flags = match choose(alloc, platform, files) {
+        Ok(flags) => flags,
+        Err(error) => return refuse_header(alloc, platform, error),
+    };
+    match read_sources(alloc, files, flags.items()) {
+        Err(SourceError::NotYet) => not_yet(alloc),
+        Err(SourceError::NoMemory) => Decision::NoMemory,
+        Ok(sources) => report_on(alloc, tree.module.bytes(), sources.items()),
+    }
+}
+
+// The features that a request asks for.
+fn features<F: Files>(alloc: Global, files: &mut F, request: &Request) -> Decision
+    ensures told { Told (F.told files.old) (λ m. AgreesWithLoad m request.now result) }
+    ensures some { AgreesWithSome request.now result }
+    ensures read { result ≡ Decision.ReadFault → Rose (F.faults files.old) (F.faults files.new) }
+    ensures same { F.told files.new ≡ F.told files.old }
+    ensures counts { NeverFell (F.faults files.old) (F.faults files.new) }
+{
+    match load_module(alloc, files, request.new.bytes()) {
+        Err(error) => unloaded(alloc, &error),
+        Ok(tree) => tree_features(alloc, request.platform, &tree),
+    }
+}
+
 // What a run is to write.
 fn decide<F: Files>(alloc: Global, words: &[String], files: &mut F) -> Decision
-    ensures told { Told (F.told files.old) (λ m. AgreesWith (map string_bytes words.now) m result) }
-    ensures read { result ≡ Decision.ReadFault → Rose (F.faults files.old) (F.faults files.new) }
-    ensures words { result ≡ Decision.Words → (r : Request) → IsRequest (map string_bytes words.now) r → ⊥ }
-    ensures bad_words { ((r : Request) → IsRequest (map string_bytes words.now) r → ⊥) → (result ≡ Decision.Words) ⊎ (result ≡ Decision.NoMemory) }
-    ensures fixed { IsFixed result }
+    ensures told { Told (F.told files.old) (λ m. Decides (IsOutcome (map string_bytes words.now) m) (Rose (F.faults files.old) (F.faults files.new)) result) }
+    ensures some { Decides (MayEnd (map string_bytes words.now)) (Rose (F.faults files.old) (F.faults files.new)) result }
+    ensures words { ((r : Request) → IsRequest (map string_bytes words.now) r → ⊥) → (result ≡ Decision.Words) ⊎ (result ≡ Decision.NoMemory) }
     ensures same { F.told files.new ≡ F.told files.old }
     ensures counts { NeverFell (F.faults files.old) (F.faults files.new) }
 {
     match read_words(alloc, words) {
         Err(NoMemory) => Decision::NoMemory,
         Ok(None) => Decision::Words,
-        Ok(Some(request)) => features(alloc, files, request.new.bytes()),
+        Ok(Some(request)) => features(alloc, files, &request),
     }
 }
 
@@ -89,13 +157,13 @@ pub fn run<R: Threads + Sync, F: Files, S: Sink, E: Sink, G: Gate + Sync, L: Cop
     gate: &G,
     steps: &mut Steps<L>,
 ) -> Status
-    // Where the store tells its files, the report and the status are those of the definitions, or
-    // the status is that of a fault or of want of memory.
-    ensures outcome { Told (F.told files.old) (λ m. Ran (map string_bytes words.now) m result (Rose (S.faults out.old) (S.faults out.new)) (Rose (E.faults err.old) (E.faults err.new)) (S.told out.old) (S.told out.new) (E.told err.old) (E.told err.new)) }
+    // Where the store tells its files, a run delivers what the definitions give for the words and
+    // these files, or says that the store failed, where it did, or that no memory was left.
+    ensures outcome { Told (F.told files.old) (λ m. Ran (IsOutcome (map string_bytes words.now) m) result (Rose (F.faults files.old) (F.faults files.new)) (Rose (S.faults out.old) (S.faults out.new)) (Rose (E.faults err.old) (E.faults err.new)) (S.told out.old) (S.told out.new) (E.told err.old) (E.told err.new)) }
     ensures complete { Told (F.told files.old) (λ m. IsComplete (map string_bytes words.now) m result (Rose (F.faults files.old) (F.faults files.new) ⊎ Rose (S.faults out.old) (S.faults out.new) ⊎ Rose (E.faults err.old) (E.faults err.new))) }
 
-    // Over any store.
-    ensures wrote { Wrote result (Rose (S.faults out.old) (S.faults out.new)) (Rose (E.faults err.old) (E.faults err.new)) (S.told out.old) (S.told out.new) (E.told err.old) (E.told err.new) }
+    // Over any store, it delivers what the definitions give for the words over some store.
+    ensures some { Ran (MayEnd (map string_bytes words.now)) result (Rose (F.faults files.old) (F.faults files.new)) (Rose (S.faults out.old) (S.faults out.new)) (Rose (E.faults err.old) (E.faults err.new)) (S.told out.old) (S.told out.new) (E.told err.old) (E.told err.new) }
     ensures words { result ≡ Status.Words → (r : Request) → IsRequest (map string_bytes words.now) r → ⊥ }
     ensures bad_words { ((r : Request) → IsRequest (map string_bytes words.now) r → ⊥) → ((result ≡ Status.Words) ⊎ (result ≡ Status.WriteFault) ⊎ (result ≡ Status.NoMemory)) × Takes (S.told out.old) [] (S.told out.new) }
     ensures read { result ≡ Status.ReadFault → Rose (F.faults files.old) (F.faults files.new) }
@@ -116,7 +184,10 @@ pub fn run<R: Threads + Sync, F: Files, S: Sink, E: Sink, G: Gate + Sync, L: Cop
 pub fn one_outcome()
     ensures { (words : List (List ℕ)) (m : Contents) (a b : Outcome) → IsOutcome words m a → IsOutcome words m b → a ≡ b }
 {
-    one_package();
+    one_request();
+    one_answer();
+    one_header();
+    one_sources();
     one_report();
 }
 

@@ -7,6 +7,6 @@ pub mod error;
 mod go_mod;
 mod kind;
 pub mod load;
-mod names;
+pub mod names;
 mod reads;
 mod walk;

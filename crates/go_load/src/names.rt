@@ -116,7 +116,7 @@ pub(crate) fn joined(alloc: Global, front: &[u8], back: &[u8]) -> Result<Text, N
 }
 
 /// The path of an entry of a folder, below the root of the tree.
-pub(crate) fn under(alloc: Global, folder: &[u8], name: &[u8]) -> Result<Text, NoMemory>
+pub fn under(alloc: Global, folder: &[u8], name: &[u8]) -> Result<Text, NoMemory>
     ensures { IfOk result (λ text. text ≡ under folder.now name.now) }
 {
     if folder.is_empty() {
@@ -126,7 +126,7 @@ pub(crate) fn under(alloc: Global, folder: &[u8], name: &[u8]) -> Result<Text, N
 }
 
 /// Where a folder of the tree stands in the store.
-pub(crate) fn place(alloc: Global, root: &[u8], folder: &[u8]) -> Result<Text, NoMemory>
+pub fn place(alloc: Global, root: &[u8], folder: &[u8]) -> Result<Text, NoMemory>
     ensures { IfOk result (λ text. text ≡ place root.now folder.now) }
 {
     if folder.is_empty() {

@@ -121,14 +121,40 @@ fn numbers(alloc: Global, all: &[u64]) -> Result<List<u64>, NoMemory> {
     Ok(list)
 }
 
-fn refuses<R: Threads + Sync + AllocGlobal>(rt: &R, pairs: &[(&str, &[u8])]) -> Result<bool, Fail> {
+// Whether a run of these words over a store ends with this status, output and error output.
+fn ends<R: Threads + Sync + AllocGlobal>(
+    rt: &R,
+    pairs: &[(&str, &[u8])],
+    line: &str,
+    code: u8,
+    report: &[u8],
+    fault: &[u8],
+) -> Result<bool, Fail> {
     let alloc = rt.alloc();
     let mut files = store(alloc, pairs)?;
-    let mut out = MemorySink::new();
+    let words = split_words(alloc, line)?;
+    let mut out = MemorySink::with_capacity(alloc, 10_000)?;
     let mut err = MemorySink::with_capacity(alloc, 1000)?;
-    let code = features_of(rt, &mut files, &mut out, &mut err)?;
-    Ok(code == 3 && err.bytes() == NOT_YET_LINE)
+    let mut steps = Steps::new(());
+    let status = run(
+        rt, alloc, &words, &mut files, &mut out, &mut err, &OpenGate, &mut steps,
+    );
+    let checks = steps.end();
+    Ok(checks == 0 && status.code() == code && out.bytes() == report && err.bytes() == fault)
 }
+
+// Whether the features of a store end with this status, output and error output.
+fn ends_plainly<R: Threads + Sync + AllocGlobal>(
+    rt: &R,
+    pairs: &[(&str, &[u8])],
+    code: u8,
+    report: &[u8],
+    fault: &[u8],
+) -> Result<bool, Fail> {
+    ends(rt, pairs, "features --new new", code, report, fault)
+}
+
+const NOT_YET: &[u8] = b"apigate: input of a form not built yet\n";
 
 #[test]
 fn refuses_sources_of_other_forms(rt: HostRuntime) -> Result<(), Fail> {
@@ -140,16 +166,17 @@ fn refuses_sources_of_other_forms(rt: HostRuntime) -> Result<(), Fail> {
         b"package p\n\0".as_slice(),
         b"package p\nconst \xc3\x84 = 5\n".as_slice(),
         b"package p // c\n".as_slice(),
+        b"//go:build linux\n\npackage p\n".as_slice(),
         b"package p\nconst A_b = 5\n".as_slice(),
         b"package p\nconst X = 08\n".as_slice(),
         b"package p\nconst X = 012\n".as_slice(),
         b"package p\nconst X = 1a\n".as_slice(),
         b"package p\nconst X = 170141183460469231731687303715884105728\n".as_slice(),
         b"package p\nconst x = 5\n".as_slice(),
+        b"package main\nconst x = 5\n".as_slice(),
         b"package p\nconst X = 5\nconst X = 5\n".as_slice(),
         b"package p\nconst Type = 5\nconst type = 5\n".as_slice(),
         b"package type\n".as_slice(),
-        b"package main\n".as_slice(),
         b"package p\nconst\nX = 5\nconst X\n= 5\n".as_slice(),
         b"const X = 5\n".as_slice(),
     ] {
@@ -157,77 +184,229 @@ fn refuses_sources_of_other_forms(rt: HostRuntime) -> Result<(), Fail> {
             ("new/go.mod", b"module m\n".as_slice()),
             ("new/p/p.go", source),
         ];
-        assert!(rt; refuses(&rt, &pairs)?, "{source:?}");
+        assert!(rt; ends_plainly(&rt, &pairs, 3, b"", NOT_YET)?, "{source:?}");
     }
     Ok(())
 }
 
+const FIVE: &[u8] = b"package p\nconst X = 5\n";
+
 #[test]
-fn refuses_module_lines_of_other_forms(rt: HostRuntime) -> Result<(), Fail> {
+fn reads_the_module_line(rt: HostRuntime) -> Result<(), Fail> {
+    let report = b"pkg m/p, const X = 5\npkg m/p, const X ideal-int\n".as_slice();
+    for line in [
+        b"module m".as_slice(),
+        b" \tmodule  m \n".as_slice(),
+        b"module \"m\"\n".as_slice(),
+        b"module `m`// c\n".as_slice(),
+        b"// c\n\nmodule m // c\n\ngo 1.21\n".as_slice(),
+    ] {
+        let pairs = [("new/go.mod", line), ("new/p/p.go", FIVE)];
+        assert!(rt; ends_plainly(&rt, &pairs, 0, report, b"")?, "{line:?}");
+    }
+    let fault = b"apigate: new: no module line in go.mod\n".as_slice();
     for line in [
         b"".as_slice(),
-        b"module m".as_slice(),
-        b"module  m\n".as_slice(),
-        b"module m \n".as_slice(),
-        b"module \"m\"\n".as_slice(),
-        b"module m // c\n".as_slice(),
-        b"module m\r\n".as_slice(),
-        b"module m\n\n".as_slice(),
         b"module\n".as_slice(),
-        b"module m/internal/p\n".as_slice(),
+        b"module m\r\n".as_slice(),
+        b"module m\nmodule m\n".as_slice(),
+        b"module (m)\n".as_slice(),
         b"module unsafe\n".as_slice(),
         b"module C\n".as_slice(),
         b"module .m\n".as_slice(),
         b"module m/-p\n".as_slice(),
         b"module m//p\n".as_slice(),
         b"module m/\n".as_slice(),
+        b"module m n\n".as_slice(),
         b"module m\xc3\x84\n".as_slice(),
     ] {
-        let pairs = [
-            ("new/go.mod", line),
-            ("new/p/p.go", b"package p".as_slice()),
-        ];
-        assert!(rt; refuses(&rt, &pairs)?, "{line:?}");
+        let pairs = [("new/go.mod", line), ("new/p/p.go", FIVE)];
+        assert!(rt; ends_plainly(&rt, &pairs, 3, b"", fault)?, "{line:?}");
     }
     Ok(())
 }
 
 #[test]
-fn refuses_trees_of_other_forms(rt: HostRuntime) -> Result<(), Fail> {
+fn refuses_what_is_no_module(rt: HostRuntime) -> Result<(), Fail> {
+    let pairs = [("new/p/p.go", FIVE), ("new/go.mod/x", FIVE)];
+    assert!(rt; ends_plainly(&rt, &pairs, 3, b"", b"apigate: new: no go.mod\n")?);
+    let pairs = [("old/go.mod", b"module m\n".as_slice()), ("new", FIVE)];
+    assert!(rt; ends_plainly(&rt, &pairs, 3, b"", b"apigate: new: not found\n")?);
+    assert!(rt;
+        ends(
+            &rt,
+            &pairs,
+            "features --new x",
+            3,
+            b"",
+            b"apigate: new: not found\n"
+        )?
+    );
+    Ok(())
+}
+
+// A module of one file with so many bytes.
+fn wide(alloc: Global, length: usize) -> Result<Vec<u8>, Fail> {
+    let mut source = Vec::from_slice(alloc, FIVE)?;
+    source.resize(length, b' ')?;
+    Ok(source)
+}
+
+#[test]
+fn keeps_the_limit_of_a_file(rt: HostRuntime) -> Result<(), Fail> {
+    let alloc = rt.alloc();
     let module = ("new/go.mod", b"module m\n".as_slice());
-    let source = b"package p".as_slice();
-    let trees = [
-        [
-            ("old/go.mod", b"module m\n".as_slice()),
-            ("old/p/p.go", source),
-            ("old/q", source),
-        ],
-        [module, ("new/p/p.go", source), ("new/README", source)],
-        [module, ("new/p/p.go", source), ("new/p/q.go", source)],
-        [module, ("new/p/p.go", source), ("new/q/q.go", source)],
-        [module, ("new/p/q/p.go", source), ("old", source)],
-        [module, ("new/vendor/p.go", source), ("old", source)],
-        [module, ("new/internal/p.go", source), ("old", source)],
-        [module, ("new/testdata/p.go", source), ("old", source)],
-        [module, ("new/P/p.go", source), ("old", source)],
-        [module, ("new/p1/p.go", source), ("old", source)],
-        [module, ("new/p/.go", source), ("old", source)],
-        [module, ("new/p/p", source), ("old", source)],
-        [module, ("new/p/p1.go", source), ("old", source)],
-        [module, ("new/p.go", source), ("old", source)],
-        [
-            ("new/go.mod/x", source),
-            ("new/p/p.go", source),
-            ("old", source),
-        ],
-        [
-            ("new/go.mo", source),
-            ("new/p/p.go", source),
-            ("old", source),
-        ],
+    let most = wide(alloc, 4_194_304)?;
+    let pairs = [module, ("new/p/p.go", most.as_slice())];
+    let report = b"pkg m/p, const X = 5\npkg m/p, const X ideal-int\n".as_slice();
+    assert!(rt; ends_plainly(&rt, &pairs, 0, report, b"")?);
+    let over = wide(alloc, 4_194_305)?;
+    let pairs = [module, ("new/p/p.go", over.as_slice())];
+    let fault = b"apigate: new: p/p.go: limit file-bytes\n".as_slice();
+    assert!(rt; ends_plainly(&rt, &pairs, 3, b"", fault)?);
+    let pairs = [("new/go.mod", over.as_slice()), ("new/p/p.go", FIVE)];
+    let fault = b"apigate: new: go.mod: limit file-bytes\n".as_slice();
+    assert!(rt; ends_plainly(&rt, &pairs, 3, b"", fault)?);
+    Ok(())
+}
+
+/// A tree with names of systems and architectures.
+#[rattlefmt::skip]
+const SYSTEMS: [(&str, &[u8]); 7] = [
+    ("new/go.mod",            b"module m\n"),
+    ("new/p/file_linux.go",   b"package p\nconst A = 1\n"),
+    ("new/p/linux.go",        b"package p\nconst B = 1\n"),
+    ("new/p/a_unix.go",       b"package p\nconst C = 1\n"),
+    ("new/p/b_linux_arm.go",  b"package p\nconst D = 1\n"),
+    ("new/p/c_windows.go",    b"package p\nconst E = 1\n"),
+    ("new/p/d_test.go",       b"not Go at all"),
+];
+
+const A_B_C: &[u8] =
+    b"pkg m/p, const A = 1\npkg m/p, const A ideal-int\npkg m/p, const B = 1\npkg m/p, const B ideal-int\npkg m/p, const C = 1\npkg m/p, const C ideal-int\n";
+
+const B_C_E: &[u8] =
+    b"pkg m/p, const B = 1\npkg m/p, const B ideal-int\npkg m/p, const C = 1\npkg m/p, const C ideal-int\npkg m/p, const E = 1\npkg m/p, const E ideal-int\n";
+
+#[test]
+fn chooses_files_by_the_platform(rt: HostRuntime) -> Result<(), Fail> {
+    for (line, report) in [
+        ("features --new new", A_B_C),
+        ("features --platforms linux-amd64 --new new", A_B_C),
+        ("features --new new --platforms windows-amd64", B_C_E),
+        ("features --platforms android-arm64 --new new", A_B_C),
+    ] {
+        assert!(rt; ends(&rt, &SYSTEMS, line, 0, report, b"")?, "{line}");
+    }
+    Ok(())
+}
+
+#[test]
+fn names_the_first_header_that_is_refused(rt: HostRuntime) -> Result<(), Fail> {
+    let module = ("new/go.mod", b"module m\n".as_slice());
+    // A file of another form, a file that the platform leaves out, and the first refused header.
+    for (source, fault) in [
+        (
+            b"//go:build (\n\npackage p\n".as_slice(),
+            b"apigate: new linux-386: p/b.go: go:build line not understood\n".as_slice(),
+        ),
+        (
+            b"//go:build x\n//go:build x\npackage p\n".as_slice(),
+            b"apigate: new linux-386: p/b.go: two go:build lines\n".as_slice(),
+        ),
+        (
+            b"// +build x\n\npackage p\n".as_slice(),
+            b"apigate: new linux-386: p/b.go: +build without go:build\n".as_slice(),
+        ),
+    ] {
+        let pairs = [
+            module,
+            ("new/a.go", b"no form".as_slice()),
+            ("new/p/a_windows.go", b"//go:build !!x\n".as_slice()),
+            ("new/p/b.go", source),
+            ("new/p/c.go", b"//go:build (\n//go:build )\n".as_slice()),
+            ("new/q/a.go", b"// +build x\n".as_slice()),
+        ];
+        assert!(rt;
+            ends(
+                &rt,
+                &pairs,
+                "features --new new --platforms linux-386",
+                3,
+                b"",
+                fault
+            )?,
+            "{source:?}"
+        );
+    }
+    // The file in the root comes before those in folders.
+    let pairs = [
+        module,
+        ("new/b.go", b"// +build x\n".as_slice()),
+        ("new/a/a.go", b"//go:build (\n".as_slice()),
     ];
-    for (number, tree) in trees.iter().enumerate() {
-        assert!(rt; refuses(&rt, tree)?, "tree {number}");
+    let fault = b"apigate: new linux-amd64: b.go: +build without go:build\n".as_slice();
+    assert!(rt; ends_plainly(&rt, &pairs, 3, b"", fault)?);
+    Ok(())
+}
+
+#[test]
+fn prints_the_public_packages_of_a_tree(rt: HostRuntime) -> Result<(), Fail> {
+    let pairs = [
+        ("new/go.mod", b"module example.com/m\n".as_slice()),
+        ("new/m.go", b"package m\nconst Root = 1\n".as_slice()),
+        ("new/a-b/x.go", b"package x\nconst X = 2\n".as_slice()),
+        ("new/a/b/x.go", b"package x\nconst X = 3\n".as_slice()),
+        ("new/a/b/y.go", b"package x\nconst Y = 4\n".as_slice()),
+        (
+            "new/a/b/z.go",
+            b"//go:build ignore\n\npackage other\n".as_slice(),
+        ),
+        ("new/cmd/main.go", b"package main\nconst X = 5\n".as_slice()),
+        (
+            "new/a/internal/b/x.go",
+            b"package b\nconst X = 6\n".as_slice(),
+        ),
+        ("new/internals/x.go", b"package i\nconst X = 7\n".as_slice()),
+        ("new/testdata/x.go", b"\0".as_slice()),
+        ("new/vendor/x.go", b"\0".as_slice()),
+        ("new/_a/x.go", b"\0".as_slice()),
+        ("new/nested/go.mod", b"".as_slice()),
+        ("new/nested/x.go", b"\0".as_slice()),
+        ("new/README", b"\0".as_slice()),
+    ];
+    let report =
+        b"pkg example.com/m, const Root = 1\npkg example.com/m, const Root ideal-int\npkg example.com/m/a-b, const X = 2\npkg example.com/m/a-b, const X ideal-int\npkg example.com/m/a/b, const X = 3\npkg example.com/m/a/b, const X ideal-int\npkg example.com/m/a/b, const Y = 4\npkg example.com/m/a/b, const Y ideal-int\npkg example.com/m/internals, const X = 7\npkg example.com/m/internals, const X ideal-int\n";
+    assert!(rt; ends_plainly(&rt, &pairs, 0, report, b"")?);
+    let pairs = [
+        ("new/go.mod", b"module m/internal\n".as_slice()),
+        ("new/p/p.go", FIVE),
+    ];
+    assert!(rt; ends_plainly(&rt, &pairs, 0, b"", b"")?);
+    let pairs = [("new/go.mod", b"module m\n".as_slice())];
+    assert!(rt; ends_plainly(&rt, &pairs, 0, b"", b"")?);
+    Ok(())
+}
+
+#[test]
+fn refuses_packages_of_other_forms(rt: HostRuntime) -> Result<(), Fail> {
+    let module = ("new/go.mod", b"module m\n".as_slice());
+    for tree in [
+        [module, ("new/p/a.go", FIVE), ("new/p/b.go", FIVE)],
+        [module, ("new/p/a.go", FIVE), ("new/p/b.go", b"package q\n")],
+        [module, ("new/a.go", FIVE), ("new/b.go", b"package main\n")],
+        [
+            module,
+            ("new/p/a.go", FIVE),
+            ("new/q/b.go", b"package q\nconst x = 1\n"),
+        ],
+        [
+            module,
+            ("new/p/a.go", FIVE),
+            ("new/internal/b.go", b"package q\nconst _ = 1\n"),
+        ],
+    ] {
+        assert!(rt; ends_plainly(&rt, &tree, 3, b"", NOT_YET)?);
     }
     Ok(())
 }
@@ -241,7 +420,7 @@ fn split_words(alloc: Global, line: &str) -> Result<Vec<String>, Fail> {
     Ok(all)
 }
 
-const BAD_LINES: [&str; 13] = [
+const BAD_LINES: [&str; 22] = [
     "",
     "features",
     "features --new",
@@ -255,6 +434,15 @@ const BAD_LINES: [&str; 13] = [
     "Features --new new",
     "judge --old old --new new",
     "--help",
+    "features --platforms linux-amd64",
+    "features --new new --platforms",
+    "features --new new --platforms linux",
+    "features --new new --platforms linux-amd64,windows-amd64",
+    "features --new new --platforms linux-amd64 --platforms linux-386",
+    "features --platforms linux-amd64 --new new --new new",
+    "features --platforms --new new",
+    "features --new new --std std",
+    "features --new new --workers 1",
 ];
 
 #[test]
@@ -285,16 +473,32 @@ fn knows_good_words_from_others(rt: HostRuntime) -> Result<(), Fail> {
 #[test]
 fn names_each_fault_of_a_store(rt: HostRuntime) -> Result<(), Fail> {
     let alloc = rt.alloc();
-    for call in [1, 2, 3, 4] {
+    // The module file, three folders and three candidates: seven calls.
+    for (call, code) in [
+        (1, 4),
+        (2, 4),
+        (3, 4),
+        (4, 4),
+        (5, 4),
+        (6, 4),
+        (7, 4),
+        (8, 0),
+    ] {
         let pairs = [
             ("new/go.mod", b"module m\n".as_slice()),
-            ("new/p/p.go", b"package p\nconst X = 5\n".as_slice()),
+            ("new/m.go", b"package m\n".as_slice()),
+            ("new/p/p.go", FIVE),
+            ("new/p/q/q.go", b"package q\nconst X = 5\n".as_slice()),
+            ("new/p/q/README", b"".as_slice()),
         ];
         let mut files = FailingFiles::new(store(alloc, &pairs)?, numbers(alloc, &[call])?);
-        let mut out = MemorySink::new();
+        let mut out = MemorySink::with_capacity(alloc, 1000)?;
         let mut err = MemorySink::with_capacity(alloc, 1000)?;
-        assert_eq!(rt; features_of(&rt, &mut files, &mut out, &mut err)?, 4);
-        assert_eq!(rt; err.bytes(), b"apigate: read fault\n".as_slice());
+        assert_eq!(rt; features_of(&rt, &mut files, &mut out, &mut err)?, code);
+        if code == 4 {
+            assert_eq!(rt; err.bytes(), b"apigate: read fault\n".as_slice());
+            assert!(rt; out.bytes().is_empty());
+        }
     }
     Ok(())
 }
@@ -345,7 +549,7 @@ fn answers_a_store_that_tells_nothing(rt: HostRuntime) -> Result<(), Fail> {
     let mut out = MemorySink::new();
     let mut err = MemorySink::with_capacity(rt.alloc(), 1000)?;
     assert_eq!(rt; features_of(&rt, &mut Silent, &mut out, &mut err)?, 3);
-    assert_eq!(rt; err.bytes(), NOT_YET_LINE);
+    assert_eq!(rt; err.bytes(), b"apigate: new: not found\n".as_slice());
     Ok(())
 }
 

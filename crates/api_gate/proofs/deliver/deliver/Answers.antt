@@ -1,4 +1,4 @@
-use Rattle.std.proofs.Common.{List, ℕ, inl, subst}
+use Rattle.std.proofs.Common.{List, ℕ, ◌<◌, length, inl, subst}
 use Rattle.go_outside.specs.Faults.{Rose}
 use Rattle.go_outside.specs.Sinks.{TakesSome}
 use Rattle.api_gate.proofs.Taken.{tried, never_fell}
@@ -8,6 +8,7 @@ pub returns-in-Err-clause-written : goal.returns-in-Err-clause-written
 returns-in-Err-clause-written g c =
     inl (
       c.in-Err.ensures.cause,
+      subst (λ (w : List ℕ). 0 < length w) c.output.ensures c.in-Err.ensures.some,
       subst (λ (w : List ℕ). TakesSome (g.S.Sink.told c.args.out.now) w (g.S.Sink.told c.write_pieces.new.sink)) c.output.ensures c.in-Err.ensures.bytes,
       tried (Rose (g.E.Sink.faults c.args.err.now) (g.E.Sink.faults c.write_pieces-told.new.sink)) _ _ _ _ _ c.write_pieces-told.result c.write_pieces-told.ensures.bytes c.write_pieces-told.ensures.cause (λ h. h),
     )

@@ -2,7 +2,7 @@ use Rattle.api_gate.specs.Features.{IsFeatureOf}
 use Rattle.api_gate.proofs.Grown.{grows_next}
 use Rattle.api_gate.proofs.features.feature_lines.Goals as goal
 
-pub loop-package-preserved : goal.loop-package-preserved
-loop-package-preserved c =
-    grows_next IsFeatureOf c.args.packages.now c.loop-package.package-index c.package-item.result _ c.loop-package.lines.keys c.add_package.new.lines.keys
-    c.loop-package-test.true c.package-item.is c.loop-package.invariant c.in_ok-add_package.ensures
+pub loop-file-preserved : goal.loop-file-preserved
+loop-file-preserved c =
+    grows_next (IsFeatureOf c.args.«module».now) c.args.sources.now c.loop-file.file-index c.file-item.result _ c.loop-file.lines.keys c.add_source.new.lines.keys
+    c.loop-file-test.true c.file-item.is c.loop-file.invariant c.in_ok-add_source.ensures

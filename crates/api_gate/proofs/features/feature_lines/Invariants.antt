@@ -1,7 +1,8 @@
 use Rattle.std.proofs.Common.{take, []}
-use Rattle.api_gate.specs.Features.{Grows, IsFeatureOf}
+use Rattle.api_gate.specs.Features.{IsFeatureOf}
+use Rattle.api_gate.specs.Growing.{Grows}
 use Rattle.api_gate.proofs.Grown.{OfSome}
 use Rattle.api_gate.proofs.features.feature_lines.Given as goal
 
-abbrev pub invariant-loop-package : goal.invariant-loop-package
-invariant-loop-package l = Grows (OfSome IsFeatureOf (take l.package-index l.packages)) [] l.lines.keys
+abbrev pub invariant-loop-file : goal.invariant-loop-file
+invariant-loop-file l = Grows (OfSome (IsFeatureOf l.«module») (take l.file-index l.sources)) [] l.lines.keys

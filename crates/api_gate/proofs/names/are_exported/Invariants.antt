@@ -1,4 +1,4 @@
-use Rattle.std.proofs.Common.{◌↔◌, drop}
+use Rattle.std.proofs.Common.{drop}
 use Rattle.api_gate.specs.Constants.{AreExported}
 use Rattle.api_gate.proofs.names.are_exported.Given as goal
 

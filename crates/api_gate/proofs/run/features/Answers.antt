@@ -1,7 +1,12 @@
-use Rattle.std.proofs.Common.{Err, ap}
-use Rattle.api_gate.proofs.OnePackage.{told_not_yet, told_then}
+use Rattle.std.proofs.Common.{Err}
+use Rattle.api_gate.proofs.Ran.{told_load, unloaded_read}
 use Rattle.api_gate.proofs.run.features.Goals as goal
 
-pub returns-in-Err-NotYet-clause-told : goal.returns-in-Err-NotYet-clause-told
-returns-in-Err-NotYet-clause-told g c =
-    told_not_yet (g.F.Files.told c.args.files.now) c.args.dir.now c.not_yet.result (told_then _ _ (g.F.Files.told c.args.files.now) c.in-Err-NotYet.ensures.not_yet (ap Err c.in-Err-NotYet.field-0-is)) c.not_yet.ensures
+pub returns-in-Err-clause-told : goal.returns-in-Err-clause-told
+returns-in-Err-clause-told g c = told_load (g.F.Files.told c.args.files.now) c.args.request.now c.bytes.result.now (Err c.in-Err.error) c.unloaded.result c.bytes.ensures c.in-Err.ensures.told (c.unloaded.ensures c.args.request.now.platform)
+
+pub returns-in-Err-clause-some : goal.returns-in-Err-clause-some
+returns-in-Err-clause-some g c = (Err c.in-Err.error, tt, c.unloaded.ensures c.args.request.now.platform)
+
+pub returns-in-Err-clause-read : goal.returns-in-Err-clause-read
+returns-in-Err-clause-read g c = unloaded_read c.args.request.now.platform c.in-Err.error c.unloaded.result _ _ (c.unloaded.ensures c.args.request.now.platform) c.in-Err.ensures.cause

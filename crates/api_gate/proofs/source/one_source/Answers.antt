@@ -1,4 +1,4 @@
-use Rattle.api_gate.proofs.OnePackage.{same_source}
+use Rattle.api_gate.proofs.OneSource.{same_source}
 use Rattle.api_gate.proofs.source.one_source.Goals as goal
 
 pub returns : goal.returns

@@ -1,5 +1,5 @@
 use Rattle.std.proofs.Common.{refl}
-use Rattle.api_gate.proofs.OnePackage.{none_of_bad, parsed_of}
+use Rattle.api_gate.proofs.OneSource.{none_of_bad, parsed_of}
 use Rattle.api_gate.proofs.source.read_source.Goals as goal
 
 pub returns-in-Err-BadToken-clause-not_yet : goal.returns-in-Err-BadToken-clause-not_yet

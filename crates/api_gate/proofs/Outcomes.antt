@@ -1,0 +1,87 @@
+-- The definitions give one outcome for words and files.
+use Rattle.std.proofs.Common.{◌≡◌, ℕ, List, [], ◌∷◌, Result, refl, sym, ap, ◌∙◌, subst, inl, inr}
+use Rattle.go_load.specs.Answers.{Agree, IsFree}
+use Rattle.go_load.specs.Loads.{LoadsModule}
+use Rattle.go_load.specs.declared.error.LoadError.{LoadError}
+use Rattle.go_model.specs.declared.platform.Platform.{Platform}
+use Rattle.go_model.specs.declared.tree.Tree.{Tree}
+use Rattle.go_model.specs.declared.tree.TreeFile.{TreeFile}
+use Rattle.go_model.specs.Lists.{Each}
+use Rattle.go_outside.specs.Stores.{Contents}
+use Rattle.go_tags.specs.HeaderCauses.{HasCause, IsOwnCause}
+use Rattle.go_tags.specs.declared.error.TagError.{TagError}
+use Rattle.api_gate.specs.declared.sources.FileSource.{FileSource}
+use Rattle.api_gate.specs.declared.words.Request.{Request}
+use Rattle.api_gate.specs.Choice.{IsFirstFaulty, IsSound}
+use Rattle.api_gate.specs.Features.{IsReport}
+use Rattle.api_gate.specs.Refusals.{tag_line, file_path}
+use Rattle.api_gate.specs.Runs.{Outcome, IsOutcome, ends_words, ends_asked, IsTreeRefusal, by_header, by_form, IsTreeReport, EndsWith, unloaded, refused_tree, reported_tree, reported, refused, new_side}
+use Rattle.api_gate.specs.Sources.{AreSources}
+use Rattle.api_gate.specs.Words.{IsRequest}
+
+-- where each header that is read is sound, none is the first faulty one
+none_faulty : (p : Platform) (files : List TreeFile) (f : TreeFile) (e : TagError) → Each (IsSound p) files → IsFirstFaulty p files f e → ⊥
+none_faulty p [] f e s h = h
+none_faulty p (g ∷ files) f e s h = elim h [ inl a ↦ s.0 e a.1 | inr b ↦ none_faulty p files f e s.1 b.1 ]
+
+abbrev pub OneCause : Type 0
+OneCause = (bytes : List ℕ) (one two : TagError) → IsOwnCause one → IsOwnCause two → HasCause bytes one → HasCause bytes two → one ≡ two
+
+-- the first faulty file and its cause are one
+same_faulty : OneCause → (p : Platform) (files : List TreeFile) (f g : TreeFile) (d e : TagError) → IsFirstFaulty p files f d → IsFirstFaulty p files g e → (f ≡ g) × (d ≡ e)
+same_faulty one p [] f g d e a b = absurd a
+same_faulty one p (x ∷ files) f g d e a b =
+    elim a [
+      | inl i ↦ elim b [ inl j ↦ (sym i.0 ∙ j.0, one x.bytes d e i.1.own j.1.own i.1.cause j.1.cause) | inr j ↦ absurd (j.0 d i.1) ]
+      | inr i ↦ elim b [ inl j ↦ absurd (i.0 e j.1) | inr j ↦ same_faulty one p files f g d e i.1 j.1 ]
+    ]
+
+module _ (one_request : (words : List (List ℕ)) (r s : Request) → IsRequest words r → IsRequest words s → r ≡ s)
+    (one_answer : (m : Contents) (root : List ℕ) (r s : Result Tree LoadError) → LoadsModule m root r → LoadsModule m root s → Agree r s)
+    (one_cause : OneCause)
+    (one_sources : (p : Platform) (files : List TreeFile) (a b : List FileSource) → AreSources p files a → AreSources p files b → a ≡ b)
+    (one_report : (path : List ℕ) (sources : List FileSource) (a b : List ℕ) → IsReport path sources a → IsReport path sources b → a ≡ b) where
+  same_refusal : (p : Platform) (t : Tree) (a b : List ℕ) → IsTreeRefusal p t a → IsTreeRefusal p t b → a ≡ b
+  same_refusal p t a b (by_header f d i x) (by_header g e j y) =
+      let s : (f ≡ g) × (d ≡ e) = same_faulty one_cause p t.files f g d e i j in
+      x ∙ ap (λ (h : TreeFile). tag_line new_side p (file_path h) d) s.0 ∙ ap (λ (c : TagError). tag_line new_side p (file_path g) c) s.1 ∙ sym y
+  same_refusal p t a b (by_header f d i x) (by_form sound none y) = absurd (none_faulty p t.files f d sound i)
+  same_refusal p t a b (by_form sound none x) (by_header f d i y) = absurd (none_faulty p t.files f d sound i)
+  same_refusal p t a b (by_form sound none x) (by_form sound' none' y) = x ∙ sym y
+
+  not_both : (p : Platform) (t : Tree) (line text : List ℕ) → IsTreeRefusal p t line → IsTreeReport p t text → ⊥
+  not_both p t line text (by_header f d i x) r = none_faulty p t.files f d r.1.sound i
+  not_both p t line text (by_form sound none x) r = none r.0 r.1
+
+  same_tree_report : (p : Platform) (t : Tree) (a b : List ℕ) → IsTreeReport p t a → IsTreeReport p t b → a ≡ b
+  same_tree_report p t a b r s =
+      one_report t.module s.0 a b (subst (λ (ss : List FileSource). IsReport t.module ss a) (one_sources p t.files r.0 s.0 r.1.read s.1.read) r.2) s.2
+
+  not_free : (r : Request) (answer : Result Tree LoadError) (o : Outcome) → EndsWith r answer o → IsFree answer → ⊥
+  not_free r answer o (unloaded e n) f = n f
+  not_free r answer o (refused_tree t line h) f = f
+  not_free r answer o (reported_tree t text h) f = f
+
+  same_end : (r : Request) (answer : Result Tree LoadError) (a b : Outcome) → EndsWith r answer a → EndsWith r answer b → a ≡ b
+  same_end r answer a b (unloaded e n) (unloaded d n') = refl
+  same_end r answer a b (refused_tree t line h) (refused_tree u line' h') = ap refused (same_refusal r.platform t line line' h h')
+  same_end r answer a b (refused_tree t line h) (reported_tree u text h') = absurd (not_both r.platform t line text h h')
+  same_end r answer a b (reported_tree t text h) (refused_tree u line h') = absurd (not_both r.platform t line text h' h)
+  same_end r answer a b (reported_tree t text h) (reported_tree u text' h') = ap reported (same_tree_report r.platform t text text' h h')
+
+  -- what one answer to one request of the words ends with, another does
+  ends_as : (m : Contents) (words : List (List ℕ)) (r s : Request) (x y : Result Tree LoadError) (o p : Outcome) → IsRequest words r → IsRequest words s → LoadsModule m r.new x → LoadsModule m s.new y → EndsWith r x o → EndsWith s y p → EndsWith s y o
+  ends_as m words r s x y o p i j k l a b =
+      let same : r ≡ s = one_request words r s i j in
+      let answer : x ≡ y =
+      elim (one_answer m s.new x y (subst (λ (q : Request). LoadsModule m q.new x) same k) l) [
+        | inl f ↦ absurd (not_free r x o a f)
+        | inr e ↦ elim e [ inl f ↦ absurd (not_free s y p b f) | inr q ↦ q ]
+      ] in
+      subst (λ (z : Result Tree LoadError). EndsWith s z o) answer (subst (λ (q : Request). EndsWith q x o) same a)
+
+  pub same_outcome : (words : List (List ℕ)) (m : Contents) (a b : Outcome) → IsOutcome words m a → IsOutcome words m b → a ≡ b
+  same_outcome words m a b (ends_words n) (ends_words n') = refl
+  same_outcome words m a b (ends_words n) (ends_asked r x i k e) = absurd (n r i)
+  same_outcome words m a b (ends_asked r x i k e) (ends_words n) = absurd (n r i)
+  same_outcome words m a b (ends_asked r x i k e) (ends_asked s y j l f) = same_end s y a b (ends_as m words r s x y a b i j k l e f) f

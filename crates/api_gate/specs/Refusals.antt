@@ -1,0 +1,52 @@
+-- The fault lines of refusals, by their causes.
+-- Source: this project's reports and exit statuses, docs/definitions.md, "Refusals".
+use Rattle.std.specs.Prelude.{ℕ, List, ◌++◌, codes}
+use Rattle.go_load.specs.Names.{under}
+use Rattle.go_load.specs.declared.error.LoadError.{LoadError}
+use Rattle.go_load.specs.declared.error.LoadError.TheVariants as load
+use Rattle.go_model.specs.declared.platform.Platform.{Platform}
+use Rattle.go_model.specs.declared.tree.LimitName.{LimitName}
+use Rattle.go_model.specs.declared.tree.LimitName.TheVariants as limit
+use Rattle.go_model.specs.declared.tree.TreeFile.{TreeFile}
+use Rattle.go_model.specs.Platforms.{name_of}
+use Rattle.go_tags.specs.declared.error.TagError.{TagError}
+use Rattle.go_tags.specs.declared.error.TagError.TheVariants as tag
+
+-- `apigate: WHERE: WHAT` and a newline
+abbrev pub fault_line : List ℕ → List ℕ → List ℕ
+fault_line place what = codes "apigate: " ++ place ++ codes ": " ++ what ++ codes "\n"
+
+abbrev pub limit_text : LimitName → List ℕ
+limit_text limit.FileBytes = codes "file-bytes"
+limit_text limit.Files = codes "files"
+limit_text limit.Bytes = codes "bytes"
+limit_text limit.Packages = codes "packages"
+limit_text limit.Folders = codes "folders"
+
+-- why a tree isn't loaded; the last two have lines of their own
+abbrev pub load_text : LoadError → List ℕ
+load_text (load.Missing path) = codes "not found"
+load_text load.NoModule = codes "no go.mod"
+load_text load.BadModule = codes "no module line in go.mod"
+load_text (load.Limit name path) = path ++ codes ": limit " ++ limit_text name
+load_text load.ReadFault = codes "read fault"
+load_text load.NoMemory = codes "out of memory"
+
+-- why a header is refused; want of memory has a line of its own
+abbrev pub tag_text : TagError → List ℕ
+tag_text tag.BadExpression = codes "go:build line not understood"
+tag_text tag.Twice = codes "two go:build lines"
+tag_text tag.PlusBuild = codes "+build without go:build"
+tag_text tag.NoMemory = codes "out of memory"
+
+-- a file's path below the root of its tree
+abbrev pub file_path : TreeFile → List ℕ
+file_path file = under file.folder file.name
+
+-- the tree at this side isn't loaded
+abbrev pub load_line : List ℕ → LoadError → List ℕ
+load_line side error = fault_line side (load_text error)
+
+-- a header of the tree at this side is refused on a platform
+abbrev pub tag_line : List ℕ → Platform → List ℕ → TagError → List ℕ
+tag_line side p path error = fault_line (side ++ codes " " ++ name_of p) (path ++ codes ": " ++ tag_text error)
