@@ -199,6 +199,7 @@ fn reads_the_module_line(rt: HostRuntime) -> Result<(), Fail> {
         b" \tmodule  m \n".as_slice(),
         b"module \"m\"\n".as_slice(),
         b"module `m`// c\n".as_slice(),
+        b"module m//p\n".as_slice(),
         b"// c\n\nmodule m // c\n\ngo 1.21\n".as_slice(),
     ] {
         let pairs = [("new/go.mod", line), ("new/p/p.go", FIVE)];
@@ -215,7 +216,6 @@ fn reads_the_module_line(rt: HostRuntime) -> Result<(), Fail> {
         b"module C\n".as_slice(),
         b"module .m\n".as_slice(),
         b"module m/-p\n".as_slice(),
-        b"module m//p\n".as_slice(),
         b"module m/\n".as_slice(),
         b"module m n\n".as_slice(),
         b"module m\xc3\x84\n".as_slice(),
