@@ -12,3 +12,4 @@ pub mod syntax;
 pub mod text;
 pub mod token;
 pub mod tree;
+pub mod value;
