@@ -4,6 +4,7 @@
 
 pub mod boxed;
 pub mod build;
+pub mod class;
 pub mod list;
 pub mod memory;
 pub mod platform;
