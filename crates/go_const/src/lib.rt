@@ -10,3 +10,5 @@ mod number;
 pub mod operation;
 pub mod representation;
 mod results;
+#[cfg(test)]
+mod tests;

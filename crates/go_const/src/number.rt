@@ -92,6 +92,7 @@ pub fn combined(op: BinaryOp, left: i128, right: i128) -> Option<i128>
 }
 
 /// The number times 2^count; None exactly where it hasn't 128 bits.
+#[tactic(auto, using(crate::proofs::Shifts::shifted_checked, crate::proofs::Shifts::shifted_out))]
 pub fn shifted_left(number: i128, count: u128) -> Option<i128>
     ensures { result ≡ bounded (Some (exact_shift true number count)) }
 {
@@ -108,6 +109,7 @@ pub fn shifted_left(number: i128, count: u128) -> Option<i128>
 }
 
 /// The number by 2^count, rounded down.
+#[tactic(auto, using(crate::proofs::Shifts::shifted_right_is))]
 pub fn shifted_right(number: i128, count: u128) -> i128
     ensures { result ≡ exact_shift false number count }
 {
