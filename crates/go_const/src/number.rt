@@ -41,7 +41,7 @@ fn unsigned_complement(bits: u32, number: i128) -> Option<i128>
     ones(bits).checked_sub(number)
 }
 
-/// The number with each bit turned round, those of the unsigned type where it is one.
+/// The number with each bit flipped: the bits of the type, where it is unsigned.
 fn complement(integer: Option<Integer>, number: i128) -> Option<i128>
     ensures { result ≡ bounded (Some (complement_of integer number)) }
 {

@@ -170,7 +170,7 @@ fn calculates_exactly(rt: HostRuntime) {
 }
 
 #[test]
-fn negates_and_turns_bits(rt: HostRuntime) {
+fn negates_and_flips_bits(rt: HostRuntime) {
     let uintptr = Kind::Typed(Basic::Uintptr);
     let table = [
         (UnaryOp::Minus, i128::MIN, INT_KIND, 64, None),
@@ -198,7 +198,7 @@ fn negates_and_turns_bits(rt: HostRuntime) {
 }
 
 #[test]
-fn turns_and_joins_truth_values(rt: HostRuntime) {
+fn calculates_with_truth_values(rt: HostRuntime) {
     let table = [
         (BinaryOp::LogicalAnd, true, false, Some(false)),
         (BinaryOp::LogicalAnd, true, true, Some(true)),

@@ -3,12 +3,12 @@
 use Rattle.std.specs.Prelude.{ℕ, ◌-◌, ℤ, pos, negsuc, ◌-ℤ◌, neg_ℤ, bit_and, bit_or, bit_xor}
 use Rattle.std.specs.Int.{bit_at}
 
--- bit i of a number, 0 or 1: those of -(n + 1) are those of n turned round
+-- bit i of a number, 0 or 1: the bits of -(n + 1) are those of n flipped
 abbrev pub bit_of : ℤ → ℕ → ℕ
 bit_of (pos n) i = bit_at n i
 bit_of (negsuc n) i = 1 - bit_at n i
 
--- every bit turned round: -x - 1
+-- every bit flipped: -x - 1
 abbrev pub complement : ℤ → ℤ
 complement x = neg_ℤ x -ℤ pos 1
 
