@@ -1,10 +1,14 @@
+pub mod Bits
 pub mod BuildConstraints
 pub mod BuildTags
 pub mod BuildValues
 pub mod Characters
+pub mod Classes
+pub mod Constants
 pub mod Headers
 pub mod Lexemes
 pub mod Lists
+pub mod Operators
 pub mod Outline
 pub mod Platforms
 pub mod Terminals

@@ -4,6 +4,7 @@
 
 pub mod boxed;
 pub mod build;
+pub mod class;
 pub mod list;
 pub mod memory;
 pub mod platform;
@@ -12,3 +13,4 @@ pub mod syntax;
 pub mod text;
 pub mod token;
 pub mod tree;
+pub mod value;

@@ -1,0 +1,25 @@
+//! Calculates constants of Go. It reads an operation a line:
+//!
+//! ```text
+//! unary OP KIND BITS VALUE           binary OP KIND BITS LEFT RIGHT      shift OP KIND BITS VALUE COUNT
+//! compare OP LEFT RIGHT              representable TYPE BITS VALUE       convert KIND TYPE BITS VALUE
+//! ```
+//!
+//! OP is as in Go; TYPE is the name of a basic type, and KIND such a name or `untyped-int`,
+//! `untyped-rune`, `untyped-string` or `untyped-bool`; BITS is the size of `int`. A value is `int:` and a
+//! decimal number, `text:` and the bytes in hexadecimal digits, or `truth:` and `true` or `false`. It
+//! prints the answer of each line: a value, `none`, `true` or `false`; or `not an operation`.
+#![tactic(auto)]
+
+mod answer;
+mod words;
+
+use anyhow::Result;
+
+fn main(rt: HostRuntime) -> Result<()> {
+    for line in rt.lines(rt.alloc()) {
+        let answer = answer::answer(rt.alloc(), line?.as_str())?;
+        println!(rt; "{answer}")?;
+    }
+    Ok(())
+}

@@ -1,0 +1,68 @@
+//! Exact values as results of an operation on values of a kind.
+ghost use Rattle.std.specs.Prelude.{◌≡◌, ◌++◌, IfOk, Some};
+ghost use Rattle.std.specs.Option.{option_map};
+ghost use Rattle.go_model.specs.Constants.{kept};
+ghost use Rattle.go_model.specs.declared.value.Value.TheVariants as v;
+
+use crate::representation::{MOST_BYTES, is_of_kind};
+use go_model::memory::NoMemory;
+use go_model::text::Text;
+use go_model::value::{Kind, Value};
+use std::alloc::Global;
+
+/// The number, where there is one of 128 bits and it is of the kind.
+#[tactic(auto, unfolding(go_model::specs::Constants::kept))]
+pub fn number_result(number: Option<i128>, kind: Kind, bits: u32) -> Option<Value>
+    ensures { result ≡ kept kind bits (option_map v.Int number) }
+{
+    let value = Value::Int(number?);
+    if is_of_kind(&value, kind, bits) {
+        Some(value)
+    } else {
+        None
+    }
+}
+
+/// The truth value, where there is one and it is of the kind.
+#[tactic(auto, unfolding(go_model::specs::Constants::kept))]
+pub fn truth_result(truth: Option<bool>, kind: Kind, bits: u32) -> Option<Value>
+    ensures { result ≡ kept kind bits (option_map v.Truth truth) }
+{
+    let value = Value::Truth(truth?);
+    if is_of_kind(&value, kind, bits) {
+        Some(value)
+    } else {
+        None
+    }
+}
+
+/// Two texts, one after the other.
+fn joined(alloc: Global, left: &[u8], right: &[u8]) -> Result<Text, NoMemory>
+    ensures { IfOk result (λ text. text ≡ left.now ++ right.now) }
+{
+    let mut bytes = Vec::from_slice(alloc, left)?;
+    bytes.extend_from_slice(right)?;
+    Ok(Text::from_vec(bytes))
+}
+
+/// Two texts, one after the other, where they are no longer than a constant's and of the kind.
+#[tactic(auto, unfolding(go_model::specs::Constants::kept))]
+pub fn text_result(
+    alloc: Global,
+    left: &[u8],
+    right: &[u8],
+    kind: Kind,
+    bits: u32,
+) -> Result<Option<Value>, NoMemory>
+    ensures { IfOk result (λ answer. answer ≡ kept kind bits (Some (v.Str (left.now ++ right.now)))) }
+{
+    if left.len() > MOST_BYTES || right.len() > MOST_BYTES - left.len() {
+        return Ok(None);
+    }
+    let value = Value::Str(joined(alloc, left, right)?);
+    if is_of_kind(&value, kind, bits) {
+        Ok(Some(value))
+    } else {
+        Ok(None)
+    }
+}
