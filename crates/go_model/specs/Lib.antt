@@ -8,6 +8,7 @@ pub mod Lists
 pub mod Outline
 pub mod Platforms
 pub mod Terminals
+pub mod Tables
 pub mod Tokens
 pub mod Trees
 pub mod formers
