@@ -1,0 +1,6 @@
+pub mod Comparison
+pub mod Gathered
+pub mod MethodSets
+pub mod Selectors
+pub mod Terms
+pub mod Underlying
