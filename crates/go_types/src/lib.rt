@@ -3,3 +3,5 @@
 #![tactic(auto)]
 
 pub mod identical;
+mod lookup;
+mod place;
