@@ -1,4 +1,5 @@
 pub mod Comparison
+pub mod Endings
 pub mod Gathered
 pub mod MethodSets
 pub mod Selectors

@@ -2,6 +2,9 @@
 //! can be compared, assigned and converted.
 #![tactic(auto)]
 
+mod ending;
 pub mod identical;
 mod lookup;
+mod parts;
 mod place;
+mod steps;
