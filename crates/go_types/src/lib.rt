@@ -3,8 +3,10 @@
 #![tactic(auto)]
 
 mod ending;
+mod find;
 pub mod identical;
 mod lookup;
+mod met;
 mod parts;
 mod place;
 mod steps;

@@ -48,6 +48,7 @@ pub(crate) fn error_type(alloc: Global) -> Result<Defined, NoMemory>
 }
 
 /// A table, and the predeclared `error`.
+#[derive(Drop)]
 pub(crate) struct Lookup<'a, T> {
     pub(crate) table: &'a T,
     pub(crate) error: &'a Defined,

@@ -42,4 +42,14 @@ impl<'a> Place<'a> {
     {
         self.term
     }
+
+    /// The same place.
+    pub(crate) fn again(&self) -> Place<'a>
+        ensures { result ≡ self.now }
+    {
+        Place {
+            through: self.through,
+            term: self.term,
+        }
+    }
 }
