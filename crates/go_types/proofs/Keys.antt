@@ -12,7 +12,9 @@ use Rattle.std.specs.BTreeSet.{insert_key}
 use Rattle.go_model.specs.Lists.{Has}
 use Rattle.go_types.specs.Search.{Adds}
 use Rattle.go_types.specs.declared.met.Key.{Key}
-use Rattle.go_types.specs.contracts.met.KeyOrd.TheImpl.{cmp-value}
+use Rattle.go_model.specs.declared.types.names.TypeName.{TypeName}
+use Rattle.go_types.specs.contracts.met.KeyOrd.TheImpl as KeyOrder
+use Rattle.go_model.specs.contracts.types.names.TypeNameOrd.TheImpl as NameOrder
 use Rattle.std.specs.contracts.prelude.BoolOrd.TheImpl.{ghosts}
 
 module _ {A : Type 0} (order : A → A → Ordering) where
@@ -52,14 +54,18 @@ same_flags true false e = absurd (cc)
 same_flags false true e = absurd (cc)
 same_flags false false e = refl
 
-abbrev made : Bool → List ℕ → List ℕ → Key
-made through path name = record { through = through; name = record { path = path; name = name } }
+abbrev name_of : List ℕ → List ℕ → TypeName
+name_of path name = record { path = path; name = name }
 
-key_of : (a b : Key) → a.through ≡ b.through → a.name.path ≡ b.name.path → a.name.name ≡ b.name.name → a ≡ b
-key_of a b t p n = ap (λ x. made x a.name.path a.name.name) t ∙ ap (λ x. made b.through x a.name.name) p ∙ ap (λ x. made b.through b.name.path x) n
+pub name_same : (a b : TypeName) → NameOrder.cmp-value.it a b ≡ Equal → a ≡ b
+name_same a b e =
+    let h = then_both _ _ e in
+    ap (λ x. name_of x a.name) (same_texts _ _ h.0) ∙ ap (λ x. name_of b.path x) (same_texts _ _ h.1)
 
-pub key_same : (a b : Key) → cmp-value.it a b ≡ Equal → a ≡ b
+abbrev key_of : Bool → TypeName → Key
+key_of through name = record { through = through; name = name }
+
+pub key_same : (a b : Key) → KeyOrder.cmp-value.it a b ≡ Equal → a ≡ b
 key_same a b e =
     let h = then_both _ _ e in
-    let k = then_both _ _ h.1 in
-    key_of a b (same_flags _ _ h.0) (same_texts _ _ k.0) (same_texts _ _ k.1)
+    ap (λ x. key_of x a.name) (same_flags _ _ h.0) ∙ ap (λ x. key_of b.through x) (name_same _ _ h.1)

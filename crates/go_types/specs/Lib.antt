@@ -1,7 +1,9 @@
+pub mod Answers
 pub mod Comparison
 pub mod Endings
 pub mod Gathered
 pub mod MethodSets
+pub mod Parts
 pub mod Search
 pub mod Selectors
 pub mod Terms

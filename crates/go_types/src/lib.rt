@@ -2,11 +2,13 @@
 //! can be compared, assigned and converted.
 #![tactic(auto)]
 
+pub mod comparable;
 mod ending;
 mod find;
 pub mod identical;
 mod lookup;
 mod met;
+mod part;
 mod parts;
 mod place;
 mod steps;
