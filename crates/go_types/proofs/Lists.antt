@@ -30,6 +30,9 @@ module _ {A : Type 0} where
   has_at (x ∷ xs) zero d h = inl refl
   has_at (x ∷ xs) (suc i) d h = inr (has_at xs i d (omega arith))
 
+  pub item_has : (xs : List A) (i : ℕ) (x : A) → i < length xs → x ≡ get_or xs i x → Has xs x
+  item_has xs i x h e = subst (Has xs) (sym e) (has_at xs i x h)
+
   drop_suc : (i : ℕ) (xs : List A) (d : A) → i < length xs → drop i xs ≡ get_or xs i d ∷ drop (suc i) xs
   drop_suc i [] d h = absurd (omega arith)
   drop_suc zero (x ∷ xs) d h = refl

@@ -27,6 +27,9 @@ pub record InSet (T : Table) (t : Term) (s : Sel) (g : Signature) : Type 0 where
 abbrev pub HasMethod : Table → Term → Method → Type 0
 HasMethod T t m = InSet T t (out-Method m).sel (out-Method m).signature
 
+abbrev pub HasMethods : Table → Term → List Method → Type 0
+HasMethods T t ms = (m : Method) → Has ms m → HasMethod T t m
+
 -- the type implements the interface
 abbrev pub Implements : Table → Term → Term → Type 0
-Implements T t interface = (ms : List Method) × (under T interface ≡ Term-F.Interface ms) × ((m : Method) → Has ms m → HasMethod T t m)
+Implements T t interface = (ms : List Method) × (under T interface ≡ Term-F.Interface ms) × HasMethods T t ms

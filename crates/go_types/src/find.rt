@@ -155,7 +155,7 @@ fn verdict(
     }
 }
 
-fn search<'a, T: TypeTable>(
+pub(crate) fn search<'a, T: TypeTable>(
     alloc: Global,
     types: &Lookup<'a, T>,
     term: &'a Term,

@@ -1,0 +1,26 @@
+//! Laws of the relations on types, for the layers above.
+ghost use Rattle.std.specs.Prelude.{◌≡◌, Bool, true, false};
+ghost use Rattle.go_model.specs.Tables.{Table};
+ghost use Rattle.go_model.specs.declared.types.names.Sel.{Sel};
+ghost use Rattle.go_model.specs.declared.types.term.Term.{Term};
+ghost use Rattle.go_model.specs.declared.types.term.Signature.{Signature};
+ghost use Rattle.go_model.specs.declared.types.found.Found.{Found};
+ghost use Rattle.go_types.specs.Selectors.{Finds};
+ghost use Rattle.go_types.specs.MethodSets.{InSet};
+ghost use Rattle.go_types.specs.Assignability.{Assignable};
+ghost use Rattle.go_types.specs.Conversions.{Convertible};
+
+/// A selector finds one thing in a type, with its pointer flag and its depth; the method set has one
+/// method of a selector.
+pub fn one_find()
+    ensures find { (T : Table) (s : Sel) (t : Term) (a b : Found) → Finds T s t a → Finds T s t b → a ≡ b }
+    ensures signature { (T : Table) (t : Term) (s : Sel) (g h : Signature) → InSet T t s g → InSet T t s h → g ≡ h }
+{
+}
+
+/// What is permitted in a client of the profile is permitted elsewhere.
+pub fn profile_permits_less()
+    ensures assignable { (T : Table) (from to : Term) → Assignable T true from to → Assignable T false from to }
+    ensures convertible { (T : Table) (from to : Term) → Convertible T true from to → Convertible T false from to }
+{
+}
