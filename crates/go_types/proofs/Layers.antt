@@ -3,8 +3,8 @@ use Rattle.std.proofs.Common.{◌≡◌, ◌≤◌, ◌<◌, ◌+◌, ◌-◌, �
 use Rattle.go_model.specs.Lists.{Has}
 use Rattle.go_model.specs.Tables.{Table}
 use Rattle.go_model.specs.declared.types.names.Sel.{Sel}
-use Rattle.go_types.specs.Gathered.{gather}
-use Rattle.go_types.specs.Selectors.{Spot, Ending, steps, endings, ends, NoneBelow}
+use Rattle.go_model.specs.Gathered.{gather}
+use Rattle.go_model.specs.Selectors.{Spot, Ending, steps, endings, ends, NoneBelow}
 use Rattle.go_types.specs.Search.{Thinned}
 use Rattle.go_types.proofs.Lists.{has-split, gather-append, gather_of, gather_has, has_none}
 

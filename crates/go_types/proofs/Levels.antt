@@ -7,7 +7,7 @@ use Rattle.go_model.specs.declared.types.term.Term.TheVariants.{outs-Slice, outs
 use Rattle.go_model.specs.declared.types.term.Field.{Field}
 use Rattle.go_model.specs.declared.types.term.Method.{Method}
 use Rattle.go_model.specs.declared.types.term.Signature.{Signature}
-use Rattle.go_types.specs.Underlying.{under}
+use Rattle.go_model.specs.Underlying.{under}
 
 module _ (T : Table) (u v : Term) (is : out-Term v ≡ under T u) where
   pub under_slice : (e : Term) → v ≡ t.Slice e → under T u ≡ Term-F.Slice e

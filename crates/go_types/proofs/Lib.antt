@@ -1,3 +1,4 @@
+pub mod Agree
 pub mod Alternatives
 pub mod Keys
 pub mod Layers

@@ -5,7 +5,7 @@ use Rattle.go_model.specs.Tables.{Table}
 use Rattle.go_model.specs.declared.types.term.Term.{Term}
 use Rattle.go_model.specs.declared.types.term.Method.{Method}
 use Rattle.go_types.specs.Answers.{Decides}
-use Rattle.go_types.specs.MethodSets.{HasMethod, HasMethods}
+use Rattle.go_model.specs.MethodSets.{HasMethod, HasMethods}
 use Rattle.go_types.proofs.Lists.{has-back, item_has}
 use Rattle.go_types.proofs.Walks.{taken_next}
 

@@ -9,8 +9,8 @@ use Rattle.go_model.specs.declared.types.found.Found.{Found}
 use Rattle.go_model.specs.declared.types.found.Found.TheVariants as found
 use Rattle.go_model.specs.declared.types.found.FieldFound.{FieldFound}
 use Rattle.go_model.specs.declared.types.found.MethodFound.{MethodFound}
-use Rattle.go_types.specs.Selectors.{Spot, Ending, Target, field, method, ends, start, NoneBelow, IsOnly, is_defined_pointer, told_depth, Finds}
-use Rattle.go_types.specs.MethodSets.{Reaches, InSet}
+use Rattle.go_model.specs.Selectors.{Spot, Ending, Target, field, method, ends, start, NoneBelow, IsOnly, is_defined_pointer, told_depth, Finds}
+use Rattle.go_model.specs.MethodSets.{Reaches, InSet}
 use Rattle.go_types.specs.Answers.{Decides, IsCalled}
 
 compared : (a b : ℕ) → (a < b) ⊎ ((b < a) ⊎ (a ≡ b))

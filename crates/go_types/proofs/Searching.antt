@@ -6,8 +6,8 @@ use Rattle.go_model.specs.declared.types.names.Sel.{Sel}
 use Rattle.go_model.specs.declared.types.term.Term.{Term}
 use Rattle.go_model.specs.declared.types.found.Found.{Found}
 use Rattle.go_model.specs.declared.types.found.Found.TheVariants as found
-use Rattle.go_types.specs.Gathered.{gather}
-use Rattle.go_types.specs.Selectors.{Spot, Ending, steps, endings, ends, NoneBelow, start, is_defined_pointer, IsOnly, Finds}
+use Rattle.go_model.specs.Gathered.{gather}
+use Rattle.go_model.specs.Selectors.{Spot, Ending, steps, endings, ends, NoneBelow, start, is_defined_pointer, IsOnly, Finds}
 use Rattle.go_types.specs.Endings.{One, Verdict}
 use Rattle.go_types.specs.Search.{Knows, Thinned, spot_of}
 use Rattle.go_types.specs.declared.met.Key.{Key}

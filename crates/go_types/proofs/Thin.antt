@@ -1,8 +1,8 @@
 -- A layer is thinned.
 use Rattle.std.proofs.Common.{◌≡◌, ℕ, zero, suc, min, ◌+◌, ◌*◌, ◌<◌, ◌≤◌, List, [], ◌∷◌, ◌++◌, length, drop, get_or, refl, sym, ap, ◌∙◌, subst, ◌⊎◌, inl, inr, arith, length-append, Bool, true, false}
 use Rattle.go_model.specs.Lists.{Has}
-use Rattle.go_types.specs.Gathered.{gather}
-use Rattle.go_types.specs.Selectors.{Spot, Ending}
+use Rattle.go_model.specs.Gathered.{gather}
+use Rattle.go_model.specs.Selectors.{Spot, Ending}
 use Rattle.go_types.specs.Search.{Adds, spot_of, Twice, Knows, Drops, Keeps, Thinned, Meets, Recalls}
 use Rattle.go_types.specs.declared.met.Key.{Key}
 use Rattle.go_types.proofs.Lists.{has-left, has-last, has-back, drop_next, drop_all, twice_last, twice_left, gather-count, twice_gives}

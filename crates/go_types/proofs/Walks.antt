@@ -6,9 +6,9 @@ use Rattle.go_model.specs.Tables.{Table}
 use Rattle.go_model.specs.declared.types.names.TypeName.{TypeName}
 use Rattle.go_model.specs.declared.types.term.Term.{Term, Term-F, roll-Term}
 use Rattle.go_model.specs.declared.types.term.Field.{Field, out-Field}
-use Rattle.go_types.specs.Terms.{Layer}
-use Rattle.go_types.specs.Underlying.{under}
-use Rattle.go_types.specs.Comparison.{LeadsToIncomparable, at_slice, at_map, at_func, in_array, in_struct}
+use Rattle.go_model.specs.Terms.{Layer}
+use Rattle.go_model.specs.Underlying.{under}
+use Rattle.go_model.specs.Comparison.{LeadsToIncomparable, at_slice, at_map, at_func, in_array, in_struct}
 use Rattle.go_types.specs.Parts.{Known, Pushed, IsFieldTerm, HasFieldTerms, MeetsTerm, Pushes, PushesFields, ByParts, Looked}
 use Rattle.go_types.proofs.Lists.{has-left, has-right, has-split, has-last, has-back}
 

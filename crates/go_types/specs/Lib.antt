@@ -1,14 +1,5 @@
 pub mod Answers
-pub mod Assignability
-pub mod Comparison
-pub mod Conversions
 pub mod Endings
-pub mod Gathered
-pub mod Imports
-pub mod MethodSets
 pub mod Parts
+pub mod Regions
 pub mod Search
-pub mod Selectors
-pub mod Tags
-pub mod Terms
-pub mod Underlying

@@ -7,9 +7,9 @@ use Rattle.go_model.specs.Tables.{Table}
 use Rattle.go_model.specs.declared.types.names.TypeName.{TypeName}
 use Rattle.go_model.specs.declared.types.term.Term.{Term, Term-F, roll-Term}
 use Rattle.go_model.specs.declared.types.term.Field.{Field, out-Field}
-use Rattle.go_types.specs.Terms.{Layer}
-use Rattle.go_types.specs.Underlying.{under}
-use Rattle.go_types.specs.Comparison.{LeadsToIncomparable}
+use Rattle.go_model.specs.Terms.{Layer}
+use Rattle.go_model.specs.Underlying.{under}
+use Rattle.go_model.specs.Comparison.{LeadsToIncomparable}
 
 -- each name that was met stands in the list
 abbrev pub Known : List Term → List TypeName → Type 0

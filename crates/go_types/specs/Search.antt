@@ -2,8 +2,8 @@
 use Rattle.std.specs.Prelude.{◌≡◌, ◌⊎◌, ◌≤◌, ℕ, min, Bool, true, false, Option, Some, None, List, [], ◌∷◌, ◌++◌, length}
 use Rattle.go_model.specs.Lists.{Has}
 use Rattle.go_model.specs.declared.types.term.Term.{Term-F, roll-Term}
-use Rattle.go_types.specs.Gathered.{gather}
-use Rattle.go_types.specs.Selectors.{Spot, Ending}
+use Rattle.go_model.specs.Gathered.{gather}
+use Rattle.go_model.specs.Selectors.{Spot, Ending}
 use Rattle.go_types.specs.declared.met.Key.{Key}
 
 -- a set holds nothing new but this

@@ -1,18 +1,20 @@
 //! Which types are assignable to which.
 ghost use Rattle.std.specs.Prelude.{◌≡◌, ◌↔◌, ◌&&◌, ◌||◌, IsTrue, IfOk};
+ghost use Rattle.go_model.specs.Worlds.{table_of};
 ghost use Rattle.go_types.specs.Answers.{Decides};
-ghost use Rattle.go_types.specs.Assignability.{UnderlyingAssigns, AreChannels, ChannelAssigns, Assignable};
-ghost use Rattle.go_types.specs.Underlying.{under};
-ghost use Rattle.go_types.specs.Imports.{is_named, is_imported_struct};
+ghost use Rattle.go_model.specs.Assignability.{UnderlyingAssigns, AreChannels, ChannelAssigns, Assignable};
+ghost use Rattle.go_model.specs.Underlying.{under};
+ghost use Rattle.go_model.specs.Imports.{is_named, is_imported_struct};
 ghost use Rattle.go_model.specs.declared.types.term.Term.{out-Term};
 
 use crate::identical::identical;
-use crate::implements::implements;
+use crate::implements::decide;
 use crate::kinds::is_named;
 use crate::lookup::{error_type, Lookup};
 use go_model::memory::NoMemory;
 use go_model::types::table::TypeTable;
 use go_model::types::term::{Direction, Term};
+use go_model::types::world::World;
 use std::alloc::Global;
 
 fn are_named(from: &Term, to: &Term) -> bool
@@ -87,7 +89,7 @@ pub(crate) fn assigns<'a, T: TypeTable>(
     if types.by_channel(from, to) {
         return Ok(true);
     }
-    let answer = implements(alloc, types, from, to)?;
+    let answer = decide(alloc, types, from, to)?;
     Ok(answer)
 }
 
@@ -110,4 +112,17 @@ pub fn assignable_in<T: TypeTable>(
     };
     let answer = assigns(alloc, &lookup, from, to, profile)?;
     Ok(answer)
+}
+
+/// Whether a value of one type of a world is assignable to another, as [`assignable_in`] says.
+pub fn assignable(
+    alloc: Global,
+    world: &World,
+    from: &Term,
+    to: &Term,
+    profile: bool,
+) -> Result<bool, NoMemory>
+    ensures { IfOk result (Decides (Assignable (table_of world.now.packages) profile from.now to.now)) }
+{
+    assignable_in(alloc, world, from, to, profile)
 }

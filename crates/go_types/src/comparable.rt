@@ -1,8 +1,9 @@
 //! Types whose values can be compared.
 ghost use Rattle.std.specs.Prelude.{◌≡◌, [], ◌∷◌, true, IfOk, OnOk};
 ghost use Rattle.go_model.specs.Lists.{Has};
+ghost use Rattle.go_model.specs.Worlds.{table_of};
 ghost use Rattle.go_types.specs.Answers.{Decides};
-ghost use Rattle.go_types.specs.Comparison.{Comparable};
+ghost use Rattle.go_model.specs.Comparison.{Comparable};
 ghost use Rattle.go_types.specs.Search.{Adds};
 ghost use Rattle.go_types.specs.Parts.{MeetsTerm, Pushes, PushesFields, Looked, PartAt};
 
@@ -12,6 +13,7 @@ use go_model::memory::NoMemory;
 use go_model::types::names::TypeName;
 use go_model::types::table::TypeTable;
 use go_model::types::term::{Field, Term};
+use go_model::types::world::World;
 use std::alloc::Global;
 use std::collections::BTreeSet;
 
@@ -151,4 +153,11 @@ pub fn comparable_in<T: TypeTable>(
     };
     let answer = walk(alloc, &lookup, term)?;
     Ok(answer)
+}
+
+/// Whether two values of a type of a world can be compared.
+pub fn comparable(alloc: Global, world: &World, term: &Term) -> Result<bool, NoMemory>
+    ensures { IfOk result (Decides (Comparable (table_of world.now.packages) term.now)) }
+{
+    comparable_in(alloc, world, term)
 }

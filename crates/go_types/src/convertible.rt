@@ -1,9 +1,10 @@
 //! Which types are convertible to which, for values that aren't constants.
 ghost use Rattle.std.specs.Prelude.{◌≡◌, ◌↔◌, ◌&&◌, ◌||◌, IsTrue, IfOk};
+ghost use Rattle.go_model.specs.Worlds.{table_of};
 ghost use Rattle.go_types.specs.Answers.{Decides};
-ghost use Rattle.go_types.specs.Tags.{bare};
-ghost use Rattle.go_types.specs.Imports.{is_imported_open};
-ghost use Rattle.go_types.specs.Conversions.{UnderlyingConverts, PointerConverts, Convertible, basics_convert};
+ghost use Rattle.go_model.specs.Tags.{bare};
+ghost use Rattle.go_model.specs.Imports.{is_imported_open};
+ghost use Rattle.go_model.specs.Conversions.{UnderlyingConverts, PointerConverts, Convertible, basics_convert};
 
 use crate::assignable::assigns;
 use crate::identical::identical;
@@ -13,6 +14,7 @@ use crate::untagged::untagged;
 use go_model::memory::NoMemory;
 use go_model::types::table::TypeTable;
 use go_model::types::term::Term;
+use go_model::types::world::World;
 use std::alloc::Global;
 
 impl<'a, T: TypeTable> Lookup<'a, T> {
@@ -128,4 +130,17 @@ pub fn convertible_in<T: TypeTable>(
     };
     let answer = converts(alloc, &lookup, from, to, profile)?;
     Ok(answer)
+}
+
+/// Whether a value of one type of a world is convertible to another, as [`convertible_in`] says.
+pub fn convertible(
+    alloc: Global,
+    world: &World,
+    from: &Term,
+    to: &Term,
+    profile: bool,
+) -> Result<bool, NoMemory>
+    ensures { IfOk result (Decides (Convertible (table_of world.now.packages) profile from.now to.now)) }
+{
+    convertible_in(alloc, world, from, to, profile)
 }

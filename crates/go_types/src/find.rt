@@ -1,10 +1,10 @@
 //! Selectors: the field or method at the shallowest depth where there is one.
 ghost use Rattle.std.specs.Prelude.{◌≡◌, ◌++◌, ◌≤◌, ℕ, List, [], length, IfOk, OnOk, Some, None};
-ghost use Rattle.go_types.specs.Gathered.{gather};
-ghost use Rattle.go_types.specs.Selectors.{Spot, steps, endings, start, is_defined_pointer, told_depth, Finds};
+ghost use Rattle.go_model.specs.Gathered.{gather};
+ghost use Rattle.go_model.specs.Selectors.{Spot, steps, endings, start, is_defined_pointer, told_depth, Finds};
 ghost use Rattle.go_types.specs.Endings.{ending_of, endings_of, One, Verdict};
 ghost use Rattle.go_types.specs.Search.{Knows, Thinned};
-ghost use Rattle.go_model.specs.declared.types.term.Term.{out-Term};
+ghost use Rattle.go_model.specs.Worlds.{table_of};
 
 use crate::ending::{Ending, Target};
 use crate::lookup::{error_type, Lookup};
@@ -16,6 +16,7 @@ use go_model::types::found::{FieldFound, Found, MethodFound};
 use go_model::types::names::Sel;
 use go_model::types::table::TypeTable;
 use go_model::types::term::Term;
+use go_model::types::world::World;
 use std::alloc::Global;
 
 // What the selector names in a layer.
@@ -194,4 +195,16 @@ pub fn find_in<T: TypeTable>(
     };
     let found = search(alloc, &lookup, term, sel)?;
     Ok(found)
+}
+
+/// What a selector finds in a type of a world.
+pub fn find(
+    alloc: Global,
+    world: &World,
+    term: &Term,
+    sel: &Sel,
+) -> Result<Found, NoMemory>
+    ensures { IfOk result (Finds (table_of world.now.packages) sel.now term.now) }
+{
+    find_in(alloc, world, term, sel)
 }

@@ -1,7 +1,8 @@
 //! Types that implement an interface.
 ghost use Rattle.std.specs.Prelude.{IfOk};
+ghost use Rattle.go_model.specs.Worlds.{table_of};
 ghost use Rattle.go_types.specs.Answers.{Decides, IsCalled};
-ghost use Rattle.go_types.specs.MethodSets.{HasMethod, HasMethods, Implements};
+ghost use Rattle.go_model.specs.MethodSets.{HasMethod, HasMethods, Implements};
 
 use crate::find::search;
 use crate::identical::same_signature;
@@ -10,6 +11,7 @@ use go_model::memory::NoMemory;
 use go_model::types::found::Found;
 use go_model::types::table::TypeTable;
 use go_model::types::term::{Method, Term};
+use go_model::types::world::World;
 use std::alloc::Global;
 
 // Whether what was found is this method, and callable on the type itself.
@@ -56,7 +58,7 @@ fn has_methods<'a, T: TypeTable>(
     Ok(true)
 }
 
-pub(crate) fn implements<'a, T: TypeTable>(
+pub(crate) fn decide<'a, T: TypeTable>(
     alloc: Global,
     types: &Lookup<'a, T>,
     term: &'a Term,
@@ -88,6 +90,18 @@ pub fn implements_in<T: TypeTable>(
         table: types,
         error: &error,
     };
-    let answer = implements(alloc, &lookup, term, interface)?;
+    let answer = decide(alloc, &lookup, term, interface)?;
     Ok(answer)
+}
+
+/// Whether a type of a world implements an interface type of it.
+pub fn implements(
+    alloc: Global,
+    world: &World,
+    term: &Term,
+    interface: &Term,
+) -> Result<bool, NoMemory>
+    ensures { IfOk result (Decides (Implements (table_of world.now.packages) term.now interface.now)) }
+{
+    implements_in(alloc, world, term, interface)
 }

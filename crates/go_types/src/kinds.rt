@@ -1,8 +1,8 @@
 //! Named types, types of other packages, and kinds of basic types.
 ghost use Rattle.std.specs.Prelude.{◌≡◌};
-ghost use Rattle.go_types.specs.Imports.{is_named, is_imported, is_imported_struct, is_imported_interface, is_imported_open};
-ghost use Rattle.go_types.specs.Conversions.{is_integer, is_float, is_complex, is_string, is_character, basic_converts, both_basic, has_basic, is_characters};
-ghost use Rattle.go_types.specs.Underlying.{under};
+ghost use Rattle.go_model.specs.Imports.{is_named, is_imported, is_imported_struct, is_imported_interface, is_imported_open};
+ghost use Rattle.go_model.specs.Conversions.{is_integer, is_float, is_complex, is_string, is_character, basic_converts, both_basic, has_basic, is_characters};
+ghost use Rattle.go_model.specs.Underlying.{under};
 ghost use Rattle.go_model.specs.declared.types.term.Term.{out-Term};
 
 use crate::lookup::Lookup;

@@ -5,10 +5,10 @@ ghost use Rattle.go_model.specs.declared.types.names.Sel.{Sel};
 ghost use Rattle.go_model.specs.declared.types.term.Term.{Term};
 ghost use Rattle.go_model.specs.declared.types.term.Signature.{Signature};
 ghost use Rattle.go_model.specs.declared.types.found.Found.{Found};
-ghost use Rattle.go_types.specs.Selectors.{Finds};
-ghost use Rattle.go_types.specs.MethodSets.{InSet};
-ghost use Rattle.go_types.specs.Assignability.{Assignable};
-ghost use Rattle.go_types.specs.Conversions.{Convertible};
+ghost use Rattle.go_model.specs.Selectors.{Finds};
+ghost use Rattle.go_model.specs.MethodSets.{InSet};
+ghost use Rattle.go_model.specs.Assignability.{Assignable};
+ghost use Rattle.go_model.specs.Conversions.{Convertible};
 
 /// A selector finds one thing in a type, with its pointer flag and its depth; the method set has one
 /// method of a selector.

@@ -1,8 +1,8 @@
 //! A table of types with the predeclared `error` before it.
 ghost use Rattle.std.specs.Prelude.{◌≡◌, IfOk};
 ghost use Rattle.go_model.specs.Tables.{entry_of};
-ghost use Rattle.go_types.specs.Terms.{is_error, error_type};
-ghost use Rattle.go_types.specs.Underlying.{entry, under};
+ghost use Rattle.go_model.specs.Terms.{is_error, error_type};
+ghost use Rattle.go_model.specs.Underlying.{entry, under};
 ghost use Rattle.go_model.specs.declared.types.term.Term.{out-Term};
 
 use go_model::boxed::Box;

@@ -1,6 +1,6 @@
 //! Which defined types a search has met.
 ghost use Rattle.std.specs.Prelude.{◌≡◌, List, [], true, IfOk, OnOk};
-ghost use Rattle.go_types.specs.Selectors.{Spot};
+ghost use Rattle.go_model.specs.Selectors.{Spot};
 ghost use Rattle.go_model.specs.Lists.{Has};
 ghost use Rattle.go_types.specs.Search.{Adds, IsKeyOf, Knows, Recalls, Keeps, Thinned, Meets};
 

@@ -1,7 +1,7 @@
 //! One embedded field further, and what a selector names there.
 ghost use Rattle.std.specs.Prelude.{◌≡◌, ◌++◌, OnOk};
-ghost use Rattle.go_types.specs.Gathered.{gather};
-ghost use Rattle.go_types.specs.Selectors.{step, steps, endings, field_ending, declared_ending, method_ending};
+ghost use Rattle.go_model.specs.Gathered.{gather};
+ghost use Rattle.go_model.specs.Selectors.{step, steps, endings, field_ending, declared_ending, method_ending};
 ghost use Rattle.go_types.specs.Endings.{endings_of};
 
 use crate::ending::{Ending, Target};

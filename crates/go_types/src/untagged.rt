@@ -1,6 +1,6 @@
 //! Types without the tags of their fields.
 ghost use Rattle.std.specs.Prelude.{◌≡◌, map, IfOk};
-ghost use Rattle.go_types.specs.Tags.{untagged, untagged_field, untagged_method, untagged_signature};
+ghost use Rattle.go_model.specs.Tags.{untagged, untagged_field, untagged_method, untagged_signature};
 
 use go_model::boxed::Box;
 use go_model::list::List;

@@ -1,6 +1,6 @@
 use Rattle.std.proofs.Common.{◌≡◌, ◌++◌, drop}
-use Rattle.go_types.specs.Gathered.{gather}
-use Rattle.go_types.specs.Selectors.{steps}
+use Rattle.go_model.specs.Gathered.{gather}
+use Rattle.go_model.specs.Selectors.{steps}
 use Rattle.go_types.proofs.find.steps_of.Given as goal
 
 abbrev pub invariant-loop-place : goal.invariant-loop-place

@@ -5,8 +5,8 @@ use Rattle.std.specs.Str.{bytes_eq}
 use Rattle.go_model.specs.Tables.{Table}
 use Rattle.go_model.specs.declared.types.names.TypeName.{TypeName}
 use Rattle.go_model.specs.declared.types.term.Term.{Term, Term-F, out-Term}
-use Rattle.go_types.specs.Terms.{Layer, client_path}
-use Rattle.go_types.specs.Underlying.{under}
+use Rattle.go_model.specs.Terms.{Layer, client_path}
+use Rattle.go_model.specs.Underlying.{under}
 
 -- a predeclared or a defined type
 abbrev pub is_named_layer : Layer → Bool

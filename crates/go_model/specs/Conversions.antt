@@ -5,11 +5,11 @@ use Rattle.go_model.specs.Tables.{Table}
 use Rattle.go_model.specs.declared.value.Basic.{Basic}
 use Rattle.go_model.specs.declared.value.Basic.TheVariants as basic
 use Rattle.go_model.specs.declared.types.term.Term.{Term, Term-F, out-Term}
-use Rattle.go_types.specs.Terms.{Layer}
-use Rattle.go_types.specs.Underlying.{under}
-use Rattle.go_types.specs.Tags.{bare}
-use Rattle.go_types.specs.Imports.{is_imported_open}
-use Rattle.go_types.specs.Assignability.{Assignable}
+use Rattle.go_model.specs.Terms.{Layer}
+use Rattle.go_model.specs.Underlying.{under}
+use Rattle.go_model.specs.Tags.{bare}
+use Rattle.go_model.specs.Imports.{is_imported_open}
+use Rattle.go_model.specs.Assignability.{Assignable}
 
 abbrev pub is_integer : Basic → Bool
 is_integer basic.Int = true

@@ -4,10 +4,10 @@ use Rattle.std.specs.Prelude.{◌≡◌, ◌&&◌, ◌||◌, Bool, true, false}
 use Rattle.go_model.specs.Tables.{Table}
 use Rattle.go_model.specs.declared.types.term.Term.{Term, Term-F}
 use Rattle.go_model.specs.declared.types.term.Direction.TheVariants as towards
-use Rattle.go_types.specs.Terms.{Layer}
-use Rattle.go_types.specs.Underlying.{under}
-use Rattle.go_types.specs.MethodSets.{Implements}
-use Rattle.go_types.specs.Imports.{is_named, is_imported_struct}
+use Rattle.go_model.specs.Terms.{Layer}
+use Rattle.go_model.specs.Underlying.{under}
+use Rattle.go_model.specs.MethodSets.{Implements}
+use Rattle.go_model.specs.Imports.{is_named, is_imported_struct}
 
 -- both have identical underlying types, and one isn't named; in the profile neither is a defined struct of another package
 pub record UnderlyingAssigns (T : Table) (profile : Bool) (from to : Term) : Type 0 where

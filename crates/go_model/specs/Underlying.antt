@@ -8,7 +8,7 @@ use Rattle.go_model.specs.declared.types.package.MethodOf.{MethodOf}
 use Rattle.go_model.specs.declared.types.term.Term.{Term, Term-F, out-Term}
 use Rattle.go_model.specs.declared.types.term.Field.{Field}
 use Rattle.go_model.specs.declared.types.term.Method.{Method}
-use Rattle.go_types.specs.Terms.{Layer, is_error, error_type}
+use Rattle.go_model.specs.Terms.{Layer, is_error, error_type}
 
 -- the defined type of a name; `error` stands before the table
 abbrev pub entry : Table → TypeName → Option Defined

@@ -6,7 +6,7 @@ use Rattle.go_model.specs.declared.types.term.Term.{Term, Term-F, roll-Term, fol
 use Rattle.go_model.specs.declared.types.term.Field.{Field, Field-F, roll-Field, fold-Field}
 use Rattle.go_model.specs.declared.types.term.Method.{Method, roll-Method, fold-Method}
 use Rattle.go_model.specs.declared.types.term.Signature.{Signature, roll-Signature, fold-Signature}
-use Rattle.go_types.specs.Underlying.{under}
+use Rattle.go_model.specs.Underlying.{under}
 
 abbrev pub untagged_step : Field-F Term Field Method Signature → Field
 untagged_step f = roll-Field (record { sel = f.sel; embedded = f.embedded; term = f.term; tag = [] })

@@ -3,8 +3,8 @@
 use Rattle.std.specs.Prelude.{◌≡◌, ◌⊎◌, ℕ, List, Bool, true, false}
 use Rattle.go_model.specs.Lists.{Has}
 use Rattle.go_model.specs.Tables.{Table}
-use Rattle.go_types.specs.Underlying.{under}
-use Rattle.go_types.specs.Selectors.{Ending, method, IsOnly, is_defined_pointer}
+use Rattle.go_model.specs.Underlying.{under}
+use Rattle.go_model.specs.Selectors.{Ending, method, IsOnly, is_defined_pointer}
 use Rattle.go_model.specs.declared.types.names.Sel.{Sel}
 use Rattle.go_model.specs.declared.types.term.Term.{Term, Term-F}
 use Rattle.go_model.specs.declared.types.term.Method.{Method, out-Method}

@@ -1,10 +1,10 @@
 -- What a selector means in a type: the field or method at the shallowest depth where there is one.
 -- Public source: Go specification, "Selectors" and "Struct types".
 use Rattle.std.specs.Prelude.{◌≡◌, ◌<◌, ◌≤◌, ◌⊎◌, ℕ, zero, suc, min, List, [], ◌∷◌, ◌++◌, length, Bool, true, false, ◌||◌, if◌then◌else◌}
-use Rattle.go_types.specs.Gathered.{gather}
-use Rattle.go_types.specs.Terms.{Layer, same_sel}
+use Rattle.go_model.specs.Gathered.{gather}
+use Rattle.go_model.specs.Terms.{Layer, same_sel}
 use Rattle.go_model.specs.Tables.{Table}
-use Rattle.go_types.specs.Underlying.{under, fields_of, methods_of, declared_methods}
+use Rattle.go_model.specs.Underlying.{under, fields_of, methods_of, declared_methods}
 use Rattle.go_model.specs.declared.types.names.Sel.{Sel}
 use Rattle.go_model.specs.declared.types.term.Term.{Term, Term-F, out-Term}
 use Rattle.go_model.specs.declared.types.term.Field.{Field, out-Field}

@@ -3,7 +3,7 @@
 use Rattle.std.specs.Prelude.{◌≡◌, ℕ, List}
 use Rattle.go_model.specs.Lists.{Has}
 use Rattle.go_model.specs.Tables.{Table}
-use Rattle.go_types.specs.Underlying.{under}
+use Rattle.go_model.specs.Underlying.{under}
 use Rattle.go_model.specs.declared.types.term.Term.{Term, Term-F}
 use Rattle.go_model.specs.declared.types.term.Field.{Field, out-Field}
 use Rattle.go_model.specs.declared.types.term.Signature.{Signature}
