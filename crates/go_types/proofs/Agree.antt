@@ -9,10 +9,13 @@ use Rattle.go_model.specs.Underlying.{entry, under, under_layer, under_entry, fi
 use Rattle.go_model.specs.declared.types.names.TypeName.{TypeName}
 use Rattle.go_model.specs.declared.types.names.Sel.{Sel}
 use Rattle.go_model.specs.declared.types.package.Defined.{Defined}
+use Rattle.go_model.specs.declared.types.found.Found.{Found}
+use Rattle.go_model.specs.declared.types.found.Found.TheVariants as found
+use Rattle.go_model.specs.declared.types.term.Signature.{Signature}
 use Rattle.go_model.specs.declared.types.term.Term.{Term, Term-F, out-Term, roll-Term, roll-out-Term, fold-roll-Term}
 use Rattle.go_model.specs.declared.types.term.Field.{Field, out-Field, fold-Field, fold_out-Field}
 use Rattle.go_model.specs.declared.types.term.Method.{Method, out-Method}
-use Rattle.go_model.specs.Selectors.{Spot, Ending, field_ending, declared_ending, method_ending, step, steps, endings, ends, start, start_layer, start_pointer, start_named, is_defined_pointer, is_defined_layer, is_pointer, base_of, base_layer, NoneBelow, IsOnly}
+use Rattle.go_model.specs.Selectors.{Spot, Ending, field_ending, declared_ending, method_ending, step, steps, endings, ends, start, start_layer, start_pointer, start_named, is_defined_pointer, is_defined_layer, is_pointer, base_of, base_layer, NoneBelow, IsOnly, Finds}
 use Rattle.go_model.specs.MethodSets.{InSet, HasMethod, HasMethods, Implements}
 use Rattle.go_model.specs.Comparison.{LeadsToIncomparable, at_slice, at_map, at_func, in_array, in_struct, Comparable}
 use Rattle.go_types.specs.Regions.{Within, AgreeOn, IsClosed}
@@ -152,3 +155,99 @@ module _ (P : TypeName → Bool) where
       unfolding ends
       ends_same s zero at w = endings_same s at w
       ends_same s (suc depth) at w = gather_same (ends A s depth) (ends B s depth) (steps A at) (λ x h. ends_same s depth x (steps_within at x w h)) ∙ ap (gather (ends B s depth)) (steps_same at w)
+
+      -- where paths begin is the same, and within
+      pointer_same : (t base : Term) → Within P base → start_pointer t base (under A base) ≡ start_pointer t base (under B base)
+      pointer_same t base w = ap (start_pointer t base) (under_same base w)
+
+      start_same : (t : Term) → Within P t → start A t ≡ start B t
+      start_same t w = by (out-Term t) refl
+        where
+        by : (l : Layer) → out-Term t ≡ l → start_layer A t l ≡ start_layer B t l
+        by (Term-F.Plain b) e = refl
+        by (Term-F.Named n) e = ap (start_named t) (under_same t w)
+        by (Term-F.Pointer b) e = pointer_same t b (λ n h. rolled t (Term-F.Pointer b) e w n (base_names b n h))
+        by (Term-F.Slice b) e = refl
+        by (Term-F.Array k b) e = refl
+        by (Term-F.Map k b) e = refl
+        by (Term-F.Chan d b) e = refl
+        by (Term-F.Func g) e = refl
+        by (Term-F.Struct fs) e = refl
+        by (Term-F.Interface ms) e = refl
+
+      start_pointer_within : (t base : Term) (l : Layer) → Within P t → Within P base → Within P (start_pointer t base l).term
+      start_pointer_within t base (Term-F.Plain b) w v = v
+      start_pointer_within t base (Term-F.Named n) w v = v
+      start_pointer_within t base (Term-F.Pointer b) w v = w
+      start_pointer_within t base (Term-F.Slice b) w v = v
+      start_pointer_within t base (Term-F.Array k b) w v = v
+      start_pointer_within t base (Term-F.Map k b) w v = v
+      start_pointer_within t base (Term-F.Chan d b) w v = v
+      start_pointer_within t base (Term-F.Func g) w v = v
+      start_pointer_within t base (Term-F.Struct fs) w v = v
+      start_pointer_within t base (Term-F.Interface ms) w v = w
+
+      start_named_within : (t : Term) (l : Layer) → Within P t → under A t ≡ l → Within P (start_named t l).term
+      start_named_within t (Term-F.Plain b) w e = w
+      start_named_within t (Term-F.Named n) w e = w
+      start_named_within t (Term-F.Pointer b) w e = λ n h. under_within t (Term-F.Pointer b) e w n (base_names b n h)
+      start_named_within t (Term-F.Slice b) w e = w
+      start_named_within t (Term-F.Array k b) w e = w
+      start_named_within t (Term-F.Map k b) w e = w
+      start_named_within t (Term-F.Chan d b) w e = w
+      start_named_within t (Term-F.Func g) w e = w
+      start_named_within t (Term-F.Struct fs) w e = w
+      start_named_within t (Term-F.Interface ms) w e = w
+
+      start_within : (t : Term) → Within P t → Within P (start A t).term
+      start_within t w = by (out-Term t) refl
+        where
+        by : (l : Layer) → out-Term t ≡ l → Within P (start_layer A t l).term
+        by (Term-F.Plain b) e = w
+        by (Term-F.Named n) e = start_named_within t (under A t) w refl
+        by (Term-F.Pointer b) e = start_pointer_within t b (under A b) w (λ n h. rolled t (Term-F.Pointer b) e w n (base_names b n h))
+        by (Term-F.Slice b) e = w
+        by (Term-F.Array k b) e = w
+        by (Term-F.Map k b) e = w
+        by (Term-F.Chan d b) e = w
+        by (Term-F.Func g) e = w
+        by (Term-F.Struct fs) e = w
+        by (Term-F.Interface ms) e = w
+
+      reach_same : (s : Sel) (t : Term) → Within P t → (k : ℕ) → ends A s k (start A t) ≡ ends B s k (start B t)
+      reach_same s t w k = ends_same s k (start A t) (start_within t w) ∙ ap (ends B s k) (start_same t w)
+
+      only_over : (s : Sel) (t : Term) (d : ℕ) (e : Ending) → Within P t → IsOnly A s t d e → IsOnly B s t d e
+      only_over s t d e w o = record { none = λ k h. sym (reach_same s t w k) ∙ o.none k h; only = sym (reach_same s t w d) ∙ o.only }
+
+      pointer_over : (t : Term) (b : Bool) → Within P t → is_defined_pointer A t ≡ b → is_defined_pointer B t ≡ b
+      pointer_over t b w e = ap (is_defined_layer (out-Term t)) (sym (under_same t w)) ∙ e
+
+      pub finds_over : (s : Sel) (t : Term) (r : Found) → Within P t → Finds A s t r → Finds B s t r
+      finds_over s t (found.FieldAt f) w a = (a.0, only_over s t a.0 _ w a.1, a.2)
+      finds_over s t (found.MethodAt m) w a = (a.0, only_over s t a.0 _ w a.1, a.2, pointer_over t false w a.3)
+      finds_over s t found.Ambiguous w a = (a.0, λ k h. sym (reach_same s t w k) ∙ a.1 k h, subst (λ (es : List Ending). 2 ≤ length es) (reach_same s t w a.0) a.2)
+      finds_over s t found.Nothing w (inl a) = inl (λ k. sym (reach_same s t w k) ∙ a k)
+      finds_over s t found.Nothing w (inr a) = inr (a.0, a.1, a.2, a.3, only_over s t a.0 _ w a.4, pointer_over t true w a.5)
+
+      pub set_over : (t : Term) (s : Sel) (g : Signature) → Within P t → InSet A t s g → InSet B t s g
+      set_over t s g w i = record { depth = i.depth; through = i.through; pointer = i.pointer; only = only_over s t i.depth _ w i.only; counts = pointer_over t false w i.counts; reaches = i.reaches }
+
+      pub implements_over : (t i : Term) → Within P t → Within P i → Implements A t i → Implements B t i
+      implements_over t i w v a = (a.0, sym (under_same i v) ∙ a.1, λ m h. set_over t (out-Method m).sel (out-Method m).signature w (a.2 m h))
+
+      leads_back : (t : Term) → Within P t → LeadsToIncomparable B t → LeadsToIncomparable A t
+      leads_back t w (at_slice e) = at_slice (under_same t w ∙ e)
+      leads_back t w (at_map e) = at_map (under_same t w ∙ e)
+      leads_back t w (at_func e) = at_func (under_same t w ∙ e)
+      leads_back t w (in_array {e = x} {n = k} e l) = in_array (under_same t w ∙ e) (leads_back x (λ n h. under_within t (Term-F.Array k x) (under_same t w ∙ e) w n (element_names k x n h)) l)
+      leads_back t w (in_struct {fs = fs} f e h l) = in_struct f (under_same t w ∙ e) h (leads_back (out-Field f).term (field_within t fs f (under_same t w ∙ e) h w) l)
+
+      pub comparable_over : (t : Term) → Within P t → Comparable A t → Comparable B t
+      comparable_over t w c l = c (leads_back t w l)
+
+  pub agree_back : (A B : Table) → AgreeOn P A B → AgreeOn P B A
+  agree_back A B same n h = sym (same n h)
+
+  pub closed_back : (A B : Table) → AgreeOn P A B → IsClosed P A → IsClosed P B
+  closed_back A B same closed n d h e = closed n d h (same n h ∙ e)
