@@ -13,4 +13,5 @@ pub mod syntax;
 pub mod text;
 pub mod token;
 pub mod tree;
+pub mod types;
 pub mod value;

@@ -1,0 +1,9 @@
+use Rattle.std.proofs.Common.{◌-◌}
+use Rattle.go_model.proofs.Ordered.{Narrowed}
+use Rattle.go_model.proofs.types.keyed.find_key.Given as goal
+
+abbrev pub invariant-loop-low : goal.invariant-loop-low
+invariant-loop-low g l = Narrowed g.K.Keyed.key l.items l.key l.low l.high
+
+abbrev pub decreases-loop-low : goal.decreases-loop-low
+decreases-loop-low g l = l.high - l.low

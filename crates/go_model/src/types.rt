@@ -1,0 +1,9 @@
+//! Types and packages after typing, in the words of the Go specification.
+pub mod copy;
+pub mod found;
+pub mod keyed;
+pub mod names;
+pub mod package;
+pub mod table;
+pub mod term;
+pub mod world;

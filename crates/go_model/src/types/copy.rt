@@ -1,0 +1,234 @@
+//! Equal copies of types and packages.
+ghost use Rattle.std.specs.Prelude.{◌≡◌, IfOk};
+
+use crate::boxed::Box;
+use crate::list::List;
+use crate::memory::NoMemory;
+use crate::text::Text;
+use crate::types::names::{Sel, TypeName};
+use crate::types::package::{ConstTerm, Defined, Entity, MethodOf, Object, Package};
+use crate::types::term::{Field, Method, Signature, Term};
+use std::alloc::Global;
+
+fn copy_text(alloc: Global, text: &Text) -> Result<Text, NoMemory>
+    ensures { IfOk result (λ copied. copied ≡ text.now) }
+{
+    Text::of(alloc, text.bytes())
+}
+
+impl TypeName {
+    /// An equal name.
+    pub fn copy(&self, alloc: Global) -> Result<TypeName, NoMemory>
+        ensures { IfOk result (λ copied. copied ≡ self.now) }
+    {
+        Ok(TypeName {
+            path: copy_text(alloc, &self.path)?,
+            name: copy_text(alloc, &self.name)?,
+        })
+    }
+}
+
+impl Sel {
+    /// An equal selector.
+    pub fn copy(&self, alloc: Global) -> Result<Sel, NoMemory>
+        ensures { IfOk result (λ copied. copied ≡ self.now) }
+    {
+        Ok(Sel {
+            name: copy_text(alloc, &self.name)?,
+            package: copy_text(alloc, &self.package)?,
+        })
+    }
+}
+
+#[cycle(copy)]
+fn copy_term(alloc: Global, term: &Term) -> Result<Term, NoMemory>
+    ensures { IfOk result (λ copied. copied ≡ term.now) }
+{
+    match term {
+        Term::Plain(basic) => Ok(Term::Plain(*basic)),
+        Term::Named(name) => Ok(Term::Named(name.copy(alloc)?)),
+        Term::Pointer(base) => Ok(Term::Pointer(copy_boxed(alloc, base)?)),
+        Term::Slice(element) => Ok(Term::Slice(copy_boxed(alloc, element)?)),
+        Term::Array(length, element) => Ok(Term::Array(*length, copy_boxed(alloc, element)?)),
+        Term::Map(key, element) => Ok(Term::Map(
+            copy_boxed(alloc, key)?,
+            copy_boxed(alloc, element)?,
+        )),
+        Term::Chan(direction, element) => {
+            Ok(Term::Chan(*direction, copy_boxed(alloc, element)?))
+        }
+        Term::Func(signature) => Ok(Term::Func(copy_signature(alloc, signature)?)),
+        Term::Struct(fields) => Ok(Term::Struct(copy_fields(alloc, fields.items())?)),
+        Term::Interface(methods) => Ok(Term::Interface(copy_methods(alloc, methods.items())?)),
+    }
+}
+
+#[cycle(copy)]
+fn copy_boxed(alloc: Global, term: &Box<Term>) -> Result<Box<Term>, NoMemory>
+    ensures { IfOk result (λ copied. copied ≡ term.now) }
+{
+    Box::new(alloc, copy_term(alloc, term.value())?)
+}
+
+#[cycle(copy)]
+fn copy_signature(alloc: Global, signature: &Signature) -> Result<Signature, NoMemory>
+    ensures { IfOk result (λ copied. copied ≡ signature.now) }
+{
+    Ok(Signature {
+        params: copy_terms(alloc, signature.params.items())?,
+        variadic: signature.variadic,
+        results: copy_terms(alloc, signature.results.items())?,
+    })
+}
+
+#[cycle(copy)]
+fn copy_terms(alloc: Global, terms: &[Term]) -> Result<List<Term>, NoMemory>
+    ensures { IfOk result (λ copied. copied ≡ terms.now) }
+{
+    let mut copied = List::new(alloc);
+    for term in terms {
+        copied.push(copy_term(alloc, term)?)?;
+    }
+    Ok(copied)
+}
+
+#[cycle(copy)]
+fn copy_fields(alloc: Global, fields: &[Field]) -> Result<List<Field>, NoMemory>
+    ensures { IfOk result (λ copied. copied ≡ fields.now) }
+{
+    let mut copied = List::new(alloc);
+    for field in fields {
+        copied.push(Field {
+            sel: field.sel.copy(alloc)?,
+            embedded: field.embedded,
+            term: copy_term(alloc, &field.term)?,
+            tag: copy_text(alloc, &field.tag)?,
+        })?;
+    }
+    Ok(copied)
+}
+
+#[cycle(copy)]
+fn copy_methods(alloc: Global, methods: &[Method]) -> Result<List<Method>, NoMemory>
+    ensures { IfOk result (λ copied. copied ≡ methods.now) }
+{
+    let mut copied = List::new(alloc);
+    for method in methods {
+        copied.push(Method {
+            sel: method.sel.copy(alloc)?,
+            signature: copy_signature(alloc, &method.signature)?,
+        })?;
+    }
+    Ok(copied)
+}
+
+impl Term {
+    /// An identical type.
+    pub fn copy(&self, alloc: Global) -> Result<Term, NoMemory>
+        ensures { IfOk result (λ copied. copied ≡ self.now) }
+    {
+        copy_term(alloc, self)
+    }
+}
+
+impl Signature {
+    /// An identical signature.
+    pub fn copy(&self, alloc: Global) -> Result<Signature, NoMemory>
+        ensures { IfOk result (λ copied. copied ≡ self.now) }
+    {
+        copy_signature(alloc, self)
+    }
+}
+
+impl ConstTerm {
+    /// An equal type or kind.
+    pub fn copy(&self, alloc: Global) -> Result<ConstTerm, NoMemory>
+        ensures { IfOk result (λ copied. copied ≡ self.now) }
+    {
+        match self {
+            ConstTerm::OfTerm(term) => Ok(ConstTerm::OfTerm(term.copy(alloc)?)),
+            ConstTerm::OfKind(kind) => Ok(ConstTerm::OfKind(*kind)),
+        }
+    }
+}
+
+impl Entity {
+    /// An equal entity.
+    pub fn copy(&self, alloc: Global) -> Result<Entity, NoMemory>
+        ensures { IfOk result (λ copied. copied ≡ self.now) }
+    {
+        match self {
+            Entity::Const(term, value) => {
+                Ok(Entity::Const(term.copy(alloc)?, value.copy(alloc)?))
+            }
+            Entity::Var(term) => Ok(Entity::Var(term.copy(alloc)?)),
+            Entity::Function(signature) => Ok(Entity::Function(signature.copy(alloc)?)),
+            Entity::TypeOf(term) => Ok(Entity::TypeOf(term.copy(alloc)?)),
+        }
+    }
+}
+
+fn copy_objects(alloc: Global, objects: &[Object]) -> Result<List<Object>, NoMemory>
+    ensures { IfOk result (λ copied. copied ≡ objects.now) }
+{
+    let mut copied = List::new(alloc);
+    for object in objects {
+        copied.push(Object {
+            name: copy_text(alloc, &object.name)?,
+            entity: object.entity.copy(alloc)?,
+        })?;
+    }
+    Ok(copied)
+}
+
+fn copy_declared(alloc: Global, methods: &[MethodOf]) -> Result<List<MethodOf>, NoMemory>
+    ensures { IfOk result (λ copied. copied ≡ methods.now) }
+{
+    let mut copied = List::new(alloc);
+    for method in methods {
+        copied.push(MethodOf {
+            sel: method.sel.copy(alloc)?,
+            pointer: method.pointer,
+            signature: method.signature.copy(alloc)?,
+        })?;
+    }
+    Ok(copied)
+}
+
+impl Defined {
+    /// An equal defined type.
+    pub fn copy(&self, alloc: Global) -> Result<Defined, NoMemory>
+        ensures { IfOk result (λ copied. copied ≡ self.now) }
+    {
+        Ok(Defined {
+            name: copy_text(alloc, &self.name)?,
+            underlying: self.underlying.copy(alloc)?,
+            methods: copy_declared(alloc, self.methods.items())?,
+        })
+    }
+}
+
+fn copy_defined(alloc: Global, defined: &[Defined]) -> Result<List<Defined>, NoMemory>
+    ensures { IfOk result (λ copied. copied ≡ defined.now) }
+{
+    let mut copied = List::new(alloc);
+    for one in defined {
+        copied.push(one.copy(alloc)?)?;
+    }
+    Ok(copied)
+}
+
+impl Package {
+    /// An equal package.
+    pub fn copy(&self, alloc: Global) -> Result<Package, NoMemory>
+        ensures { IfOk result (λ copied. copied ≡ self.now) }
+    {
+        Ok(Package {
+            path: copy_text(alloc, &self.path)?,
+            name: copy_text(alloc, &self.name)?,
+            from_std: self.from_std,
+            objects: copy_objects(alloc, self.objects.items())?,
+            defined: copy_defined(alloc, self.defined.items())?,
+        })
+    }
+}

@@ -1,0 +1,253 @@
+-- Two tables that agree on a set of names which is closed under the table give the same answers.
+use Rattle.std.proofs.Common.{◌≡◌, ◌<◌, ◌≤◌, ℕ, zero, suc, Bool, true, false, ◌||◌, ◌⊎◌, inl, inr, List, [], ◌∷◌, ◌++◌, length, map, refl, sym, ap, ◌∙◌, subst, Option, Some, None, if◌then◌else◌}
+use Rattle.go_model.specs.Lists.{Has}
+use Rattle.go_model.specs.Gathered.{gather}
+use Rattle.go_model.specs.Tables.{Table}
+use Rattle.go_model.specs.Terms.{Layer}
+use Rattle.go_model.specs.TypeNames.{Names, names, name_step, field_names, method_names, parameter_names, all_of}
+use Rattle.go_model.specs.Underlying.{entry, under, under_layer, under_entry, fields_of, methods_of, declared_methods, methods_of_entry}
+use Rattle.go_model.specs.declared.types.names.TypeName.{TypeName}
+use Rattle.go_model.specs.declared.types.names.Sel.{Sel}
+use Rattle.go_model.specs.declared.types.package.Defined.{Defined}
+use Rattle.go_model.specs.declared.types.found.Found.{Found}
+use Rattle.go_model.specs.declared.types.found.Found.TheVariants as found
+use Rattle.go_model.specs.declared.types.term.Signature.{Signature}
+use Rattle.go_model.specs.declared.types.term.Term.{Term, Term-F, out-Term, roll-Term, roll-out-Term, fold-roll-Term}
+use Rattle.go_model.specs.declared.types.term.Field.{Field, out-Field, fold-Field, fold_out-Field}
+use Rattle.go_model.specs.declared.types.term.Method.{Method, out-Method}
+use Rattle.go_model.specs.Selectors.{Spot, Ending, field_ending, declared_ending, method_ending, step, steps, endings, ends, start, start_layer, start_pointer, start_named, is_defined_pointer, is_defined_layer, is_pointer, base_of, base_layer, NoneBelow, IsOnly, Finds}
+use Rattle.go_model.specs.MethodSets.{InSet, HasMethod, HasMethods, Implements}
+use Rattle.go_model.specs.Comparison.{LeadsToIncomparable, at_slice, at_map, at_func, in_array, in_struct, Comparable}
+use Rattle.go_types.specs.Regions.{Within, AgreeOn, IsClosed}
+use Rattle.go_types.proofs.Lists.{gather_of, has-left, has-right}
+
+-- the names of parts are names of the whole
+has_all : {A : Type 0} (f : A → Names) (xs : List A) (x : A) (n : TypeName) → Has xs x → Has (f x) n → Has (all_of (map f xs)) n
+has_all f [] x n h k = absurd h
+has_all {A} f (y ∷ xs) x n (inl e) k = has-left (f y) (all_of (map f xs)) n (subst (λ (w : A). Has (f w) n) (sym e) k)
+has_all f (y ∷ xs) x n (inr h) k = has-right (f y) (all_of (map f xs)) n (has_all f xs x n h k)
+
+name_stands : (n : TypeName) → Has (names (roll-Term (Term-F.Named n))) n
+name_stands n = subst (λ (w : Names). Has w n) (sym (fold-roll-Term Names Names Names Names name_step field_names method_names parameter_names (Term-F.Named n))) (inl refl)
+
+base_names : (e : Term) (n : TypeName) → Has (names e) n → Has (names (roll-Term (Term-F.Pointer e))) n
+base_names e n h = subst (λ (w : Names). Has w n) (sym (fold-roll-Term Names Names Names Names name_step field_names method_names parameter_names (Term-F.Pointer e))) h
+
+element_names : (k : ℕ) (e : Term) (n : TypeName) → Has (names e) n → Has (names (roll-Term (Term-F.Array k e))) n
+element_names k e n h = subst (λ (w : Names). Has w n) (sym (fold-roll-Term Names Names Names Names name_step field_names method_names parameter_names (Term-F.Array k e))) h
+
+field_has : (fs : List Field) (f : Field) (n : TypeName) → Has fs f → Has (names (out-Field f).term) n → Has (names (roll-Term (Term-F.Struct fs))) n
+field_has fs f n h k = subst (λ (w : Names). Has w n) (sym (fold-roll-Term Names Names Names Names name_step field_names method_names parameter_names (Term-F.Struct fs)))
+    (has_all (fold-Field Names Names Names Names name_step field_names method_names parameter_names) fs f n h (subst (λ (w : Names). Has w n) (sym (fold_out-Field Names Names Names Names name_step field_names method_names parameter_names f)) k))
+
+module _ (P : TypeName → Bool) where
+  rolled : (t : Term) (l : Layer) → out-Term t ≡ l → Within P t → Within P (roll-Term l)
+  rolled t l e w = subst (Within P) (sym (roll-out-Term t) ∙ ap roll-Term e) w
+
+  base_within : (t : Term) → Within P t → Within P (base_of t)
+  base_within t w = by (out-Term t) refl
+    where
+    by : (l : Layer) → out-Term t ≡ l → Within P (base_layer t l)
+    by (Term-F.Plain b) e = w
+    by (Term-F.Named n) e = w
+    by (Term-F.Pointer b) e = λ n h. rolled t (Term-F.Pointer b) e w n (base_names b n h)
+    by (Term-F.Slice b) e = w
+    by (Term-F.Array k b) e = w
+    by (Term-F.Map k b) e = w
+    by (Term-F.Chan d b) e = w
+    by (Term-F.Func g) e = w
+    by (Term-F.Struct fs) e = w
+    by (Term-F.Interface ms) e = w
+
+  named_within : (t : Term) (n : TypeName) → out-Term t ≡ Term-F.Named n → Within P t → P n ≡ true
+  named_within t n e w = rolled t (Term-F.Named n) e w n (name_stands n)
+
+  module _ (A B : Table) (same : AgreeOn P A B) where
+    under_same : (t : Term) → Within P t → under A t ≡ under B t
+    under_same t w = by (out-Term t) refl
+      where
+      by : (l : Layer) → out-Term t ≡ l → under_layer A l ≡ under_layer B l
+      by (Term-F.Plain b) e = refl
+      by (Term-F.Named n) e = ap (under_entry n) (same n (named_within t n e w))
+      by (Term-F.Pointer b) e = refl
+      by (Term-F.Slice b) e = refl
+      by (Term-F.Array k b) e = refl
+      by (Term-F.Map k b) e = refl
+      by (Term-F.Chan d b) e = refl
+      by (Term-F.Func g) e = refl
+      by (Term-F.Struct fs) e = refl
+      by (Term-F.Interface ms) e = refl
+
+    declared_same : (t : Term) → Within P t → declared_methods A (out-Term t) ≡ declared_methods B (out-Term t)
+    declared_same t w = by (out-Term t) refl
+      where
+      by : (l : Layer) → out-Term t ≡ l → declared_methods A l ≡ declared_methods B l
+      by (Term-F.Plain b) e = refl
+      by (Term-F.Named n) e = ap methods_of_entry (same n (named_within t n e w))
+      by (Term-F.Pointer b) e = refl
+      by (Term-F.Slice b) e = refl
+      by (Term-F.Array k b) e = refl
+      by (Term-F.Map k b) e = refl
+      by (Term-F.Chan d b) e = refl
+      by (Term-F.Func g) e = refl
+      by (Term-F.Struct fs) e = refl
+      by (Term-F.Interface ms) e = refl
+
+    endings_same : (s : Sel) (at : Spot) → Within P at.term → endings A s at ≡ endings B s at
+    endings_same s at i =
+        ap (λ l. gather (field_ending s at.through) (fields_of l) ++ gather (declared_ending s at.through) (declared_methods A (out-Term at.term)) ++ gather (method_ending s at.through) (methods_of l)) (under_same at.term i)
+        ∙ ap (λ ms. gather (field_ending s at.through) (fields_of (under B at.term)) ++ gather (declared_ending s at.through) ms ++ gather (method_ending s at.through) (methods_of (under B at.term))) (declared_same at.term i)
+
+    steps_same : (at : Spot) → Within P at.term → steps A at ≡ steps B at
+    steps_same at i = ap (λ l. gather (step at.through) (fields_of l)) (under_same at.term i)
+
+    module _ (closed : IsClosed P A) where
+      entry_within : (n : TypeName) (o : Option Defined) → P n ≡ true → entry A n ≡ o → Within P (roll-Term (Term-F.Named n)) → Within P (roll-Term (under_entry n o))
+      entry_within n None h e w = w
+      entry_within n (Some d) h e w = subst (Within P) (sym (roll-out-Term d.underlying)) (closed n d h e)
+
+      under_within : (t : Term) (l : Layer) → under A t ≡ l → Within P t → Within P (roll-Term l)
+      under_within t l u w = subst (λ (k : Layer). Within P (roll-Term k)) u (by (out-Term t) refl)
+        where
+        by : (k : Layer) → out-Term t ≡ k → Within P (roll-Term (under_layer A k))
+        by (Term-F.Plain b) e = rolled t (Term-F.Plain b) e w
+        by (Term-F.Named n) e = entry_within n (entry A n) (named_within t n e w) refl (rolled t (Term-F.Named n) e w)
+        by (Term-F.Pointer b) e = rolled t (Term-F.Pointer b) e w
+        by (Term-F.Slice b) e = rolled t (Term-F.Slice b) e w
+        by (Term-F.Array k b) e = rolled t (Term-F.Array k b) e w
+        by (Term-F.Map k b) e = rolled t (Term-F.Map k b) e w
+        by (Term-F.Chan d b) e = rolled t (Term-F.Chan d b) e w
+        by (Term-F.Func g) e = rolled t (Term-F.Func g) e w
+        by (Term-F.Struct fs) e = rolled t (Term-F.Struct fs) e w
+        by (Term-F.Interface ms) e = rolled t (Term-F.Interface ms) e w
+
+      field_within : (t : Term) (fs : List Field) (f : Field) → under A t ≡ Term-F.Struct fs → Has fs f → Within P t → Within P (out-Field f).term
+      field_within t fs f u h w = λ n k. under_within t (Term-F.Struct fs) u w n (field_has fs f n h k)
+
+      step_within : (through : Bool) (f : Field) (at : Spot) → Within P (out-Field f).term → Has (step through f) at → Within P at.term
+      step_within through f at w h = by (out-Field f).embedded h
+        where
+        by : (b : Bool) → Has (if b then record { through = through || is_pointer (out-Field f).term; term = base_of (out-Field f).term } ∷ [] else []) at → Within P at.term
+        by true (inl e) = subst (λ (s : Spot). Within P s.term) e (base_within (out-Field f).term w)
+        by true (inr k) = absurd k
+        by false k = absurd k
+
+      fields_within : (t : Term) (l : Layer) (f : Field) → under A t ≡ l → Has (fields_of l) f → Within P t → Within P (out-Field f).term
+      fields_within t (Term-F.Struct fs) f u h w = field_within t fs f u h w
+      fields_within t (Term-F.Plain b) f u h w = absurd h
+      fields_within t (Term-F.Named b) f u h w = absurd h
+      fields_within t (Term-F.Pointer b) f u h w = absurd h
+      fields_within t (Term-F.Slice b) f u h w = absurd h
+      fields_within t (Term-F.Array k b) f u h w = absurd h
+      fields_within t (Term-F.Map k b) f u h w = absurd h
+      fields_within t (Term-F.Chan d b) f u h w = absurd h
+      fields_within t (Term-F.Func b) f u h w = absurd h
+      fields_within t (Term-F.Interface b) f u h w = absurd h
+
+      steps_within : (at next : Spot) → Within P at.term → Has (steps A at) next → Within P next.term
+      steps_within at next w h = let k = gather_of (step at.through) (fields_of (under A at.term)) next h in step_within at.through k.0 next (fields_within at.term (under A at.term) k.0 refl k.1 w) k.2
+
+      gather_same : (f g : Spot → List Ending) (xs : List Spot) → ((x : Spot) → Has xs x → f x ≡ g x) → gather f xs ≡ gather g xs
+      gather_same f g [] h = refl
+      gather_same f g (x ∷ xs) h = ap (λ w. w ++ gather f xs) (h x (inl refl)) ∙ ap (λ w. g x ++ w) (gather_same f g xs (λ y i. h y (inr i)))
+
+      pub ends_same : (s : Sel) (depth : ℕ) (at : Spot) → Within P at.term → ends A s depth at ≡ ends B s depth at
+      unfolding ends
+      ends_same s zero at w = endings_same s at w
+      ends_same s (suc depth) at w = gather_same (ends A s depth) (ends B s depth) (steps A at) (λ x h. ends_same s depth x (steps_within at x w h)) ∙ ap (gather (ends B s depth)) (steps_same at w)
+
+      -- where paths begin is the same, and within
+      pointer_same : (t base : Term) → Within P base → start_pointer t base (under A base) ≡ start_pointer t base (under B base)
+      pointer_same t base w = ap (start_pointer t base) (under_same base w)
+
+      start_same : (t : Term) → Within P t → start A t ≡ start B t
+      start_same t w = by (out-Term t) refl
+        where
+        by : (l : Layer) → out-Term t ≡ l → start_layer A t l ≡ start_layer B t l
+        by (Term-F.Plain b) e = refl
+        by (Term-F.Named n) e = ap (start_named t) (under_same t w)
+        by (Term-F.Pointer b) e = pointer_same t b (λ n h. rolled t (Term-F.Pointer b) e w n (base_names b n h))
+        by (Term-F.Slice b) e = refl
+        by (Term-F.Array k b) e = refl
+        by (Term-F.Map k b) e = refl
+        by (Term-F.Chan d b) e = refl
+        by (Term-F.Func g) e = refl
+        by (Term-F.Struct fs) e = refl
+        by (Term-F.Interface ms) e = refl
+
+      start_pointer_within : (t base : Term) (l : Layer) → Within P t → Within P base → Within P (start_pointer t base l).term
+      start_pointer_within t base (Term-F.Plain b) w v = v
+      start_pointer_within t base (Term-F.Named n) w v = v
+      start_pointer_within t base (Term-F.Pointer b) w v = w
+      start_pointer_within t base (Term-F.Slice b) w v = v
+      start_pointer_within t base (Term-F.Array k b) w v = v
+      start_pointer_within t base (Term-F.Map k b) w v = v
+      start_pointer_within t base (Term-F.Chan d b) w v = v
+      start_pointer_within t base (Term-F.Func g) w v = v
+      start_pointer_within t base (Term-F.Struct fs) w v = v
+      start_pointer_within t base (Term-F.Interface ms) w v = w
+
+      start_named_within : (t : Term) (l : Layer) → Within P t → under A t ≡ l → Within P (start_named t l).term
+      start_named_within t (Term-F.Plain b) w e = w
+      start_named_within t (Term-F.Named n) w e = w
+      start_named_within t (Term-F.Pointer b) w e = λ n h. under_within t (Term-F.Pointer b) e w n (base_names b n h)
+      start_named_within t (Term-F.Slice b) w e = w
+      start_named_within t (Term-F.Array k b) w e = w
+      start_named_within t (Term-F.Map k b) w e = w
+      start_named_within t (Term-F.Chan d b) w e = w
+      start_named_within t (Term-F.Func g) w e = w
+      start_named_within t (Term-F.Struct fs) w e = w
+      start_named_within t (Term-F.Interface ms) w e = w
+
+      start_within : (t : Term) → Within P t → Within P (start A t).term
+      start_within t w = by (out-Term t) refl
+        where
+        by : (l : Layer) → out-Term t ≡ l → Within P (start_layer A t l).term
+        by (Term-F.Plain b) e = w
+        by (Term-F.Named n) e = start_named_within t (under A t) w refl
+        by (Term-F.Pointer b) e = start_pointer_within t b (under A b) w (λ n h. rolled t (Term-F.Pointer b) e w n (base_names b n h))
+        by (Term-F.Slice b) e = w
+        by (Term-F.Array k b) e = w
+        by (Term-F.Map k b) e = w
+        by (Term-F.Chan d b) e = w
+        by (Term-F.Func g) e = w
+        by (Term-F.Struct fs) e = w
+        by (Term-F.Interface ms) e = w
+
+      reach_same : (s : Sel) (t : Term) → Within P t → (k : ℕ) → ends A s k (start A t) ≡ ends B s k (start B t)
+      reach_same s t w k = ends_same s k (start A t) (start_within t w) ∙ ap (ends B s k) (start_same t w)
+
+      only_over : (s : Sel) (t : Term) (d : ℕ) (e : Ending) → Within P t → IsOnly A s t d e → IsOnly B s t d e
+      only_over s t d e w o = record { none = λ k h. sym (reach_same s t w k) ∙ o.none k h; only = sym (reach_same s t w d) ∙ o.only }
+
+      pointer_over : (t : Term) (b : Bool) → Within P t → is_defined_pointer A t ≡ b → is_defined_pointer B t ≡ b
+      pointer_over t b w e = ap (is_defined_layer (out-Term t)) (sym (under_same t w)) ∙ e
+
+      pub finds_over : (s : Sel) (t : Term) (r : Found) → Within P t → Finds A s t r → Finds B s t r
+      finds_over s t (found.FieldAt f) w a = (a.0, only_over s t a.0 _ w a.1, a.2)
+      finds_over s t (found.MethodAt m) w a = (a.0, only_over s t a.0 _ w a.1, a.2, pointer_over t false w a.3)
+      finds_over s t found.Ambiguous w a = (a.0, λ k h. sym (reach_same s t w k) ∙ a.1 k h, subst (λ (es : List Ending). 2 ≤ length es) (reach_same s t w a.0) a.2)
+      finds_over s t found.Nothing w (inl a) = inl (λ k. sym (reach_same s t w k) ∙ a k)
+      finds_over s t found.Nothing w (inr a) = inr (a.0, a.1, a.2, a.3, only_over s t a.0 _ w a.4, pointer_over t true w a.5)
+
+      pub set_over : (t : Term) (s : Sel) (g : Signature) → Within P t → InSet A t s g → InSet B t s g
+      set_over t s g w i = record { depth = i.depth; through = i.through; pointer = i.pointer; only = only_over s t i.depth _ w i.only; counts = pointer_over t false w i.counts; reaches = i.reaches }
+
+      pub implements_over : (t i : Term) → Within P t → Within P i → Implements A t i → Implements B t i
+      implements_over t i w v a = (a.0, sym (under_same i v) ∙ a.1, λ m h. set_over t (out-Method m).sel (out-Method m).signature w (a.2 m h))
+
+      leads_back : (t : Term) → Within P t → LeadsToIncomparable B t → LeadsToIncomparable A t
+      leads_back t w (at_slice e) = at_slice (under_same t w ∙ e)
+      leads_back t w (at_map e) = at_map (under_same t w ∙ e)
+      leads_back t w (at_func e) = at_func (under_same t w ∙ e)
+      leads_back t w (in_array {e = x} {n = k} e l) = in_array (under_same t w ∙ e) (leads_back x (λ n h. under_within t (Term-F.Array k x) (under_same t w ∙ e) w n (element_names k x n h)) l)
+      leads_back t w (in_struct {fs = fs} f e h l) = in_struct f (under_same t w ∙ e) h (leads_back (out-Field f).term (field_within t fs f (under_same t w ∙ e) h w) l)
+
+      pub comparable_over : (t : Term) → Within P t → Comparable A t → Comparable B t
+      comparable_over t w c l = c (leads_back t w l)
+
+  pub agree_back : (A B : Table) → AgreeOn P A B → AgreeOn P B A
+  agree_back A B same n h = sym (same n h)
+
+  pub closed_back : (A B : Table) → AgreeOn P A B → IsClosed P A → IsClosed P B
+  closed_back A B same closed n d h e = closed n d h (same n h ∙ e)

@@ -1,0 +1,12 @@
+pub mod Agree
+pub mod Alternatives
+pub mod Keys
+pub mod Layers
+pub mod Levels
+pub mod Lists
+pub mod MethodLists
+pub mod Once
+pub mod Profile
+pub mod Searching
+pub mod Thin
+pub mod Walks

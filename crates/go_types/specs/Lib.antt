@@ -1,0 +1,5 @@
+pub mod Answers
+pub mod Endings
+pub mod Parts
+pub mod Regions
+pub mod Search

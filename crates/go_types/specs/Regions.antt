@@ -1,0 +1,21 @@
+-- Sets of names that are closed under a table, and the types whose names are in one.
+use Rattle.std.specs.Prelude.{◌≡◌, Bool, true, Option, Some}
+use Rattle.go_model.specs.Lists.{Has}
+use Rattle.go_model.specs.Tables.{Table}
+use Rattle.go_model.specs.Underlying.{entry}
+use Rattle.go_model.specs.TypeNames.{names}
+use Rattle.go_model.specs.declared.types.names.TypeName.{TypeName}
+use Rattle.go_model.specs.declared.types.package.Defined.{Defined}
+use Rattle.go_model.specs.declared.types.term.Term.{Term}
+
+-- each name in the type is in the set
+abbrev pub Within : (TypeName → Bool) → Term → Type 0
+Within P t = (n : TypeName) → Has (names t) n → P n ≡ true
+
+-- what is underneath a name of the set has its names in it
+abbrev pub IsClosed : (TypeName → Bool) → Table → Type 0
+IsClosed P T = (n : TypeName) (d : Defined) → P n ≡ true → entry T n ≡ Some d → Within P d.underlying
+
+-- the tables hold the same for each name of the set
+abbrev pub AgreeOn : (TypeName → Bool) → Table → Table → Type 0
+AgreeOn P A B = (n : TypeName) → P n ≡ true → entry A n ≡ entry B n

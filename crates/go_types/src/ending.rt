@@ -1,0 +1,17 @@
+//! What a path through embedded fields ends in.
+
+use go_model::types::term::{Signature, Term};
+
+/// A field with its type, or a method with whether its receiver is a pointer.
+#[derive(Drop)]
+pub(crate) enum Target<'a> {
+    Field(&'a Term),
+    Method(bool, &'a Signature),
+}
+
+/// A target, and whether the path went through a pointer.
+#[derive(Drop)]
+pub(crate) struct Ending<'a> {
+    pub(crate) through: bool,
+    pub(crate) target: Target<'a>,
+}

@@ -1,0 +1,41 @@
+//! Laws of the relations on types, for the layers above.
+ghost use Rattle.std.specs.Prelude.{◌≡◌, Bool, true, false};
+ghost use Rattle.go_model.specs.Tables.{Table};
+ghost use Rattle.go_model.specs.declared.types.names.Sel.{Sel};
+ghost use Rattle.go_model.specs.declared.types.term.Term.{Term};
+ghost use Rattle.go_model.specs.declared.types.term.Signature.{Signature};
+ghost use Rattle.go_model.specs.declared.types.found.Found.{Found};
+ghost use Rattle.go_model.specs.Selectors.{Finds};
+ghost use Rattle.go_model.specs.MethodSets.{InSet, Implements};
+ghost use Rattle.go_model.specs.Comparison.{Comparable};
+ghost use Rattle.go_types.specs.Regions.{Within, AgreeOn, IsClosed};
+ghost use Rattle.go_model.specs.declared.types.names.TypeName.{TypeName};
+ghost use Rattle.go_model.specs.Assignability.{Assignable};
+ghost use Rattle.go_model.specs.Conversions.{Convertible};
+
+/// A selector finds one thing in a type, with its pointer flag and its depth; the method set has one
+/// method of a selector.
+pub fn one_find()
+    ensures find { (T : Table) (s : Sel) (t : Term) (a b : Found) → Finds T s t a → Finds T s t b → a ≡ b }
+    ensures signature { (T : Table) (t : Term) (s : Sel) (g h : Signature) → InSet T t s g → InSet T t s h → g ≡ h }
+{
+}
+
+/// What is permitted in a client of the profile is permitted elsewhere.
+pub fn profile_permits_less()
+    ensures assignable { (T : Table) (from to : Term) → Assignable T true from to → Assignable T false from to }
+    ensures convertible { (T : Table) (from to : Term) → Convertible T true from to → Convertible T false from to }
+{
+}
+
+/// Two tables that agree on a set of names which is closed under them give the same answers for the
+/// types whose names are in it.
+pub fn agreeing_tables()
+    ensures find { (P : TypeName → Bool) (A B : Table) → AgreeOn P A B → IsClosed P A → (s : Sel) (t : Term) (r : Found) → Within P t → Finds A s t r → Finds B s t r }
+    ensures method_set { (P : TypeName → Bool) (A B : Table) → AgreeOn P A B → IsClosed P A → (t : Term) (s : Sel) (g : Signature) → Within P t → InSet A t s g → InSet B t s g }
+    ensures implements { (P : TypeName → Bool) (A B : Table) → AgreeOn P A B → IsClosed P A → (t interface : Term) → Within P t → Within P interface → Implements A t interface → Implements B t interface }
+    ensures comparable { (P : TypeName → Bool) (A B : Table) → AgreeOn P A B → IsClosed P A → (t : Term) → Within P t → Comparable A t → Comparable B t }
+    ensures back { (P : TypeName → Bool) (A B : Table) → AgreeOn P A B → AgreeOn P B A }
+    ensures closed { (P : TypeName → Bool) (A B : Table) → AgreeOn P A B → IsClosed P A → IsClosed P B }
+{
+}

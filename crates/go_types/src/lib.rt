@@ -1,0 +1,20 @@
+//! Relations on types: identity, selectors, method sets, and which types implement an interface,
+//! can be compared, assigned and converted.
+#![tactic(auto)]
+
+pub mod assignable;
+pub mod comparable;
+pub mod convertible;
+mod ending;
+mod find;
+pub mod identical;
+pub mod implements;
+mod kinds;
+pub mod laws;
+mod lookup;
+mod met;
+mod part;
+mod parts;
+mod place;
+mod steps;
+mod untagged;

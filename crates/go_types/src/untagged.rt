@@ -1,0 +1,88 @@
+//! Types without the tags of their fields.
+ghost use Rattle.std.specs.Prelude.{◌≡◌, map, IfOk};
+ghost use Rattle.go_model.specs.Tags.{untagged, untagged_field, untagged_method, untagged_signature};
+
+use go_model::boxed::Box;
+use go_model::list::List;
+use go_model::memory::NoMemory;
+use go_model::text::Text;
+use go_model::types::term::{Field, Method, Signature, Term};
+use std::alloc::Global;
+
+/// A type without tags.
+#[cycle(untagged)]
+pub(crate) fn untagged(alloc: Global, term: &Term) -> Result<Term, NoMemory>
+    ensures { IfOk result (λ bare. bare ≡ untagged term.now) }
+{
+    match term {
+        Term::Plain(basic) => Ok(Term::Plain(*basic)),
+        Term::Named(name) => Ok(Term::Named(name.copy(alloc)?)),
+        Term::Pointer(base) => Ok(Term::Pointer(boxed(alloc, base)?)),
+        Term::Slice(element) => Ok(Term::Slice(boxed(alloc, element)?)),
+        Term::Array(length, element) => Ok(Term::Array(*length, boxed(alloc, element)?)),
+        Term::Map(key, element) => Ok(Term::Map(boxed(alloc, key)?, boxed(alloc, element)?)),
+        Term::Chan(direction, element) => Ok(Term::Chan(*direction, boxed(alloc, element)?)),
+        Term::Func(signature) => Ok(Term::Func(of_signature(alloc, signature)?)),
+        Term::Struct(fields) => Ok(Term::Struct(of_fields(alloc, fields.items())?)),
+        Term::Interface(methods) => Ok(Term::Interface(of_methods(alloc, methods.items())?)),
+    }
+}
+
+#[cycle(untagged)]
+fn boxed(alloc: Global, term: &Box<Term>) -> Result<Box<Term>, NoMemory>
+    ensures { IfOk result (λ bare. bare ≡ untagged term.now) }
+{
+    Box::new(alloc, untagged(alloc, term.value())?)
+}
+
+#[cycle(untagged)]
+fn of_signature(alloc: Global, signature: &Signature) -> Result<Signature, NoMemory>
+    ensures { IfOk result (λ bare. bare ≡ untagged_signature signature.now) }
+{
+    Ok(Signature {
+        params: of_terms(alloc, signature.params.items())?,
+        variadic: signature.variadic,
+        results: of_terms(alloc, signature.results.items())?,
+    })
+}
+
+#[cycle(untagged)]
+fn of_terms(alloc: Global, terms: &[Term]) -> Result<List<Term>, NoMemory>
+    ensures { IfOk result (λ bare. bare ≡ map untagged terms.now) }
+{
+    let mut bare = List::new(alloc);
+    for term in terms {
+        bare.push(untagged(alloc, term)?)?;
+    }
+    Ok(bare)
+}
+
+#[cycle(untagged)]
+fn of_fields(alloc: Global, fields: &[Field]) -> Result<List<Field>, NoMemory>
+    ensures { IfOk result (λ bare. bare ≡ map untagged_field fields.now) }
+{
+    let mut bare = List::new(alloc);
+    for field in fields {
+        bare.push(Field {
+            sel: field.sel.copy(alloc)?,
+            embedded: field.embedded,
+            term: untagged(alloc, &field.term)?,
+            tag: Text::of(alloc, b"")?,
+        })?;
+    }
+    Ok(bare)
+}
+
+#[cycle(untagged)]
+fn of_methods(alloc: Global, methods: &[Method]) -> Result<List<Method>, NoMemory>
+    ensures { IfOk result (λ bare. bare ≡ map untagged_method methods.now) }
+{
+    let mut bare = List::new(alloc);
+    for method in methods {
+        bare.push(Method {
+            sel: method.sel.copy(alloc)?,
+            signature: of_signature(alloc, &method.signature)?,
+        })?;
+    }
+    Ok(bare)
+}
