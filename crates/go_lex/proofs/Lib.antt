@@ -1,7 +1,4 @@
-pub mod Cuts
-pub mod Digits
-pub mod KeywordParts
-pub mod Longest
-pub mod Scanned
-pub mod Starts
-pub mod Values
+pub mod DigitRuns
+pub mod NumberClaims
+pub mod Numbers
+pub mod Parts

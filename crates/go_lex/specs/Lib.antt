@@ -1,3 +1,3 @@
-pub mod Causes
-pub mod Fronts
-pub mod Keywords
+pub mod Digits
+pub mod NumberLengths
+pub mod Starts

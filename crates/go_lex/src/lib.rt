@@ -1,7 +1,7 @@
 //! The scanner of Go source: the tokens of a file, with inserted semicolons.
 #![tactic(auto)]
 
-pub mod error;
-mod keyword;
+mod bytes;
+mod digits;
+mod front;
 mod number;
-pub mod scan;

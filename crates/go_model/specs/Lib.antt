@@ -5,9 +5,12 @@ pub mod Characters
 pub mod Headers
 pub mod Lexemes
 pub mod Lists
+pub mod Numbers
 pub mod Outline
 pub mod Platforms
+pub mod Quotes
 pub mod Terminals
 pub mod Tokens
 pub mod Trees
+pub mod Words
 pub mod formers

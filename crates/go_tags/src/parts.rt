@@ -3,7 +3,7 @@ ghost use Rattle.std.specs.Prelude.{◌≡◌, ◌≢◌, ◌<◌, ◌≤◌, le
 ghost use Rattle.go_model.specs.BuildConstraints.{AreParts};
 ghost use Rattle.go_tags.specs.Parts.{is_next, sign_at, onto, BeginsStep, PartsCause};
 
-use crate::characters::{Alphabet, run_len};
+use go_text::characters::{Alphabet, run_len};
 use crate::error::TagError;
 use go_model::build::ConstraintPart;
 use go_model::list::List;
