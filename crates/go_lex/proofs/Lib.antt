@@ -1,4 +1,5 @@
 pub mod DigitRuns
 pub mod NumberClaims
 pub mod Numbers
+pub mod NumberStands
 pub mod Parts

@@ -137,15 +137,15 @@ prefix_alone (a ∷ bs) base e =
     ]
     refl
 
-number_plain : (bytes : List ℕ) → behind_of (prefix_of bytes) (drop 2 bytes) ≡ None → number_at bytes ≡ decimal_number bytes
+pub number_plain : (bytes : List ℕ) → behind_of (prefix_of bytes) (drop 2 bytes) ≡ None → number_at bytes ≡ decimal_number bytes
 unfolding number_at
 number_plain bytes e = ap (λ (o : Option Number). or_plain o (decimal_number bytes)) e
 
-number_prefixed : (bytes : List ℕ) (n : Number) → behind_of (prefix_of bytes) (drop 2 bytes) ≡ Some n → number_at bytes ≡ record { kind = n.kind; len = 2 + n.len }
+pub number_prefixed : (bytes : List ℕ) (n : Number) → behind_of (prefix_of bytes) (drop 2 bytes) ≡ Some n → number_at bytes ≡ record { kind = n.kind; len = 2 + n.len }
 unfolding number_at
 number_prefixed bytes n e = ap (λ (o : Option Number). or_plain o (decimal_number bytes)) e
 
-some_base : (o : Option ℕ) (bs : List ℕ) (n : Number) → behind_of o bs ≡ Some n → (base : ℕ) × (o ≡ Some base)
+pub some_base : (o : Option ℕ) (bs : List ℕ) (n : Number) → behind_of o bs ≡ Some n → (base : ℕ) × (o ≡ Some base)
 some_base None bs n e = absurd (cc)
 some_base (Some base) bs n e = (base, refl)
 

@@ -1,5 +1,5 @@
 -- The parts of a number literal behind its digits.
-use Rattle.std.proofs.Common.{◌≡◌, ◌⊎◌, inl, inr, ℕ, zero, suc, ◌+◌, ◌-◌, ◌<◌, ◌≤◌, Bool, true, false, ◌||◌, ◌&&◌, ◌==◌, List, [], ◌∷◌, ◌++◌, length, take, drop, refl, sym, ap, ◌∙◌, subst, arith, length-append, append_assoc}
+use Rattle.std.proofs.Common.{◌≡◌, ◌⊎◌, inl, inr, ℕ, zero, suc, ◌+◌, ◌-◌, ◌<◌, ◌≤◌, Bool, true, false, ◌||◌, ◌&&◌, ◌==◌, List, [], ◌∷◌, ◌++◌, length, take, drop, refl, sym, ap, ◌∙◌, subst, arith, length-append, length-drop, append_assoc}
 use Rattle.std.proofs.lemmas.Bool.Decides.{nat_tests}
 use Rattle.std.proofs.lemmas.List.{drop_at, append-nil}
 use Rattle.go_model.specs.Numbers.{is_digit_of, is_e, is_p, is_sign, AreDigits, one_digit, digit_more, digit_apart, Optional, IsExponent, plain_exponent, signed_exponent}
@@ -125,7 +125,34 @@ exponent_stand base (m ∷ bs) some =
     ]
     refl
 
+with_bound : (n d : ℕ) → with_digits n d ≤ n + d
+with_bound n d = grind (arith, nat_tests)
+
+sign_within : (bs : List ℕ) → sign_len bs ≤ length bs
+sign_within [] = omega arith
+sign_within (b ∷ bs) = elim (is_sign b) as (λ t. is_sign b ≡ t → sign_len (b ∷ bs) ≤ length (b ∷ bs)) [ true ↦ (λ h. rw h (omega arith)) | false ↦ (λ h. rw h (omega arith)) ] refl
+
+pub exponent_within : (base : ℕ) (bytes : List ℕ) → exponent_len base bytes ≤ length bytes
+exponent_within base [] = omega (arith, exponent_none base)
+exponent_within base (m ∷ bs) =
+    elim (is_mark base m) as (λ t. is_mark base m ≡ t → exponent_len base (m ∷ bs) ≤ length (m ∷ bs)) [
+      true ↦ (λ h.
+        omega (
+          arith,
+          exponent_step base m bs h,
+          with_bound (1 + sign_len bs) (digits_len 10 (drop (sign_len bs) bs)),
+          digits_within 10 (drop (sign_len bs) bs),
+          length-drop (sign_len bs) bs,
+          sign_within bs,
+        ))
+    | false ↦ (λ h. omega (arith, exponent_stop base m bs h))
+    ]
+    refl
+
 -- fractions
+pub is_point : (b : ℕ) → (b == 46) ≡ true → b ≡ 46
+is_point b h = grind (arith, nat_tests)
+
 pub fraction_point : (base : ℕ) (bs : List ℕ) → fraction_len base (46 ∷ bs) ≡ suc (digits_len base bs)
 unfolding fraction_len
 fraction_point base bs = omega arith

@@ -1,3 +1,4 @@
 pub mod Digits
 pub mod NumberLengths
+pub mod Operators
 pub mod Starts

@@ -5,3 +5,4 @@ mod bytes;
 mod digits;
 mod front;
 mod number;
+mod operator;
