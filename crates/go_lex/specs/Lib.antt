@@ -1,3 +1,4 @@
+pub mod CharacterFronts
 pub mod Digits
 pub mod NumberLengths
 pub mod Operators

@@ -6,3 +6,4 @@ mod digits;
 mod front;
 mod number;
 mod operator;
+mod quote;

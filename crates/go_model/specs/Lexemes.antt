@@ -9,8 +9,9 @@ use Rattle.std.specs.Char.{IsScalar, encode_utf8}
 use Rattle.go_model.specs.Characters.{is_letter, is_name_character, IsRun}
 use Rattle.go_model.specs.Headers.{starts_with, comment_len, is_text, without_mark}
 use Rattle.go_model.specs.Numbers.{IsInteger, IsFloat, IsMultiple, integer_value}
-use Rattle.go_model.specs.Quotes.{Meaning, meaning_number, IsCharacter, AreCharacters, raw_bytes}
+use Rattle.go_model.specs.Quotes.{meaning_number, IsCharacter, AreCharacters, raw_bytes}
 use Rattle.go_model.specs.Words.{kind_in, operators, name_kind}
+use Rattle.go_model.specs.declared.token.Meaning.{Meaning}
 use Rattle.go_model.specs.declared.token.TokenKind.{TokenKind}
 use Rattle.go_model.specs.declared.token.TokenKind.TheVariants as token
 use Rattle.go_model.specs.declared.token.TokenValue.{TokenValue}

@@ -5,11 +5,8 @@ use Rattle.std.specs.List.{filter}
 use Rattle.std.specs.Char.{IsScalar, encode_utf8}
 use Rattle.go_model.specs.Lists.{Passes}
 use Rattle.go_model.specs.Numbers.{is_digit_of, value_from}
-
--- what a character or an escape of a literal stands for
-pub data Meaning : Type 0 where
-  Character : ℕ → Meaning
-  Byte : ℕ → Meaning
+use Rattle.go_model.specs.declared.token.Meaning.{Meaning}
+use Rattle.go_model.specs.declared.token.Meaning.TheVariants.{Character, Byte}
 
 -- the number of a meaning
 abbrev pub meaning_number : Meaning → ℕ

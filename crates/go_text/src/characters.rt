@@ -57,7 +57,18 @@ fn valid_front(bytes: &[u8]) -> &str
 }
 
 /// The character that the bytes begin with.
-fn first_char(bytes: &[u8]) -> Option<char>
+pub fn first_char(bytes: &[u8]) -> Option<char>
+    ensures some { IfSome result (λ c. (bytes.now ≡ encode_utf8 c ++ drop (len_utf8 c) bytes.now) × IsScalar c) }
+    ensures none { IsNone result → StartsWithNoChar bytes.now }
+{
+    match bytes.first() {
+        Some(b) if *b < 128 => Some(*b as char),
+        _ => any_first_char(bytes),
+    }
+}
+
+/// The same, with no shorter way for ASCII.
+fn any_first_char(bytes: &[u8]) -> Option<char>
     ensures some { IfSome result (λ c. (bytes.now ≡ encode_utf8 c ++ drop (len_utf8 c) bytes.now) × IsScalar c) }
     ensures none { IsNone result → StartsWithNoChar bytes.now }
 {

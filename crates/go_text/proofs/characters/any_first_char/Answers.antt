@@ -2,7 +2,7 @@ use Rattle.std.proofs.Common.{◌≡◌, ◌++◌, ℕ, List, Option, Some, None
 use Rattle.std.specs.Prelude.{IsUtf8, MatchOption}
 use Rattle.std.specs.Char.{IsScalar, encode_utf8, len_utf8}
 use Rattle.go_text.proofs.Runs.{known_char, known_scalar, front_of, no_char}
-use Rattle.go_text.proofs.characters.first_char.Goals as goal
+use Rattle.go_text.proofs.characters.any_first_char.Goals as goal
 
 some_char : {S : Type 0} (r : Option ℕ) (bytes text rest : List ℕ) (Ends : Type 0) (left : S → List ℕ) (new : S) → (behind : List ℕ) → bytes ≡ text ++ behind → IsUtf8 text → rest ≡ text
     → MatchOption r Ends (λ c. rest ≡ encode_utf8 c ++ left new) → IfSome r (λ c. (bytes ≡ encode_utf8 c ++ drop (len_utf8 c) bytes) × IsScalar c)
