@@ -1,8 +1,14 @@
+pub mod Ascii
 pub mod Counted
 pub mod DigitRuns
 pub mod EscapeFronts
 pub mod Escapes
+pub mod KeywordParts
+pub mod Literals
+pub mod NameRuns
 pub mod NumberClaims
-pub mod Numbers
 pub mod NumberStands
+pub mod Numbers
+pub mod OperatorRows
 pub mod Parts
+pub mod StringValues

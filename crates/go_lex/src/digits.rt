@@ -24,7 +24,7 @@ pub fn is_digit_of(base: u32, b: u8) -> bool
     digit_value(b) < base
 }
 
-fn begins_digit(base: u32, bytes: &[u8]) -> bool
+pub fn begins_digit(base: u32, bytes: &[u8]) -> bool
     ensures { result ≡ begins_digit base bytes.now }
 {
     match bytes.first() {

@@ -4,6 +4,11 @@
 mod bytes;
 mod digits;
 mod front;
+pub mod error;
+mod keyword;
+mod literal;
+mod name;
 mod number;
 mod operator;
 mod quote;
+mod value;

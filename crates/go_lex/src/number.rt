@@ -100,8 +100,9 @@ fn imaginary_len(bytes: &[u8]) -> usize
     }
 }
 
-fn base_of(b: u8) -> Option<u32>
-    ensures { result ≡ base_of b }
+pub fn base_of(b: u8) -> Option<u32>
+    ensures value { result ≡ base_of b }
+    ensures some { IfSome result (λ base. 1 ≤ base) }
 {
     match b {
         b'x' | b'X' => Some(16),

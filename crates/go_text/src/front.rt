@@ -38,7 +38,8 @@ fn has_no_nul(bytes: &[u8]) -> bool
     bytes.iter().all(|b| *b != 0)
 }
 
-fn text_len(bytes: &[u8], len: usize) -> Option<usize>
+/// So many bytes, where they are UTF-8 without NUL.
+pub fn text_len(bytes: &[u8], len: usize) -> Option<usize>
     requires { len ≤ length bytes.now }
     ensures value { result ≡ text_len bytes.now (Some len) }
     ensures same { IfSome result (λ n. n ≡ len) }
@@ -51,8 +52,9 @@ fn text_len(bytes: &[u8], len: usize) -> Option<usize>
     }
 }
 
+/// The length of the comment that the bytes begin with.
 #[tactic(auto, unfolding(go_model::specs::Headers::comment_len))]
-fn comment_len(bytes: &[u8]) -> Option<usize>
+pub fn comment_len(bytes: &[u8]) -> Option<usize>
     ensures len { result ≡ comment_len bytes.now }
     ensures within { IfSome result (λ n. (0 < n) × (n ≤ length bytes.now)) }
 {
