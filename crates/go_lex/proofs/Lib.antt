@@ -1,10 +1,12 @@
 pub mod Ascii
+pub mod Classes
 pub mod Counted
 pub mod DigitRuns
 pub mod EscapeFronts
 pub mod Escapes
 pub mod KeywordParts
 pub mod Literals
+pub mod Longest
 pub mod NameRuns
 pub mod NumberClaims
 pub mod NumberStands
