@@ -250,3 +250,7 @@ pub no_operator : (bytes : List ℕ) → start_of bytes ≡ Sign → operator_at
 no_operator bytes e none =
     none_by bytes Sign e (λ no'. absurd (cc))
     (λ k v text more c joined. let claim = operator_claim text more c.0 c.1 in absurd (let here : ◌≡◌ {A = Option Operator} (Some claim.0) None = sym claim.1 ∙ ap operator_at (sym joined) ∙ none in cc))
+
+-- a front that a function has made
+pub front_as : (bytes : List ℕ) (f g : Front) → f ≡ g → IsFront bytes g.kind g.len → IsFront bytes f.kind f.len
+front_as bytes f g e h = subst (λ (x : Front). IsFront bytes x.kind x.len) (sym e) h
