@@ -89,8 +89,8 @@ unfolding start_of
 number_starts [] h = absurd (cc)
 number_starts (b ∷ bs) h =
     elim (or_cases (is_digit_of 10 b) (b == 46 && begins_digit 10 bs) h) [
-      inl d ↦ digit_starts b bs d
-    | inr p ↦ (let q = both (b == 46) (begins_digit 10 bs) p in subst (λ (c : ℕ). start_of_byte c bs ≡ Number) (sym (byte_is b 46 q.0)) (rw q.1 refl))
+      | inl d ↦ digit_starts b bs d
+      | inr p ↦ (let q = both (b == 46) (begins_digit 10 bs) p in subst (λ (c : ℕ). start_of_byte c bs ≡ Number) (sym (byte_is b 46 q.0)) (rw q.1 refl))
     ]
 
 blank_starts : (b : ℕ) (bs : List ℕ) → is_blank b ≡ true → start_of (b ∷ bs) ≡ Blank
@@ -151,11 +151,11 @@ letter_starts b bs h =
 name_byte : (c b : ℕ) (bs rest : List ℕ) → is_letter c ≡ true → b ∷ bs ≡ encode_utf8 c ++ rest → is_name_start b ≡ true
 name_byte c b bs rest l e =
     elim (nat_lt b 128) as (λ t. nat_lt b 128 ≡ t → is_name_start b ≡ true) [
-      true ↦ (λ h.
-        let small : b < 128 = below_of b 128 h in
-        let same : c ≡ b = char_from_byte (b ∷ bs) rest c e small (omega arith) in
-        ascii_letter b small (ap is_letter (sym same) ∙ l))
-    | false ↦ (λ h. wide b (above_of b 128 h))
+      | true ↦ (λ h.
+          let small : b < 128 = below_of b 128 h in
+          let same : c ≡ b = char_from_byte (b ∷ bs) rest c e small (omega arith) in
+          ascii_letter b small (ap is_letter (sym same) ∙ l))
+      | false ↦ (λ h. wide b (above_of b 128 h))
     ]
     refl
 
@@ -168,7 +168,7 @@ abbrev pub Class : Start → List ℕ → LexemeKind → TokenValue → List ℕ
 Class Blank bytes k v text = (length text ≡ 1) × (k ≡ lexeme.Blank) × (v ≡ value.Nothing)
 Class Newline bytes k v text = (length text ≡ 1) × (k ≡ lexeme.Newline) × (v ≡ value.Nothing)
 Class Comment bytes k v text = ⊥
-Class Number bytes k v text = ((kind : TokenKind) × IsNumber kind text × (k ≡ lexeme.Token kind) × (v ≡ plain_value kind text)) ⊎ ((text ≡ 46 ∷ []) × (begins_digit 10 (drop 1 bytes) ≡ true))
+Class Number bytes k v text = ((kind : TokenKind) × IsNumber kind text × (k ≡ lexeme.Token kind) × (v ≡ plain_value kind text)) ⊎ ((text ≡ 46 ∷ []) × (kind : TokenKind) × (kind_in operators text ≡ Some kind) × (k ≡ lexeme.Token kind) × (v ≡ plain_value kind text))
 Class Rune bytes k v text = (inner : List ℕ) × (m : Meaning) × IsCharacter 39 inner m × (text ≡ quoted 39 inner) × (k ≡ lexeme.Token token.RuneLit) × (v ≡ value.Rune (meaning_number m))
 Class Quoted bytes k v text = (inner : List ℕ) × (out : List ℕ) × AreCharacters 34 inner out × (text ≡ quoted 34 inner) × (k ≡ lexeme.Token token.StrLit) × (v ≡ value.Str out)
 Class Raw bytes k v text =
@@ -233,8 +233,8 @@ different a b h = grind (arith, nat_tests)
 swap : (a b : ℕ) → (a == b) ≡ (b == a)
 swap a b =
     elim (a == b) as (λ t. (a == b) ≡ t → t ≡ (b == a)) [
-      true ↦ (λ h. sym (equal b a (sym (byte_is a b h))))
-    | false ↦ (λ h. sym (different a b h))
+      | true ↦ (λ h. sym (equal b a (sym (byte_is a b h))))
+      | false ↦ (λ h. sym (different a b h))
     ]
     refl
 
@@ -261,8 +261,8 @@ unfolding none_or_point
 no_point_digit b [] more h some = absurd (some refl)
 no_point_digit b (c ∷ cs) more h some =
     elim (b == 46) as (λ t. (b == 46) ≡ t → (b == 46 && begins_digit 10 ((c ∷ cs) ++ more)) ≡ false) [
-      true ↦ (λ e. let point : (c == 46) ≡ true = rw e at h in rw e (subst (λ (x : ℕ). is_digit_of 10 x ≡ false) (sym (byte_is c 46 point)) refl))
-    | false ↦ (λ e. rw e refl)
+      | true ↦ (λ e. let point : (c == 46) ≡ true = rw e at h in rw e (subst (λ (x : ℕ). is_digit_of 10 x ≡ false) (sym (byte_is c 46 point)) refl))
+      | false ↦ (λ e. rw e refl)
     ]
     refl
 
@@ -273,8 +273,8 @@ operator_begins [] more h o = absurd (cc)
 operator_begins (b ∷ []) more h o =
     let parts = both (is_sign_byte b) _ h in
     elim (b == 46 && begins_digit 10 more) as (λ t. (b == 46 && begins_digit 10 more) ≡ t → (start_of (b ∷ more) ≡ Sign) ⊎ ((b ∷ [] ≡ 46 ∷ []) × (begins_digit 10 more ≡ true))) [
-      true ↦ (λ e. let p = both (b == 46) (begins_digit 10 more) e in inr (ap (λ (x : ℕ). x ∷ []) (byte_is b 46 p.0), p.1))
-    | false ↦ (λ e. inl (sign_starts b more parts.0 (slash_alone b more o) e))
+      | true ↦ (λ e. let p = both (b == 46) (begins_digit 10 more) e in inr (ap (λ (x : ℕ). x ∷ []) (byte_is b 46 p.0), p.1))
+      | false ↦ (λ e. inl (sign_starts b more parts.0 (slash_alone b more o) e))
     ]
     refl
 operator_begins (b ∷ (c ∷ cs)) more h o =
@@ -284,11 +284,10 @@ operator_begins (b ∷ (c ∷ cs)) more h o =
 operator_class : (kind : TokenKind) (text more : List ℕ) → kind_in operators text ≡ Some kind → opens_comment (text ++ more) ≡ false → Class (start_of (text ++ more)) (text ++ more) (lexeme.Token kind) (plain_value kind text) text
 operator_class kind text more e o =
     elim (operator_begins text more (in_table sign_text operators text kind sign_rows e) o) [
-      inl s ↦ in_class Sign (text ++ more) text (lexeme.Token kind) (plain_value kind text) s (kind, e, refl, refl)
-    | inr p ↦
-        (let digit : begins_digit 10 (drop 1 (text ++ more)) ≡ true = ap (λ (xs : List ℕ). begins_digit 10 (drop 1 (xs ++ more))) p.0 ∙ p.1 in
-        let begins : begins_number (text ++ more) ≡ true = ap (λ (xs : List ℕ). begins_number (xs ++ more)) p.0 ∙ p.1 in
-        in_class Number (text ++ more) text (lexeme.Token kind) (plain_value kind text) (number_starts (text ++ more) begins) (inr (p.0, digit)))
+      | inl s ↦ in_class Sign (text ++ more) text (lexeme.Token kind) (plain_value kind text) s (kind, e, refl, refl)
+      | inr p ↦
+          (let begins : begins_number (text ++ more) ≡ true = ap (λ (xs : List ℕ). begins_number (xs ++ more)) p.0 ∙ p.1 in
+          in_class Number (text ++ more) text (lexeme.Token kind) (plain_value kind text) (number_starts (text ++ more) begins) (inr (p.0, kind, e, refl, refl)))
     ]
 
 -- a lexeme that is no comment is of the class of the bytes that it begins

@@ -99,16 +99,16 @@ pub more_within : (base : ℕ) (bytes : List ℕ) → more_len base bytes ≤ le
 more_within base [] = omega (arith, more_stop base [] refl)
 more_within base (b ∷ bs) =
     elim (goes_on base (b ∷ bs)) as (λ t. goes_on base (b ∷ bs) ≡ t → more_len base (b ∷ bs) ≤ suc (length bs)) [
-      true ↦ (λ e. omega (arith, more_step base b bs e, more_within base bs))
-    | false ↦ (λ e. omega (arith, more_stop base (b ∷ bs) e))
+      | true ↦ (λ e. omega (arith, more_step base b bs e, more_within base bs))
+      | false ↦ (λ e. omega (arith, more_stop base (b ∷ bs) e))
     ]
     refl
 
 pub digits_within : (base : ℕ) (bytes : List ℕ) → digits_len base bytes ≤ length bytes
 digits_within base bytes =
     elim (begins_digit base bytes) as (λ t. begins_digit base bytes ≡ t → digits_len base bytes ≤ length bytes) [
-      true ↦ (λ e. omega (arith, digits_are_more base bytes e, more_within base bytes))
-    | false ↦ (λ e. omega (arith, no_digits base bytes e))
+      | true ↦ (λ e. omega (arith, digits_are_more base bytes e, more_within base bytes))
+      | false ↦ (λ e. omega (arith, no_digits base bytes e))
     ]
     refl
 
@@ -132,8 +132,8 @@ taken_other : (base d b : ℕ) (bs : List ℕ) → is_digit_of base b ≡ false 
 taken_other base d b [] other more = taken_stop base d (b ∷ []) (rw other (no_line (b == 95)))
 taken_other base d b (e ∷ es) other more =
     elim (b == 95 && is_digit_of base e) as (λ t. (b == 95 && is_digit_of base e) ≡ t → Taken base d (b ∷ (e ∷ es))) [
-      true ↦ (λ h. let both = and_parts (b == 95) (is_digit_of base e) h in subst (λ (c : ℕ). Taken base d (c ∷ (e ∷ es))) (sym (is_line b both.0)) (taken_line base d e es both.1 (more e es refl)))
-    | false ↦ (λ h. taken_stop base d (b ∷ (e ∷ es)) (rw other h))
+      | true ↦ (λ h. let both = and_parts (b == 95) (is_digit_of base e) h in subst (λ (c : ℕ). Taken base d (c ∷ (e ∷ es))) (sym (is_line b both.0)) (taken_line base d e es both.1 (more e es refl)))
+      | false ↦ (λ h. taken_stop base d (b ∷ (e ∷ es)) (rw other h))
     ]
     refl
 
@@ -141,16 +141,16 @@ pub taken : (base d : ℕ) (bs : List ℕ) → Taken base d bs
 taken base d [] = taken_stop base d [] refl
 taken base d (b ∷ []) =
     elim (is_digit_of base b) as (λ t. is_digit_of base b ≡ t → Taken base d (b ∷ [])) [
-      true ↦ (λ h. taken_digit base d b [] h (taken base b []))
-    | false ↦ (λ h. taken_other base d b [] h (λ e es no. absurd (cc)))
+      | true ↦ (λ h. taken_digit base d b [] h (taken base b []))
+      | false ↦ (λ h. taken_other base d b [] h (λ e es no. absurd (cc)))
     ]
     refl
 taken base d (b ∷ (e ∷ es)) =
     let here : Taken base b (e ∷ es) = taken base b (e ∷ es) in
     let later : Taken base e es = taken base e es in
     elim (is_digit_of base b) as (λ t. is_digit_of base b ≡ t → Taken base d (b ∷ (e ∷ es))) [
-      true ↦ (λ h. taken_digit base d b (e ∷ es) h here)
-    | false ↦ (λ h. taken_other base d b (e ∷ es) h (λ x xs same. let first : e ≡ x = cc in let rest : es ≡ xs = cc in subst (λ (p : ℕ × List ℕ). Taken base p.0 p.1) (λ i. (first i, rest i)) later))
+      | true ↦ (λ h. taken_digit base d b (e ∷ es) h here)
+      | false ↦ (λ h. taken_other base d b (e ∷ es) h (λ x xs same. let first : e ≡ x = cc in let rest : es ≡ xs = cc in subst (λ (p : ℕ × List ℕ). Taken base p.0 p.1) (λ i. (first i, rest i)) later))
     ]
     refl
 
@@ -164,11 +164,11 @@ pub behind_stand : (base : ℕ) (bytes : List ℕ) → goes_on base bytes ≡ tr
 behind_stand base [] h = absurd (cc)
 behind_stand base (b ∷ bs) h =
     elim (is_digit_of base b) as (λ t. is_digit_of base b ≡ t → AreBehind base (take (more_len base (b ∷ bs)) (b ∷ bs))) [
-      true ↦ (λ e. directly (digits_stand base (b ∷ bs) e))
-    | false ↦ (λ e.
-        let both = and_parts (b == 95) (begins_digit base bs) (rw e at h) in
-        subst (λ (n : ℕ). AreBehind base (take n (b ∷ bs))) (sym (more_step base b bs h))
-        (subst (λ (c : ℕ). AreBehind base (c ∷ take (more_len base bs) bs)) (sym (is_line b both.0)) (apart (digits_stand base bs both.1))))
+      | true ↦ (λ e. directly (digits_stand base (b ∷ bs) e))
+      | false ↦ (λ e.
+          let both = and_parts (b == 95) (begins_digit base bs) (rw e at h) in
+          subst (λ (n : ℕ). AreBehind base (take n (b ∷ bs))) (sym (more_step base b bs h))
+          (subst (λ (c : ℕ). AreBehind base (c ∷ take (more_len base bs) bs)) (sym (is_line b both.0)) (apart (digits_stand base bs both.1))))
     ]
     refl
 

@@ -96,10 +96,10 @@ is_byte a b h = grind (arith, nat_tests)
 count_cases : (P : ℕ → ℕ → Type 0) (e count : ℕ) → count_of e ≡ Some count → P 117 4 → P 85 8 → P e count
 count_cases P e count h p q =
     elim (e == 117) as (λ t. (e == 117) ≡ t → P e count) [
-      true ↦ (λ a. let n : 4 ≡ count = some_same 4 count (rw a at h) in subst (λ (x : ℕ × ℕ). P x.0 x.1) (λ i. (sym (is_byte e 117 a) i, n i)) p)
-    | false ↦ (λ a. elim (e == 85) as (λ t. (e == 85) ≡ t → P e count) [
-        true ↦ (λ b. let n : 8 ≡ count = some_same 8 count (rw (a, b) at h) in subst (λ (x : ℕ × ℕ). P x.0 x.1) (λ i. (sym (is_byte e 85 b) i, n i)) q)
-      | false ↦ (λ b. absurd (let none : ◌≡◌ {A = Option ℕ} None (Some count) = rw (a, b) at h in cc))
+      | true ↦ (λ a. let n : 4 ≡ count = some_same 4 count (rw a at h) in subst (λ (x : ℕ × ℕ). P x.0 x.1) (λ i. (sym (is_byte e 117 a) i, n i)) p)
+      | false ↦ (λ a. elim (e == 85) as (λ t. (e == 85) ≡ t → P e count) [
+        | true ↦ (λ b. let n : 8 ≡ count = some_same 8 count (rw (a, b) at h) in subst (λ (x : ℕ × ℕ). P x.0 x.1) (λ i. (sym (is_byte e 85 b) i, n i)) q)
+        | false ↦ (λ b. absurd (let none : ◌≡◌ {A = Option ℕ} None (Some count) = rw (a, b) at h in cc))
       ] refl)
     ]
     refl
@@ -140,20 +140,20 @@ meant quote text more rest m q (octal {ds = ds} c small) e =
     let front = front_counted 8 3 (ds ++ more) ds more c refl in
     subst (λ (xs : List ℕ). Meant (form_of quote xs) xs (92 ∷ ds) (Byte (value_from 8 0 ds))) is
     (subst (λ (f : Form). Meant f (ds ++ more) (92 ∷ ds) (Byte (value_from 8 0 ds))) (sym (octal_here quote ds more q c))
-      (subst (λ (xs : List ℕ). AreCounted 8 3 xs × (92 ∷ ds ≡ 92 ∷ xs) × (Byte (value_from 8 0 ds) ≡ Byte (value_from 8 0 xs)) × (value_from 8 0 xs ≤ 255)) (sym front.0) (c, refl, refl, small)))
+    (subst (λ (xs : List ℕ). AreCounted 8 3 xs × (92 ∷ ds ≡ 92 ∷ xs) × (Byte (value_from 8 0 ds) ≡ Byte (value_from 8 0 xs)) × (value_from 8 0 xs ≤ 255)) (sym front.0) (c, refl, refl, small)))
 meant quote text more rest m q (hexadecimal {ds = ds} c) e =
     let is : 120 ∷ (ds ++ more) ≡ rest = tail_same 92 92 (120 ∷ (ds ++ more)) rest e in
     let front = front_counted 16 2 (ds ++ more) ds more c refl in
     subst (λ (xs : List ℕ). Meant (form_of quote xs) xs (92 ∷ (120 ∷ ds)) (Byte (value_from 16 0 ds))) is
     (subst (λ (f : Form). Meant f (120 ∷ (ds ++ more)) (92 ∷ (120 ∷ ds)) (Byte (value_from 16 0 ds))) (sym (hex_form quote (ds ++ more) q))
-      (subst (λ (xs : List ℕ). AreCounted 16 2 xs × (92 ∷ (120 ∷ ds) ≡ 92 ∷ (120 ∷ xs)) × (Byte (value_from 16 0 ds) ≡ Byte (value_from 16 0 xs)) × (120 ∷ (ds ++ more) ≡ 120 ∷ (ds ++ more))) (sym front.0)
-        (c, refl, refl, refl)))
+    (subst (λ (xs : List ℕ). AreCounted 16 2 xs × (92 ∷ (120 ∷ ds) ≡ 92 ∷ (120 ∷ xs)) × (Byte (value_from 16 0 ds) ≡ Byte (value_from 16 0 xs)) × (120 ∷ (ds ++ more) ≡ 120 ∷ (ds ++ more))) (sym front.0)
+    (c, refl, refl, refl)))
 meant quote text more rest m q (point {e = x} {count = count} {ds = ds} h c scalar) e =
     let is : x ∷ (ds ++ more) ≡ rest = tail_same 92 92 (x ∷ (ds ++ more)) rest e in
     let front = front_counted 16 count (ds ++ more) ds more c refl in
     subst (λ (xs : List ℕ). Meant (form_of quote xs) xs (92 ∷ (x ∷ ds)) (Character (value_from 16 0 ds))) is
     (subst (λ (f : Form). Meant f (x ∷ (ds ++ more)) (92 ∷ (x ∷ ds)) (Character (value_from 16 0 ds))) (sym (point_form quote x count (ds ++ more) q h))
-      (subst (λ (xs : List ℕ). AreCounted 16 count xs × (92 ∷ (x ∷ ds) ≡ 92 ∷ (x ∷ xs)) × (Character (value_from 16 0 ds) ≡ Character (value_from 16 0 xs)) × IsScalar (value_from 16 0 xs)) (sym front.0) (c, refl, refl, scalar)))
+    (subst (λ (xs : List ℕ). AreCounted 16 count xs × (92 ∷ (x ∷ ds) ≡ 92 ∷ (x ∷ xs)) × (Character (value_from 16 0 ds) ≡ Character (value_from 16 0 xs)) × IsScalar (value_from 16 0 xs)) (sym front.0) (c, refl, refl, scalar)))
 
 -- a plain character or an escape
 pub data Split (quote : ℕ) (text : List ℕ) (m : Meaning) : Type 0 where

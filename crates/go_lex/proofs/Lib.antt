@@ -1,6 +1,7 @@
 pub mod Ascii
 pub mod Classes
 pub mod Counted
+pub mod Cuts
 pub mod DigitRuns
 pub mod EscapeFronts
 pub mod Escapes
@@ -11,6 +12,9 @@ pub mod NameRuns
 pub mod NumberClaims
 pub mod NumberStands
 pub mod Numbers
+pub mod OneMeaning
 pub mod OperatorRows
 pub mod Parts
+pub mod Scanned
 pub mod StringValues
+pub mod TokenValues

@@ -69,7 +69,7 @@ same_first q bytes t r m x quote b is e =
     let len : x.len ≡ length t = sym (length_take x.len bytes b.within) ∙ ap length same.0 in
     (same.0, same.1, len, ap (λ (xs : List ℕ). drop x.len xs) e ∙ drop_at t r x.len (sym len))
 
-single : IsQuote 39
+pub single : IsQuote 39
 single = inr refl
 
 pub double : IsQuote 34
@@ -171,8 +171,8 @@ raw_all : (behind : List ℕ) → list_all no_quote (take (prefix_len no_quote b
 raw_all [] = refl
 raw_all (b ∷ bs) =
     elim (no_quote b) as (λ t. no_quote b ≡ t → list_all no_quote (take (prefix_len no_quote (b ∷ bs)) (b ∷ bs)) ≡ true) [
-      true ↦ (λ e. subst (λ (n : ℕ). list_all no_quote (take n (b ∷ bs)) ≡ true) (sym (raw_more b bs e)) (rw e (raw_all bs)))
-    | false ↦ (λ e. let len : prefix_len no_quote (b ∷ bs) ≡ 0 = rw e refl in subst (λ (n : ℕ). list_all no_quote (take n (b ∷ bs)) ≡ true) (sym len) refl)
+      | true ↦ (λ e. subst (λ (n : ℕ). list_all no_quote (take n (b ∷ bs)) ≡ true) (sym (raw_more b bs e)) (rw e (raw_all bs)))
+      | false ↦ (λ e. let len : prefix_len no_quote (b ∷ bs) ≡ 0 = rw e refl in subst (λ (n : ℕ). list_all no_quote (take n (b ∷ bs)) ≡ true) (sym len) refl)
     ]
     refl
 
@@ -180,11 +180,11 @@ raw_quote : (behind : List ℕ) → prefix_len no_quote behind < length behind �
 raw_quote [] h = absurd (omega arith)
 raw_quote (b ∷ bs) h =
     elim (b == 96) as (λ t. (b == 96) ≡ t → begins_byte 96 (drop (prefix_len no_quote (b ∷ bs)) (b ∷ bs)) ≡ true) [
-      true ↦ (λ e. let len : prefix_len no_quote (b ∷ bs) ≡ 0 = rw e refl in subst (λ (n : ℕ). begins_byte 96 (drop n (b ∷ bs)) ≡ true) (sym len) e)
-    | false ↦ (λ e.
-        let passes : no_quote b ≡ true = rw e refl in
-        let len = raw_more b bs passes in
-        subst (λ (n : ℕ). begins_byte 96 (drop n (b ∷ bs)) ≡ true) (sym len) (raw_quote bs (omega arith)))
+      | true ↦ (λ e. let len : prefix_len no_quote (b ∷ bs) ≡ 0 = rw e refl in subst (λ (n : ℕ). begins_byte 96 (drop n (b ∷ bs)) ≡ true) (sym len) e)
+      | false ↦ (λ e.
+          let passes : no_quote b ≡ true = rw e refl in
+          let len = raw_more b bs passes in
+          subst (λ (n : ℕ). begins_byte 96 (drop n (b ∷ bs)) ≡ true) (sym len) (raw_quote bs (omega arith)))
     ]
     refl
 

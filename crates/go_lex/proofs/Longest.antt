@@ -35,10 +35,10 @@ pub comment_opens : (bytes : List ℕ) (n : ℕ) → comment_len bytes ≡ Some 
 unfolding comment_len
 comment_opens bytes n e =
     elim (starts_with (codes "//") bytes) as (λ t. starts_with (codes "//") bytes ≡ t → (t || starts_with (codes "/*") bytes) ≡ true) [
-      true ↦ (λ h. refl)
-    | false ↦ (λ h. elim (starts_with (codes "/*") bytes) as (λ t. starts_with (codes "/*") bytes ≡ t → t ≡ true) [
-        true ↦ (λ g. refl)
-      | false ↦ (λ g. absurd (let none : ◌≡◌ {A = Option ℕ} None (Some n) = rw (h, g) at e in cc))
+      | true ↦ (λ h. refl)
+      | false ↦ (λ h. elim (starts_with (codes "/*") bytes) as (λ t. starts_with (codes "/*") bytes ≡ t → t ≡ true) [
+        | true ↦ (λ g. refl)
+        | false ↦ (λ g. absurd (let none : ◌≡◌ {A = Option ℕ} None (Some n) = rw (h, g) at e in cc))
       ] refl)
     ]
     refl
@@ -54,7 +54,7 @@ class_there bytes s x more e other b =
     let joined = b.joined in
     let here : Class (start_of bytes) bytes x.kind x.value x.text =
     subst (λ (xs : List ℕ). Class (start_of xs) xs x.kind x.value x.text) (sym joined)
-      (classed x.kind x.value x.text more is (subst (λ (xs : List ℕ). opens_comment xs ≡ false) joined closed)) in
+    (classed x.kind x.value x.text more is (subst (λ (xs : List ℕ). opens_comment xs ≡ false) joined closed)) in
     subst (λ (t : Start). Class t bytes x.kind x.value x.text) e here
 
 -- the front of a class that is no comment
@@ -225,7 +225,7 @@ pub name_front : (bytes : List ℕ) (kind : TokenKind) (n : ℕ) → start_of by
 name_front bytes kind n e l is =
     subst (λ (k : TokenKind). IsFront bytes (lexeme.Token k) n) (sym is)
     (front_by bytes Name (lexeme.Token (name_kind (take n bytes))) n e (λ no'. absurd (cc)) l.some l.within (plain_value (name_kind (take n bytes)) (take n bytes), name_lexeme (take n bytes) l.stands) (λ v says. says)
-      (λ k v text more c joined. l.longest text more c.0 joined))
+    (λ k v text more c joined. l.longest text more c.0 joined))
 
 pub no_name : (bytes : List ℕ) → start_of bytes ≡ Name → HasNoName bytes → BeginsNone bytes
 no_name bytes e none = none_by bytes Name e (λ no'. absurd (cc)) (λ k v text more c joined. none text more c.0 joined)

@@ -44,8 +44,8 @@ is_zero (suc n) = inr (omega arith)
 claim_int : (text : List ℕ) (int d t i : ℕ) → length text ≤ d → length text ≤ int → Claim IntLit text (number_of int d t i)
 claim_int text int d t i h g =
     elim (is_zero (t + i)) [
-      inl e ↦ record { bound = omega (arith, len_of_int int d t i e); same = λ _. sym (kind_int t i (omega arith) (omega arith)) }
-    | inr e ↦ record { bound = omega (arith, len_of_some int d t i e); same = λ s. absurd (omega (arith, s, len_of_some int d t i e)) }
+      | inl e ↦ record { bound = omega (arith, len_of_int int d t i e); same = λ _. sym (kind_int t i (omega arith) (omega arith)) }
+      | inr e ↦ record { bound = omega (arith, len_of_some int d t i e); same = λ s. absurd (omega (arith, s, len_of_some int d t i e)) }
     ]
 
 claim_float : (text : List ℕ) (int d t i : ℕ) → length text ≤ d + t → 0 < t → Claim FloatLit text (number_of int d t i)
@@ -83,7 +83,7 @@ float_claim ds ts more o tail =
     let exact = some_exact 10 ds (ts ++ more) o (tail_stops 10 marked_ten ts more tail) in
     rw (append_assoc ds ts more, decimal_behind ds (ts ++ more) exact)
     (claim_float (ds ++ ts) _ (length ds) (both_len 10 (ts ++ more)) _ (omega (arith, length-append ds ts, tail_bound 10 marked_ten ts more tail))
-      (omega (arith, tail_some 10 marked_ten ts tail, tail_bound 10 marked_ten ts more tail)))
+    (omega (arith, tail_some 10 marked_ten ts tail, tail_bound 10 marked_ten ts more tail)))
 
 imaginary_claim : (ds ts more : List ℕ) → digits_len 10 (ds ++ (ts ++ (105 ∷ more))) ≡ length ds → both_len 10 (ts ++ (105 ∷ more)) ≡ length ts
     → Claim ImagLit ((ds ++ ts) ++ (105 ∷ [])) (decimal_number (((ds ++ ts) ++ (105 ∷ [])) ++ more))
@@ -154,8 +154,8 @@ pub prefixed_is : (base : ℕ) (bytes : List ℕ) (g t : ℕ) → more_len base 
 unfolding prefixed_number
 prefixed_is base bytes g t e f some =
     subst (λ (p : ℕ × ℕ). if_digits (more_len base bytes) (tail_len base (more_len base bytes) (drop (more_len base bytes) bytes))
-      (imaginary_len (drop (more_len base bytes + tail_len base (more_len base bytes) (drop (more_len base bytes) bytes)) bytes))
-        ≡ if_digits p.0 p.1 (imaginary_len (drop (p.0 + p.1) bytes)))
+    (imaginary_len (drop (more_len base bytes + tail_len base (more_len base bytes) (drop (more_len base bytes) bytes)) bytes))
+    ≡ if_digits p.0 p.1 (imaginary_len (drop (p.0 + p.1) bytes)))
     (λ i. (e i, (ap (λ (n : ℕ). tail_len base n (drop n bytes)) e ∙ f) i))
     refl
     ∙ if_some g t (imaginary_len (drop (g + t) bytes)) some

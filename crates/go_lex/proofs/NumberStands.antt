@@ -19,8 +19,8 @@ use Rattle.go_lex.proofs.Numbers.{base_cases, number_plain, number_prefixed, som
 some_digits : (base : ℕ) (bs : List ℕ) → Optional (AreDigits base) (take (digits_len base bs) bs)
 some_digits base bs =
     elim (begins_digit base bs) as (λ t. begins_digit base bs ≡ t → Optional (AreDigits base) (take (digits_len base bs) bs)) [
-      true ↦ (λ h. inr (subst (λ (n : ℕ). AreDigits base (take n bs)) (sym (digits_are_more base bs h)) (digits_stand base bs h)))
-    | false ↦ (λ h. inl (ap (λ (n : ℕ). take n bs) (no_digits base bs h)))
+      | true ↦ (λ h. inr (subst (λ (n : ℕ). AreDigits base (take n bs)) (sym (digits_are_more base bs h)) (digits_stand base bs h)))
+      | false ↦ (λ h. inl (ap (λ (n : ℕ). take n bs) (no_digits base bs h)))
     ]
     refl
 
@@ -56,12 +56,12 @@ tail_stand : (base : ℕ) (w : List ℕ) → 0 < both_len base w → IsTail base
 tail_stand base [] some = absurd (omega (arith, empty_both base))
 tail_stand base (b ∷ bs) some =
     elim (b == 46) as (λ t. (b == 46) ≡ t → IsTail base (take (both_len base (b ∷ bs)) (b ∷ bs))) [
-      true ↦ (λ h.
-        subst (λ (c : ℕ). IsTail base (take (both_len base (c ∷ bs)) (c ∷ bs))) (sym (is_point b h))
-        (subst (IsTail base) (sym (point_take base bs)) (fraction_tail (some_digits base bs) (some_exponent base (drop (digits_len base bs) bs)))))
-    | false ↦ (λ h.
-        let e = no_point base b bs h in
-        subst (λ (n : ℕ). IsTail base (take n (b ∷ bs))) (sym e) (exponent_tail (exponent_stand base (b ∷ bs) (omega arith))))
+      | true ↦ (λ h.
+          subst (λ (c : ℕ). IsTail base (take (both_len base (c ∷ bs)) (c ∷ bs))) (sym (is_point b h))
+          (subst (IsTail base) (sym (point_take base bs)) (fraction_tail (some_digits base bs) (some_exponent base (drop (digits_len base bs) bs)))))
+      | false ↦ (λ h.
+          let e = no_point base b bs h in
+          subst (λ (n : ℕ). IsTail base (take n (b ∷ bs))) (sym e) (exponent_tail (exponent_stand base (b ∷ bs) (omega arith))))
     ]
     refl
 
@@ -69,10 +69,10 @@ pub both_within : (base : ℕ) (w : List ℕ) → both_len base w ≤ length w
 both_within base [] = omega (arith, empty_both base)
 both_within base (b ∷ bs) =
     elim (b == 46) as (λ t. (b == 46) ≡ t → both_len base (b ∷ bs) ≤ length (b ∷ bs)) [
-      true ↦ (λ h.
-        subst (λ (c : ℕ). both_len base (c ∷ bs) ≤ length (c ∷ bs)) (sym (is_point b h))
-        (omega (arith, point_len base bs, digits_within base bs, exponent_within base (drop (digits_len base bs) bs), length-drop (digits_len base bs) bs)))
-    | false ↦ (λ h. omega (arith, no_point base b bs h, exponent_within base (b ∷ bs)))
+      | true ↦ (λ h.
+          subst (λ (c : ℕ). both_len base (c ∷ bs) ≤ length (c ∷ bs)) (sym (is_point b h))
+          (omega (arith, point_len base bs, digits_within base bs, exponent_within base (drop (digits_len base bs) bs), length-drop (digits_len base bs) bs)))
+      | false ↦ (λ h. omega (arith, no_point base b bs h, exponent_within base (b ∷ bs)))
     ]
     refl
 
@@ -98,33 +98,33 @@ at_parts : (bytes : List ℕ) (int d t : ℕ) → d + t ≤ length bytes → 0 <
 at_parts bytes int d t within some whole part =
     let i = imaginary_len (drop (d + t) bytes) in
     elim (is_zero i) [
-      inl none ↦ elim (is_zero t) [
-        inl e ↦
-          (let w = whole e in
-          let len = len_of_int int d t i (omega arith) in
-          record {
-            some = omega (arith, w.0, len);
-            within = omega (arith, w.1, len);
-            stands = subst (λ (p : TokenKind × ℕ). IsNumber p.0 (take p.1 bytes)) (λ j. (sym (kind_int t i none e) j, sym len j)) (int_number w.2);
-          })
-      | inr h ↦
-          (let len = len_of_some int d t i (omega arith) in
-          let same : (number_of int d t i).len ≡ d + t = omega arith in
-          record {
-            some = omega arith;
-            within = omega arith;
-            stands = subst (λ (p : TokenKind × ℕ). IsNumber p.0 (take p.1 bytes)) (λ j. (sym (kind_float t i none h) j, sym same j)) (float_number (part h));
-          })
+      | inl none ↦ elim (is_zero t) [
+        | inl e ↦
+            (let w = whole e in
+            let len = len_of_int int d t i (omega arith) in
+            record {
+              some = omega (arith, w.0, len);
+              within = omega (arith, w.1, len);
+              stands = subst (λ (p : TokenKind × ℕ). IsNumber p.0 (take p.1 bytes)) (λ j. (sym (kind_int t i none e) j, sym len j)) (int_number w.2);
+            })
+        | inr h ↦
+            (let len = len_of_some int d t i (omega arith) in
+            let same : (number_of int d t i).len ≡ d + t = omega arith in
+            record {
+              some = omega arith;
+              within = omega arith;
+              stands = subst (λ (p : TokenKind × ℕ). IsNumber p.0 (take p.1 bytes)) (λ j. (sym (kind_float t i none h) j, sym same j)) (float_number (part h));
+            })
       ]
-    | inr more ↦
-        (let len = len_of_some int d t i (omega arith) in
-        let text : take ((number_of int d t i).len) bytes ≡ take (d + t) bytes ++ (105 ∷ []) = ap (λ (n : ℕ). take n bytes) len ∙ take_parts bytes (d + t) more in
-        let multiple : IsMultiple (take (d + t) bytes) = elim (is_zero t) [ inl e ↦ (let sum : d + t ≡ d = omega arith in subst (λ (n : ℕ). IsMultiple (take n bytes)) (sym sum) (whole e).3) | inr h ↦ float_multiple (part h) ] in
-        record {
-          some = omega (arith, len);
-          within = omega (arith, len, imaginary_within (drop (d + t) bytes), length-drop (d + t) bytes);
-          stands = subst (λ (p : TokenKind × List ℕ). IsNumber p.0 p.1) (λ j. (sym (kind_imaginary t i more) j, sym text j)) (imaginary_number multiple);
-        })
+      | inr more ↦
+          (let len = len_of_some int d t i (omega arith) in
+          let text : take ((number_of int d t i).len) bytes ≡ take (d + t) bytes ++ (105 ∷ []) = ap (λ (n : ℕ). take n bytes) len ∙ take_parts bytes (d + t) more in
+          let multiple : IsMultiple (take (d + t) bytes) = elim (is_zero t) [ inl e ↦ (let sum : d + t ≡ d = omega arith in subst (λ (n : ℕ). IsMultiple (take n bytes)) (sym sum) (whole e).3) | inr h ↦ float_multiple (part h) ] in
+          record {
+            some = omega (arith, len);
+            within = omega (arith, len, imaginary_within (drop (d + t) bytes), length-drop (d + t) bytes);
+            stands = subst (λ (p : TokenKind × List ℕ). IsNumber p.0 p.1) (λ j. (sym (kind_imaginary t i more) j, sym text j)) (imaginary_number multiple);
+          })
     ]
 
 -- decimal literals
@@ -147,13 +147,13 @@ is_zero_byte a h = grind (arith, nat_tests)
 integer_stand : (b : ℕ) (bs : List ℕ) → is_digit_of 10 b ≡ true → (0 < integer_len (b ∷ bs)) × (integer_len (b ∷ bs) ≤ length (b ∷ bs)) × IsInteger (take (integer_len (b ∷ bs)) (b ∷ bs))
 integer_stand b bs h =
     elim (b == 48) as (λ t. (b == 48) ≡ t → (0 < integer_len (b ∷ bs)) × (integer_len (b ∷ bs) ≤ length (b ∷ bs)) × IsInteger (take (integer_len (b ∷ bs)) (b ∷ bs))) [
-      true ↦ (λ e.
-        subst (λ (c : ℕ). (0 < integer_len (c ∷ bs)) × (integer_len (c ∷ bs) ≤ length (c ∷ bs)) × IsInteger (take (integer_len (c ∷ bs)) (c ∷ bs))) (sym (is_zero_byte b e))
-        (let len : integer_len (48 ∷ bs) ≡ suc (more_len 8 bs) = zero_len bs in
-        (omega arith, omega (arith, more_within 8 bs), subst (λ (n : ℕ). IsInteger (take n (48 ∷ bs))) (sym len) (octal_integer (taken 8 48 bs refl)))))
-    | false ↦ (λ e.
-        let len : integer_len (b ∷ bs) ≡ suc (more_len 10 bs) = rw e (ten_len b bs h) in
-        (omega arith, omega (arith, more_within 10 bs), subst (λ (n : ℕ). IsInteger (take n (b ∷ bs))) (sym len) (decimal_integer (first_digit b h e) (taken 10 b bs h))))
+      | true ↦ (λ e.
+          subst (λ (c : ℕ). (0 < integer_len (c ∷ bs)) × (integer_len (c ∷ bs) ≤ length (c ∷ bs)) × IsInteger (take (integer_len (c ∷ bs)) (c ∷ bs))) (sym (is_zero_byte b e))
+          (let len : integer_len (48 ∷ bs) ≡ suc (more_len 8 bs) = zero_len bs in
+          (omega arith, omega (arith, more_within 8 bs), subst (λ (n : ℕ). IsInteger (take n (48 ∷ bs))) (sym len) (octal_integer (taken 8 48 bs refl)))))
+      | false ↦ (λ e.
+          let len : integer_len (b ∷ bs) ≡ suc (more_len 10 bs) = rw e (ten_len b bs h) in
+          (omega arith, omega (arith, more_within 10 bs), subst (λ (n : ℕ). IsInteger (take n (b ∷ bs))) (sym len) (decimal_integer (first_digit b h e) (taken 10 b bs h))))
     ]
     refl
 
@@ -168,7 +168,7 @@ decimal_digits_at b bs h =
     let fits : d + t ≤ length bytes = omega (arith, digits_within 10 bytes, both_within 10 w, length-drop d bytes) in
     rw (decimal_is bytes d refl)
     (at_parts bytes (integer_len bytes) d t fits (omega (arith, ten_len b bs h)) (λ e. (int.0, int.1, int.2, digits_multiple digits))
-      (λ some. subst IsFloat (sym (take-add d t bytes)) (float_of (take d bytes) (take t w) digits (tail_stand 10 w some))))
+    (λ some. subst IsFloat (sym (take-add d t bytes)) (float_of (take d bytes) (take t w) digits (tail_stand 10 w some))))
 
 decimal_point_at : (bs : List ℕ) → begins_digit 10 bs ≡ true → IsAt (46 ∷ bs) (decimal_number (46 ∷ bs))
 decimal_point_at bs h =
@@ -194,8 +194,8 @@ decimal_at : (bytes : List ℕ) → begins_number bytes ≡ true → IsAt bytes 
 decimal_at [] h = absurd (cc)
 decimal_at (b ∷ bs) h =
     elim (or_cases (is_digit_of 10 b) (b == 46 && begins_digit 10 bs) h) [
-      inl digit ↦ decimal_digits_at b bs digit
-    | inr both ↦ (let p = and_both (b == 46) (begins_digit 10 bs) both in subst (λ (c : ℕ). IsAt (c ∷ bs) (decimal_number (c ∷ bs))) (sym (is_point b p.0)) (decimal_point_at bs p.1))
+      | inl digit ↦ decimal_digits_at b bs digit
+      | inr both ↦ (let p = and_both (b == 46) (begins_digit 10 bs) both in subst (λ (c : ℕ). IsAt (c ∷ bs) (decimal_number (c ∷ bs))) (sym (is_point b p.0)) (decimal_point_at bs p.1))
     ]
 
 -- literals behind a prefix
@@ -208,18 +208,18 @@ lt_from a b h = grind (arith, nat_tests)
 digits_at : (base : ℕ) (bs : List ℕ) → 0 < digits_len base bs → AreDigits base (take (digits_len base bs) bs)
 digits_at base bs h =
     elim (begins_digit base bs) as (λ t. begins_digit base bs ≡ t → AreDigits base (take (digits_len base bs) bs)) [
-      true ↦ (λ e. subst (λ (n : ℕ). AreDigits base (take n bs)) (sym (digits_are_more base bs e)) (digits_stand base bs e))
-    | false ↦ (λ e. absurd (omega (arith, no_digits base bs e)))
+      | true ↦ (λ e. subst (λ (n : ℕ). AreDigits base (take n bs)) (sym (digits_are_more base bs e)) (digits_stand base bs e))
+      | false ↦ (λ e. absurd (omega (arith, no_digits base bs e)))
     ]
     refl
 
 hex_conditions : (g f e : ℕ) → 0 < joined_len 16 g f e → (0 < e) × ((0 < g) ⊎ (1 < f)) × (joined_len 16 g f e ≡ f + e)
 hex_conditions g f e h =
     elim (nat_lt 0 e && (nat_lt 0 g || nat_lt 1 f)) as (λ t. (nat_lt 0 e && (nat_lt 0 g || nat_lt 1 f)) ≡ t → (0 < e) × ((0 < g) ⊎ (1 < f)) × (joined_len 16 g f e ≡ f + e)) [
-      true ↦ (λ u.
-        let both = and_both (nat_lt 0 e) (nat_lt 0 g || nat_lt 1 f) u in
-        (lt_from 0 e both.0, elim (or_cases (nat_lt 0 g) (nat_lt 1 f) both.1) [ inl x ↦ inl (lt_from 0 g x) | inr x ↦ inr (lt_from 1 f x) ], rw u refl))
-    | false ↦ (λ u. absurd (let none : joined_len 16 g f e ≡ 0 = rw u refl in omega arith))
+      | true ↦ (λ u.
+          let both = and_both (nat_lt 0 e) (nat_lt 0 g || nat_lt 1 f) u in
+          (lt_from 0 e both.0, elim (or_cases (nat_lt 0 g) (nat_lt 1 f) both.1) [ inl x ↦ inl (lt_from 0 g x) | inr x ↦ inr (lt_from 1 f x) ], rw u refl))
+      | false ↦ (λ u. absurd (let none : joined_len 16 g f e ≡ 0 = rw u refl in omega arith))
     ]
     refl
 
@@ -238,10 +238,10 @@ split_point gs bs o h =
     let exponent : IsExponent (is_mark 16) es = exponent_stand 16 (drop k bs) some in
     let text : gs ++ take (both_len 16 (46 ∷ bs)) (46 ∷ bs) ≡ gs ++ (46 ∷ (fs ++ es)) = ap (λ (xs : List ℕ). gs ++ xs) (point_take 16 bs) in
     elim o [
-      inl r ↦ (gs ++ (46 ∷ fs), es, text ∙ sym (append_assoc gs (46 ∷ fs) es), pointed_mantissa r (some_digits 16 bs), exponent)
-    | inr p ↦
-        (let more : 0 < k = omega (arith, p.1) in
-        (46 ∷ fs, es, text ∙ ap (λ (xs : List ℕ). xs ++ (46 ∷ (fs ++ es))) p.0, point_first_mantissa (digits_at 16 bs more), exponent))
+      | inl r ↦ (gs ++ (46 ∷ fs), es, text ∙ sym (append_assoc gs (46 ∷ fs) es), pointed_mantissa r (some_digits 16 bs), exponent)
+      | inr p ↦
+          (let more : 0 < k = omega (arith, p.1) in
+          (46 ∷ fs, es, text ∙ ap (λ (xs : List ℕ). xs ++ (46 ∷ (fs ++ es))) p.0, point_first_mantissa (digits_at 16 bs more), exponent))
     ]
 
 split_other : (gs : List ℕ) (b : ℕ) (bs : List ℕ) → (b == 46) ≡ false → AreBehind 16 gs ⊎ ((gs ≡ []) × (1 < fraction_len 16 (b ∷ bs))) → 0 < exponent_len 16 (drop (fraction_len 16 (b ∷ bs)) (b ∷ bs)) → Split gs (b ∷ bs)
@@ -249,19 +249,19 @@ split_other gs b bs other o h =
     let f = fraction_other 16 b bs other in
     let some : 0 < exponent_len 16 (b ∷ bs) = subst (λ (n : ℕ). 0 < exponent_len 16 (drop n (b ∷ bs))) f h in
     elim o [
-      inl r ↦ (gs, take (exponent_len 16 (b ∷ bs)) (b ∷ bs), ap (λ (n : ℕ). gs ++ take n (b ∷ bs)) (no_point 16 b bs other), whole_mantissa r, exponent_stand 16 (b ∷ bs) some)
-    | inr p ↦ absurd (omega (arith, p.1))
+      | inl r ↦ (gs, take (exponent_len 16 (b ∷ bs)) (b ∷ bs), ap (λ (n : ℕ). gs ++ take n (b ∷ bs)) (no_point 16 b bs other), whole_mantissa r, exponent_stand 16 (b ∷ bs) some)
+      | inr p ↦ absurd (omega (arith, p.1))
     ]
 
 split_hex : (gs w : List ℕ) → AreBehind 16 gs ⊎ ((gs ≡ []) × (1 < fraction_len 16 w)) → 0 < exponent_len 16 (drop (fraction_len 16 w) w) → Split gs w
 split_hex gs [] o h = absurd (let e : exponent_len 16 (drop (fraction_len 16 []) []) ≡ exponent_len 16 [] = ap (λ (n : ℕ). exponent_len 16 (drop n [])) (fraction_empty 16) in omega (arith, exponent_none 16))
 split_hex gs (b ∷ bs) o h =
     elim (b == 46) as (λ t. (b == 46) ≡ t → Split gs (b ∷ bs)) [
-      true ↦ (λ e.
-        let is = is_point b e in
-        subst (λ (c : ℕ). Split gs (c ∷ bs)) (sym is)
-        (split_point gs bs (subst (λ (c : ℕ). AreBehind 16 gs ⊎ ((gs ≡ []) × (1 < fraction_len 16 (c ∷ bs)))) is o) (subst (λ (c : ℕ). 0 < exponent_len 16 (drop (fraction_len 16 (c ∷ bs)) (c ∷ bs))) is h)))
-    | false ↦ (λ e. split_other gs b bs e o h)
+      | true ↦ (λ e.
+          let is = is_point b e in
+          subst (λ (c : ℕ). Split gs (c ∷ bs)) (sym is)
+          (split_point gs bs (subst (λ (c : ℕ). AreBehind 16 gs ⊎ ((gs ≡ []) × (1 < fraction_len 16 (c ∷ bs)))) is o) (subst (λ (c : ℕ). 0 < exponent_len 16 (drop (fraction_len 16 (c ∷ bs)) (c ∷ bs))) is h)))
+      | false ↦ (λ e. split_other gs b bs e o h)
     ]
     refl
 
@@ -276,8 +276,8 @@ hex_float b body x h =
     let e = exponent_len 16 (drop f w) in
     let c = hex_conditions g f e h in
     let front : AreBehind 16 (take g body) ⊎ ((take g body ≡ []) × (1 < f)) = elim (is_zero g) [
-      inl none ↦ elim c.1 [ inl some ↦ absurd (omega arith) | inr long ↦ inr (ap (λ (n : ℕ). take n body) none, long) ]
-    | inr some ↦ inl (behind_stand 16 body (more_goes 16 body some))
+      | inl none ↦ elim c.1 [ inl some ↦ absurd (omega arith) | inr long ↦ inr (ap (λ (n : ℕ). take n body) none, long) ]
+      | inr some ↦ inl (behind_stand 16 body (more_goes 16 body some))
     ] in
     let s = split_hex (take g body) w front c.0 in
     (c.2, subst (λ (xs : List ℕ). IsFloat (48 ∷ (b ∷ xs))) (sym s.2) (hexadecimal x s.3 s.4))
@@ -293,8 +293,8 @@ tail_sixteen b base g w e =
 moved : (g t i : ℕ) → ◌≡◌ {A = Number} (record { kind = (number_of g g t i).kind; len = 2 + (number_of g g t i).len }) (number_of (suc (suc g)) (suc (suc g)) t i)
 moved g t i =
     elim (nat_lt 0 (t + i)) as (λ u. nat_lt 0 (t + i) ≡ u → ◌≡◌ {A = Number} (record { kind = (number_of g g t i).kind; len = 2 + (number_of g g t i).len }) (number_of (suc (suc g)) (suc (suc g)) t i)) [
-      true ↦ (λ e. let sum : 2 + (g + t + i) ≡ suc (suc g) + t + i = omega arith in rw e (ap (λ (n : ℕ). record { kind = number_kind t i; len = n }) sum))
-    | false ↦ (λ e. let sum : 2 + g ≡ suc (suc g) = omega arith in rw e (ap (λ (n : ℕ). record { kind = number_kind t i; len = n }) sum))
+      | true ↦ (λ e. let sum : 2 + (g + t + i) ≡ suc (suc g) + t + i = omega arith in rw e (ap (λ (n : ℕ). record { kind = number_kind t i; len = n }) sum))
+      | false ↦ (λ e. let sum : 2 + g ≡ suc (suc g) = omega arith in rw e (ap (λ (n : ℕ). record { kind = number_kind t i; len = n }) sum))
     ]
     refl
 
@@ -319,16 +319,16 @@ one_of m n e = cc
 if_found : (g t i : ℕ) (n : Number) → if_digits g t i ≡ Some n → (0 < g + t) × (n ≡ number_of g g t i)
 if_found g t i n e =
     elim (nat_lt 0 (g + t)) as (λ u. nat_lt 0 (g + t) ≡ u → (0 < g + t) × (n ≡ number_of g g t i)) [
-      true ↦ (λ h. (lt_from 0 (g + t) h, sym (one_of (number_of g g t i) n (rw h at e))))
-    | false ↦ (λ h. absurd (let no : ◌≡◌ {A = Option Number} None (Some n) = rw h at e in cc))
+      | true ↦ (λ h. (lt_from 0 (g + t) h, sym (one_of (number_of g g t i) n (rw h at e))))
+      | false ↦ (λ h. absurd (let no : ◌≡◌ {A = Option Number} None (Some n) = rw h at e in cc))
     ]
     refl
 
 tail_within : (b base g : ℕ) (w : List ℕ) → base_of b ≡ Some base → tail_len base g w ≤ length w
 tail_within b base g w e =
     elim (is_zero (tail_len base g w)) [
-      inl none ↦ omega arith
-    | inr some ↦ (let is = tail_sixteen b base g w e some in subst (λ (n : ℕ). tail_len n g w ≤ length w) (sym is) (sixteen_within g w (subst (λ (n : ℕ). 0 < tail_len n g w) is some)))
+      | inl none ↦ omega arith
+      | inr some ↦ (let is = tail_sixteen b base g w e some in subst (λ (n : ℕ). tail_len n g w ≤ length w) (sym is) (sixteen_within g w (subst (λ (n : ℕ). 0 < tail_len n g w) is some)))
     ]
 
 prefixed_at : (b base : ℕ) (body : List ℕ) (n : Number) → base_of b ≡ Some base → prefixed_number base body ≡ Some n → IsAt (48 ∷ (b ∷ body)) (record { kind = n.kind; len = 2 + n.len })
@@ -346,11 +346,11 @@ prefixed_at b base body n e is =
     ap (λ (m : Number). record { kind = m.kind; len = 2 + m.len }) found.1 ∙ moved g t i ∙ ap (number_of (suc (suc g)) (suc (suc g)) t) (sym end) in
     subst (IsAt bytes) (sym same)
     (at_parts bytes (suc (suc g)) (suc (suc g)) t (omega (arith, more_within base body, tail_within b base g w e, length-drop g body)) (omega arith)
-      (λ none.
-        let goes = more_goes base body (omega (arith, found.0)) in
-        let int : IsInteger (take (suc (suc g)) bytes) = prefixed_integer e (behind_stand base body goes) in
-        (omega arith, omega (arith, more_within base body), int, integer_multiple int))
-      (λ some. float_at b base body e some))
+    (λ none.
+    let goes = more_goes base body (omega (arith, found.0)) in
+    let int : IsInteger (take (suc (suc g)) bytes) = prefixed_integer e (behind_stand base body goes) in
+    (omega arith, omega (arith, more_within base body), int, integer_multiple int))
+    (λ some. float_at b base body e some))
 
 -- the number literal at the front
 second_at : (bs : List ℕ) (n : Number) → behind_of (prefix_of (48 ∷ bs)) (drop 1 bs) ≡ Some n → IsAt (48 ∷ bs) (record { kind = n.kind; len = 2 + n.len })
@@ -363,10 +363,10 @@ behind_at : (bytes : List ℕ) (n : Number) → behind_of (prefix_of bytes) (dro
 behind_at [] n e = absurd (cc)
 behind_at (a ∷ bs) n e =
     elim (a == 48) as (λ u. (a == 48) ≡ u → IsAt (a ∷ bs) (record { kind = n.kind; len = 2 + n.len })) [
-      true ↦ (λ h.
-        let is = is_zero_byte a h in
-        subst (λ (c : ℕ). IsAt (c ∷ bs) (record { kind = n.kind; len = 2 + n.len })) (sym is) (second_at bs n (subst (λ (c : ℕ). behind_of (prefix_of (c ∷ bs)) (drop 1 bs) ≡ Some n) is e)))
-    | false ↦ (λ h. absurd (let no : ◌≡◌ {A = Option Number} None (Some n) = rw h at e in cc))
+      | true ↦ (λ h.
+          let is = is_zero_byte a h in
+          subst (λ (c : ℕ). IsAt (c ∷ bs) (record { kind = n.kind; len = 2 + n.len })) (sym is) (second_at bs n (subst (λ (c : ℕ). behind_of (prefix_of (c ∷ bs)) (drop 1 bs) ≡ Some n) is e)))
+      | false ↦ (λ h. absurd (let no : ◌≡◌ {A = Option Number} None (Some n) = rw h at e in cc))
     ]
     refl
 

@@ -22,9 +22,9 @@ hex_parts ms es (pointed_mantissa {ds = ds} {fs = fs} r f) e =
 hex_parts ms es (point_first_mantissa {fs = fs} r) e =
     hex_of [] (46 ∷ (fs ++ es)) (hex_fraction (inr r) e) (λ more. more_stop 16 (46 ∷ ((fs ++ es) ++ more)) refl)
     (λ more. inr (
-      let exact : fraction_len 16 (46 ∷ ((fs ++ es) ++ more)) ≡ suc (length fs) =
-      ap (λ (xs : List ℕ). fraction_len 16 (46 ∷ xs)) (append_assoc fs es more) ∙ fraction_exact 16 marked_sixteen fs (es ++ more) (inr r) (exponent_stops 16 marked_sixteen es more e) in
-      omega (arith, exact, digits_some 16 fs r)))
+    let exact : fraction_len 16 (46 ∷ ((fs ++ es) ++ more)) ≡ suc (length fs) =
+    ap (λ (xs : List ℕ). fraction_len 16 (46 ∷ xs)) (append_assoc fs es more) ∙ fraction_exact 16 marked_sixteen fs (es ++ more) (inr r) (exponent_stops 16 marked_sixteen es more e) in
+    omega (arith, exact, digits_some 16 fs r)))
 
 -- the letters of prefixes
 some_same : (m n : ℕ) → ◌≡◌ {A = Option ℕ} (Some m) (Some n) → m ≡ n
@@ -36,18 +36,18 @@ letter_is b c d h = grind (arith, nat_tests)
 pub base_cases : (P : ℕ → ℕ → Type 0) (b base : ℕ) → base_of b ≡ Some base → P 120 16 → P 88 16 → P 111 8 → P 79 8 → P 98 2 → P 66 2 → P b base
 base_cases P b base e x xx o oo t tt' =
     elim (is_x b) as (λ u. is_x b ≡ u → P b base) [
-      true ↦ (λ h.
-        let is : 16 ≡ base = some_same 16 base (rw h at e) in
-        elim (letter_is b 120 88 h) [ inl f ↦ subst (λ (p : ℕ × ℕ). P p.0 p.1) (λ i. (sym f i, is i)) x | inr f ↦ subst (λ (p : ℕ × ℕ). P p.0 p.1) (λ i. (sym f i, is i)) xx ])
-    | false ↦ (λ h. elim (b == 111 || b == 79) as (λ u. (b == 111 || b == 79) ≡ u → P b base) [
-        true ↦ (λ g.
-          let is : 8 ≡ base = some_same 8 base (rw (h, g) at e) in
-          elim (letter_is b 111 79 g) [ inl f ↦ subst (λ (p : ℕ × ℕ). P p.0 p.1) (λ i. (sym f i, is i)) o | inr f ↦ subst (λ (p : ℕ × ℕ). P p.0 p.1) (λ i. (sym f i, is i)) oo ])
-      | false ↦ (λ g. elim (b == 98 || b == 66) as (λ u. (b == 98 || b == 66) ≡ u → P b base) [
-          true ↦ (λ k.
-            let is : 2 ≡ base = some_same 2 base (rw (h, g, k) at e) in
-            elim (letter_is b 98 66 k) [ inl f ↦ subst (λ (p : ℕ × ℕ). P p.0 p.1) (λ i. (sym f i, is i)) t | inr f ↦ subst (λ (p : ℕ × ℕ). P p.0 p.1) (λ i. (sym f i, is i)) tt' ])
-        | false ↦ (λ k. absurd (let no : ◌≡◌ {A = Option ℕ} None (Some base) = rw (h, g, k) at e in cc))
+      | true ↦ (λ h.
+          let is : 16 ≡ base = some_same 16 base (rw h at e) in
+          elim (letter_is b 120 88 h) [ inl f ↦ subst (λ (p : ℕ × ℕ). P p.0 p.1) (λ i. (sym f i, is i)) x | inr f ↦ subst (λ (p : ℕ × ℕ). P p.0 p.1) (λ i. (sym f i, is i)) xx ])
+      | false ↦ (λ h. elim (b == 111 || b == 79) as (λ u. (b == 111 || b == 79) ≡ u → P b base) [
+        | true ↦ (λ g.
+            let is : 8 ≡ base = some_same 8 base (rw (h, g) at e) in
+            elim (letter_is b 111 79 g) [ inl f ↦ subst (λ (p : ℕ × ℕ). P p.0 p.1) (λ i. (sym f i, is i)) o | inr f ↦ subst (λ (p : ℕ × ℕ). P p.0 p.1) (λ i. (sym f i, is i)) oo ])
+        | false ↦ (λ g. elim (b == 98 || b == 66) as (λ u. (b == 98 || b == 66) ≡ u → P b base) [
+          | true ↦ (λ k.
+              let is : 2 ≡ base = some_same 2 base (rw (h, g, k) at e) in
+              elim (letter_is b 98 66 k) [ inl f ↦ subst (λ (p : ℕ × ℕ). P p.0 p.1) (λ i. (sym f i, is i)) t | inr f ↦ subst (λ (p : ℕ × ℕ). P p.0 p.1) (λ i. (sym f i, is i)) tt' ])
+          | false ↦ (λ k. absurd (let no : ◌≡◌ {A = Option ℕ} None (Some base) = rw (h, g, k) at e in cc))
         ] refl)
       ] refl)
     ]
@@ -132,8 +132,8 @@ prefix_alone : (bytes : List ℕ) (base : ℕ) → prefix_of bytes ≡ Some base
 prefix_alone [] base e = absurd (cc)
 prefix_alone (a ∷ bs) base e =
     elim (a == 48) as (λ u. (a == 48) ≡ u → decimal_number (a ∷ bs) ≡ record { kind = IntLit; len = 1 }) [
-      true ↦ (λ h. subst (λ (c : ℕ). decimal_number (c ∷ bs) ≡ record { kind = IntLit; len = 1 }) (sym (is_zero_byte a h)) (second_alone bs base (rw h at e)))
-    | false ↦ (λ h. absurd (let no : ◌≡◌ {A = Option ℕ} None (Some base) = rw h at e in cc))
+      | true ↦ (λ h. subst (λ (c : ℕ). decimal_number (c ∷ bs) ≡ record { kind = IntLit; len = 1 }) (sym (is_zero_byte a h)) (second_alone bs base (rw h at e)))
+      | false ↦ (λ h. absurd (let no : ◌≡◌ {A = Option ℕ} None (Some base) = rw h at e in cc))
     ]
     refl
 

@@ -23,8 +23,8 @@ in_table test [] text kind h e = absurd (cc)
 in_table test (row ∷ rows) text kind h e =
     let parts = both (test row.0) (list_all (λ r. test r.0) rows) h in
     elim (bytes_eq text row.0) as (λ t. bytes_eq text row.0 ≡ t → test text ≡ true) [
-      true ↦ (λ s. subst (λ (xs : List ℕ). test xs ≡ true) (sym ((bytes_eq-Decides text row.0).0 s)) parts.0)
-    | false ↦ (λ s. in_table test rows text kind parts.1 (rw s at e))
+      | true ↦ (λ s. subst (λ (xs : List ℕ). test xs ≡ true) (sym ((bytes_eq-Decides text row.0).0 s)) parts.0)
+      | false ↦ (λ s. in_table test rows text kind parts.1 (rw s at e))
     ]
     refl
 

@@ -21,8 +21,8 @@ some_bound base ds more o =
 pub some_exact : (base : ℕ) (ds more : List ℕ) → Optional (AreDigits base) ds → goes_on base more ≡ false → digits_len base (ds ++ more) ≡ length ds
 some_exact base ds more o stop =
     elim o [
-      inl e ↦ subst (λ (xs : List ℕ). digits_len base (xs ++ more) ≡ length xs) (sym e) (no_digits base more (stops_no_digit base more stop))
-    | inr r ↦ all_digits base ds more r ∙ digits_exact base ds more r stop
+      | inl e ↦ subst (λ (xs : List ℕ). digits_len base (xs ++ more) ≡ length xs) (sym e) (no_digits base more (stops_no_digit base more stop))
+      | inr r ↦ all_digits base ds more r ∙ digits_exact base ds more r stop
     ]
 
 -- exponents
@@ -103,16 +103,16 @@ exponent_found : (base m : ℕ) (bs : List ℕ) → is_mark base m ≡ true → 
 exponent_found base m [] h some = absurd (let e = exponent_step base m [] h in let f = with_none (1 + 0) 0 (subst (λ (n : ℕ). 0 < n) e some) in omega arith)
 exponent_found base m (s ∷ bs) h some =
     elim (is_sign s) as (λ t. is_sign s ≡ t → IsExponent (is_mark base) (take (exponent_len base (m ∷ (s ∷ bs))) (m ∷ (s ∷ bs)))) [
-      true ↦ (λ sign.
-        let one : sign_len (s ∷ bs) ≡ 1 = rw sign refl in
-        let step = exponent_step base m (s ∷ bs) h ∙ ap (λ (n : ℕ). with_digits (1 + n) (digits_len 10 (drop n (s ∷ bs)))) one in
-        let more : 0 < digits_len 10 bs = with_none (1 + 1) (digits_len 10 bs) (subst (λ (n : ℕ). 0 < n) step some) in
-        subst (λ (n : ℕ). IsExponent (is_mark base) (take n (m ∷ (s ∷ bs)))) (sym (signed_step base m s bs h sign more)) (signed_exponent h sign (digits_at bs more)))
-    | false ↦ (λ sign.
-        let none : sign_len (s ∷ bs) ≡ 0 = rw sign refl in
-        let step = exponent_step base m (s ∷ bs) h ∙ ap (λ (n : ℕ). with_digits (1 + n) (digits_len 10 (drop n (s ∷ bs)))) none in
-        let more : 0 < digits_len 10 (s ∷ bs) = with_none (1 + 0) (digits_len 10 (s ∷ bs)) (subst (λ (n : ℕ). 0 < n) step some) in
-        subst (λ (n : ℕ). IsExponent (is_mark base) (take n (m ∷ (s ∷ bs)))) (sym (plain_step base m (s ∷ bs) h none more)) (plain_exponent h (digits_at (s ∷ bs) more)))
+      | true ↦ (λ sign.
+          let one : sign_len (s ∷ bs) ≡ 1 = rw sign refl in
+          let step = exponent_step base m (s ∷ bs) h ∙ ap (λ (n : ℕ). with_digits (1 + n) (digits_len 10 (drop n (s ∷ bs)))) one in
+          let more : 0 < digits_len 10 bs = with_none (1 + 1) (digits_len 10 bs) (subst (λ (n : ℕ). 0 < n) step some) in
+          subst (λ (n : ℕ). IsExponent (is_mark base) (take n (m ∷ (s ∷ bs)))) (sym (signed_step base m s bs h sign more)) (signed_exponent h sign (digits_at bs more)))
+      | false ↦ (λ sign.
+          let none : sign_len (s ∷ bs) ≡ 0 = rw sign refl in
+          let step = exponent_step base m (s ∷ bs) h ∙ ap (λ (n : ℕ). with_digits (1 + n) (digits_len 10 (drop n (s ∷ bs)))) none in
+          let more : 0 < digits_len 10 (s ∷ bs) = with_none (1 + 0) (digits_len 10 (s ∷ bs)) (subst (λ (n : ℕ). 0 < n) step some) in
+          subst (λ (n : ℕ). IsExponent (is_mark base) (take n (m ∷ (s ∷ bs)))) (sym (plain_step base m (s ∷ bs) h none more)) (plain_exponent h (digits_at (s ∷ bs) more)))
     ]
     refl
 
@@ -120,8 +120,8 @@ pub exponent_stand : (base : ℕ) (bytes : List ℕ) → 0 < exponent_len base b
 exponent_stand base [] some = absurd (omega (arith, exponent_none base))
 exponent_stand base (m ∷ bs) some =
     elim (is_mark base m) as (λ t. is_mark base m ≡ t → IsExponent (is_mark base) (take (exponent_len base (m ∷ bs)) (m ∷ bs))) [
-      true ↦ (λ h. exponent_found base m bs h some)
-    | false ↦ (λ h. absurd (omega (arith, exponent_stop base m bs h)))
+      | true ↦ (λ h. exponent_found base m bs h some)
+      | false ↦ (λ h. absurd (omega (arith, exponent_stop base m bs h)))
     ]
     refl
 
@@ -136,16 +136,16 @@ pub exponent_within : (base : ℕ) (bytes : List ℕ) → exponent_len base byte
 exponent_within base [] = omega (arith, exponent_none base)
 exponent_within base (m ∷ bs) =
     elim (is_mark base m) as (λ t. is_mark base m ≡ t → exponent_len base (m ∷ bs) ≤ length (m ∷ bs)) [
-      true ↦ (λ h.
-        omega (
-          arith,
-          exponent_step base m bs h,
-          with_bound (1 + sign_len bs) (digits_len 10 (drop (sign_len bs) bs)),
-          digits_within 10 (drop (sign_len bs) bs),
-          length-drop (sign_len bs) bs,
-          sign_within bs,
-        ))
-    | false ↦ (λ h. omega (arith, exponent_stop base m bs h))
+      | true ↦ (λ h.
+          omega (
+            arith,
+            exponent_step base m bs h,
+            with_bound (1 + sign_len bs) (digits_len 10 (drop (sign_len bs) bs)),
+            digits_within 10 (drop (sign_len bs) bs),
+            length-drop (sign_len bs) bs,
+            sign_within bs,
+          ))
+      | false ↦ (λ h. omega (arith, exponent_stop base m bs h))
     ]
     refl
 
@@ -175,8 +175,8 @@ unfolding imaginary_len
 imaginary_stand [] h = absurd (omega arith)
 imaginary_stand (b ∷ bs) h =
     elim (b == 105) as (λ t. (b == 105) ≡ t → (imaginary_len (b ∷ bs) ≡ 1) × (b ∷ [] ≡ 105 ∷ [])) [
-      true ↦ (λ e. let is : b ≡ 105 = grind (arith, nat_tests) in (rw e refl, ap (λ (c : ℕ). c ∷ []) is))
-    | false ↦ (λ e. absurd (let none : imaginary_len (b ∷ bs) ≡ 0 = rw e refl in omega arith))
+      | true ↦ (λ e. let is : b ≡ 105 = grind (arith, nat_tests) in (rw e refl, ap (λ (c : ℕ). c ∷ []) is))
+      | false ↦ (λ e. absurd (let none : imaginary_len (b ∷ bs) ≡ 0 = rw e refl in omega arith))
     ]
     refl
 
@@ -259,26 +259,26 @@ module _ (base : ℕ) (marked : IsMarked base) where
   tail_bound ts more (exponent_tail e) = omega (arith, both_exponent ts more e, exponent_bound base ts more e)
   tail_bound ts more (fraction_tail {fs = fs} {es = es} f o) =
       elim o [
-        inl e ↦ subst (λ (xs : List ℕ). length (46 ∷ (fs ++ xs)) ≤ both_len base (46 ∷ ((fs ++ xs) ++ more))) (sym e)
-          (rw append-nil (fraction_bound fs more f))
-      | inr e ↦
-          (let a : both_len base (46 ∷ (fs ++ (es ++ more))) ≡ suc (length fs) + exponent_len base (es ++ more) =
-          both_exact fs (es ++ more) (fraction_exact fs (es ++ more) f (exponent_stops es more e)) in
-          rw append_assoc (omega (arith, a, exponent_bound base es more e, length-append fs es)))
+        | inl e ↦ subst (λ (xs : List ℕ). length (46 ∷ (fs ++ xs)) ≤ both_len base (46 ∷ ((fs ++ xs) ++ more))) (sym e)
+            (rw append-nil (fraction_bound fs more f))
+        | inr e ↦
+            (let a : both_len base (46 ∷ (fs ++ (es ++ more))) ≡ suc (length fs) + exponent_len base (es ++ more) =
+            both_exact fs (es ++ more) (fraction_exact fs (es ++ more) f (exponent_stops es more e)) in
+            rw append_assoc (omega (arith, a, exponent_bound base es more e, length-append fs es)))
       ]
 
   pub tail_exact : (ts more : List ℕ) → IsTail base ts → both_len base (ts ++ (105 ∷ more)) ≡ length ts
   tail_exact ts more (exponent_tail e) = both_exponent ts (105 ∷ more) e ∙ exponent_exact base ts (105 ∷ more) e refl
   tail_exact ts more (fraction_tail {fs = fs} {es = es} f o) =
       elim o [
-        inl e ↦ subst (λ (xs : List ℕ). both_len base (46 ∷ ((fs ++ xs) ++ (105 ∷ more))) ≡ length (46 ∷ (fs ++ xs))) (sym e)
-          (rw append-nil
-          (let a = both_exact fs (105 ∷ more) (fraction_exact fs (105 ∷ more) f (marked.end_stops more)) in
-          omega (arith, a, exponent_stop base 105 more marked.end_no_mark)))
-      | inr e ↦
-          (let a : both_len base (46 ∷ (fs ++ (es ++ (105 ∷ more)))) ≡ suc (length fs) + exponent_len base (es ++ (105 ∷ more)) =
-          both_exact fs (es ++ (105 ∷ more)) (fraction_exact fs (es ++ (105 ∷ more)) f (exponent_stops es (105 ∷ more) e)) in
-          rw append_assoc (omega (arith, a, exponent_exact base es (105 ∷ more) e refl, length-append fs es)))
+        | inl e ↦ subst (λ (xs : List ℕ). both_len base (46 ∷ ((fs ++ xs) ++ (105 ∷ more))) ≡ length (46 ∷ (fs ++ xs))) (sym e)
+            (rw append-nil
+            (let a = both_exact fs (105 ∷ more) (fraction_exact fs (105 ∷ more) f (marked.end_stops more)) in
+            omega (arith, a, exponent_stop base 105 more marked.end_no_mark)))
+        | inr e ↦
+            (let a : both_len base (46 ∷ (fs ++ (es ++ (105 ∷ more)))) ≡ suc (length fs) + exponent_len base (es ++ (105 ∷ more)) =
+            both_exact fs (es ++ (105 ∷ more)) (fraction_exact fs (es ++ (105 ∷ more)) f (exponent_stops es (105 ∷ more) e)) in
+            rw append_assoc (omega (arith, a, exponent_exact base es (105 ∷ more) e refl, length-append fs es)))
       ]
 
   -- no fraction and no exponent before the `i`

@@ -56,8 +56,8 @@ decoded_all inner out at d none = subst (AreCharacters 34 inner) (append-nil out
 more_no_smaller : (base n b : ℕ) → 1 ≤ base → n ≤ value_more base n b
 more_no_smaller base n b h =
     elim (b == 95) as (λ t. (b == 95) ≡ t → n ≤ value_more base n b) [
-      true ↦ (λ e. rw e (omega arith))
-    | false ↦ (λ e. let product : n * 1 ≤ n * base = mul-le-mul_left n h in rw e (omega arith))
+      | true ↦ (λ e. rw e (omega arith))
+      | false ↦ (λ e. let product : n * 1 ≤ n * base = mul-le-mul_left n h in rw e (omega arith))
     ]
     refl
 

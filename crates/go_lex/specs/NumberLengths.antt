@@ -83,7 +83,7 @@ number_of int whole tail imaginary = record {
 unfoldable pub decimal_number : List ℕ → Number
 decimal_number bytes =
     number_of (integer_len bytes) (digits_len 10 bytes) (tail_len 10 (digits_len 10 bytes) (drop (digits_len 10 bytes) bytes))
-        (imaginary_len (drop (digits_len 10 bytes + tail_len 10 (digits_len 10 bytes) (drop (digits_len 10 bytes) bytes)) bytes))
+    (imaginary_len (drop (digits_len 10 bytes + tail_len 10 (digits_len 10 bytes) (drop (digits_len 10 bytes) bytes)) bytes))
 
 -- a literal of these lengths, where it has digits
 abbrev pub if_digits : ℕ → ℕ → ℕ → Option Number
@@ -93,7 +93,7 @@ if_digits whole tail imaginary = if nat_lt 0 (whole + tail) then Some (number_of
 unfoldable pub prefixed_number : ℕ → List ℕ → Option Number
 prefixed_number base bytes =
     if_digits (more_len base bytes) (tail_len base (more_len base bytes) (drop (more_len base bytes) bytes))
-        (imaginary_len (drop (more_len base bytes + tail_len base (more_len base bytes) (drop (more_len base bytes) bytes)) bytes))
+    (imaginary_len (drop (more_len base bytes + tail_len base (more_len base bytes) (drop (more_len base bytes) bytes)) bytes))
 
 -- the literal behind the prefix of this base
 abbrev pub behind_of : Option ℕ → List ℕ → Option Number

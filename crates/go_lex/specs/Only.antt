@@ -3,7 +3,7 @@ use Rattle.std.specs.Prelude.{◌≡◌, ◌<◌, ◌≤◌, not, ◌==◌, true
 use Rattle.std.specs.List.{list_all}
 use Rattle.go_model.specs.declared.token.Meaning.{Meaning}
 use Rattle.go_model.specs.Headers.{is_text}
-use Rattle.go_model.specs.Quotes.{IsCharacter, AreCharacters}
+use Rattle.go_model.specs.Quotes.{meaning_number, IsCharacter, AreCharacters}
 use Rattle.go_model.specs.Lexemes.{quoted}
 
 -- a text of this kind has this many bytes at the front, and no other begins the bytes
@@ -20,6 +20,10 @@ HasNone P bytes = (text more : List ℕ) → P text → bytes ≡ text ++ more �
 -- a rune literal
 abbrev pub IsRune : List ℕ → Type 0
 IsRune text = (inner : List ℕ) × (meaning : Meaning) × IsCharacter 39 inner meaning × (text ≡ quoted 39 inner)
+
+-- a rune literal of this number
+abbrev pub IsRuneOf : List ℕ → ℕ → Type 0
+IsRuneOf text number = (inner : List ℕ) × (meaning : Meaning) × IsCharacter 39 inner meaning × (text ≡ quoted 39 inner) × (number ≡ meaning_number meaning)
 
 -- a string literal in double quotes
 abbrev pub IsString : List ℕ → Type 0

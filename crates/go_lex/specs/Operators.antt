@@ -16,4 +16,4 @@ operator_at (a ∷ []) = or_shorter 1 (kind_in operators_of_one (a ∷ [])) None
 operator_at (a ∷ (b ∷ [])) = or_shorter 2 (kind_in operators_of_two (a ∷ (b ∷ []))) (or_shorter 1 (kind_in operators_of_one (a ∷ [])) None)
 operator_at (a ∷ (b ∷ (c ∷ cs))) =
     or_shorter 3 (kind_in operators_of_three (a ∷ (b ∷ (c ∷ []))))
-        (or_shorter 2 (kind_in operators_of_two (a ∷ (b ∷ []))) (or_shorter 1 (kind_in operators_of_one (a ∷ [])) None))
+    (or_shorter 2 (kind_in operators_of_two (a ∷ (b ∷ []))) (or_shorter 1 (kind_in operators_of_one (a ∷ [])) None))

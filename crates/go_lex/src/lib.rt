@@ -3,12 +3,14 @@
 
 mod bytes;
 mod digits;
-mod front;
+mod emit;
 pub mod error;
+mod front;
 mod keyword;
 mod literal;
 mod name;
 mod number;
 mod operator;
 mod quote;
+pub mod scan;
 mod value;

@@ -2,8 +2,9 @@
 ghost use Rattle.std.specs.Prelude.{◌≡◌, ◌≤◌, ◌<◌, ◌+◌, ◌*◌, ◌^◌, ◌++◌, ◌==◌, ℕ, List, not, length, IfOk, OnOk, SomeIff};
 ghost use Rattle.std.specs.List.{filter};
 ghost use Rattle.go_model.specs.Numbers.{value_from, integer_value};
-ghost use Rattle.go_model.specs.Quotes.{meaning_bytes, AreCharacters, raw_bytes};
+ghost use Rattle.go_model.specs.Quotes.{meaning_bytes, meaning_number, AreCharacters, raw_bytes};
 ghost use Rattle.go_model.specs.Lexemes.{number_value};
+ghost use Rattle.go_lex.specs.Only.{IsRune, IsRuneOf};
 ghost use Rattle.go_lex.specs.Values.{value_more};
 
 use crate::bytes::past;
@@ -72,6 +73,26 @@ fn with_byte(base: u32, value: u128, b: u8) -> Option<u128>
     let product = value.checked_mul(base as u128)?;
     let sum = product.checked_add(digit_value(b) as u128)?;
     if sum < LIMIT { Some(sum) } else { None }
+}
+
+fn meaning_number(meaning: Meaning) -> u32
+    ensures { result ≡ meaning_number meaning }
+{
+    match meaning {
+        Meaning::Character(c) => c as u32,
+        Meaning::Byte(b) => b as u32,
+    }
+}
+
+/// The number of a rune literal's character.
+pub fn rune_number(text: &[u8]) -> u32
+    requires { IsRune text.now }
+    ensures { IsRuneOf text.now result }
+{
+    match character_at(b'\'', past(text, 1)) {
+        Some(c) => meaning_number(c.meaning),
+        None => 0,
+    }
 }
 
 /// The bytes that the characters of a string literal stand for.

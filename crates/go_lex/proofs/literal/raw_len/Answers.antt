@@ -13,7 +13,7 @@ pub returns-in-Some-clause-some : goal.returns-in-Some-clause-some
 returns-in-Some-clause-some c =
     subst (λ (n : ℕ). IsOnly IsRaw (96 ∷ c.args.behind.now) (n + 2)) (sym c.in-Some.ensures.same)
     (raw_only c.args.behind.now c.before_backquote-len.result c.in-Some.len c.before_backquote-len.ensures.value (smaller c.before_backquote-len.result (length c.args.behind.now) c.before_backquote-len.ensures.within c.if-len-behind.false)
-      (sym c.text_len.ensures.value ∙ c.in-Some.is))
+    (sym c.text_len.ensures.value ∙ c.in-Some.is))
 
 pub returns-in-None-clause-none : goal.returns-in-None-clause-none
 returns-in-None-clause-none c = raw_bad c.args.behind.now c.before_backquote-len.result c.before_backquote-len.ensures.value (sym c.text_len.ensures.value ∙ c.in-None.is)

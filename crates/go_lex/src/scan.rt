@@ -1,0 +1,63 @@
+//! The scanner, which goes over the bytes once.
+ghost use Rattle.std.specs.Prelude.{◌≡◌, ◌≤◌, ◌-◌, ℕ, List, length, drop, IfOk, IfErr};
+ghost use Rattle.go_model.specs.declared.token.Token.{Token};
+ghost use Rattle.go_model.specs.Headers.{without_mark};
+ghost use Rattle.go_model.specs.Lexemes.{CutTo, Lexeme, IsBadPlace};
+ghost use Rattle.go_model.specs.Tokens.{IsTokens};
+ghost use Rattle.go_lex.specs.Causes.{HasCause};
+
+use crate::bytes::past;
+use crate::emit::Emitter;
+use crate::error::LexError;
+use crate::front::front_of;
+use go_model::list::List;
+use go_model::token::Token;
+use std::alloc::Global;
+
+/// The tokens of a file of at most 4,194,304 bytes, with the semicolons that newlines insert. A byte
+/// order mark at the start is skipped.
+///
+/// `BadToken` comes exactly where the bytes can't be cut into longest lexemes, with the offset at
+/// which the longest such front ends.
+pub fn scan(alloc: Global, bytes: &[u8]) -> Result<List<Token>, LexError>
+    requires { length bytes.now ≤ 4194304 }
+    ensures tokens { IfOk result (IsTokens bytes.now) }
+    ensures cause { IfErr result (HasCause bytes.now) }
+{
+    let mut emitter = Emitter {
+        tokens: List::new(alloc),
+        pending: None,
+    };
+    let mut at = mark_len(bytes);
+    while at < bytes.len() {
+        let rest = past(bytes, at);
+        let Some(front) = front_of(rest) else {
+            return Err(LexError::BadToken(at as u32));
+        };
+        emitter.emit(alloc, front.kind, &rest[..front.len], at as u32)?;
+        at += front.len;
+    }
+    emitter.end_line()?;
+    let Emitter { tokens, pending: _ } = emitter;
+    Ok(tokens)
+}
+
+/// The length of the byte order mark at the start, or 0.
+fn mark_len(bytes: &[u8]) -> usize
+    ensures value { without_mark bytes.now ≡ drop result bytes.now }
+    ensures within { result ≤ length bytes.now }
+{
+    if bytes.starts_with(b"\xef\xbb\xbf") {
+        3
+    } else {
+        0
+    }
+}
+
+/// A file has at most one list of tokens and at most one bad place, and never both.
+pub fn one_list()
+    ensures one { (bytes : List ℕ) (first second : List Token) → IsTokens bytes first → IsTokens bytes second → first ≡ second }
+    ensures one_place { (bytes : List ℕ) (first second : ℕ) → IsBadPlace bytes first → IsBadPlace bytes second → first ≡ second }
+    ensures not_both { (bytes : List ℕ) (place : ℕ) (tokens : List Token) → IsBadPlace bytes place → IsTokens bytes tokens → ⊥ }
+    ensures longest { (bytes : List ℕ) (place : ℕ) (lexemes : List Lexeme) (rest : List ℕ) → IsBadPlace bytes place → CutTo (without_mark bytes) lexemes rest → length bytes - length rest ≤ place }
+{}
