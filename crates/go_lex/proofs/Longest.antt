@@ -1,193 +1,256 @@
--- The longest lexeme at the front of some bytes, by what its first byte tells.
-use Rattle.std.proofs.Common.{◌≡◌, ℕ, zero, suc, ◌+◌, ◌-◌, ◌<◌, ◌≤◌, Bool, true, false, cond, List, [], ◌∷◌, ◌++◌, length, get_or, take, drop, Some, None, refl, sym, ap, ◌∙◌, subst, arith, one-add, length-drop}
-use Rattle.std.specs.Prelude.{bytes_eq, codes}
-use Rattle.std.specs.List.{prefix_len}
-use Rattle.std.proofs.lemmas.List.Sums.{prefix_len-le-length}
-use Rattle.std.proofs.lemmas.Slice.Eq.{bytes_eq-Decides}
+-- The longest lexeme at the front of some bytes, by their class.
+use Rattle.std.proofs.Common.{◌≡◌, ◌⊎◌, inl, inr, ℕ, zero, suc, ◌+◌, ◌<◌, ◌≤◌, Bool, true, false, ◌||◌, ◌&&◌, ◌==◌, not, List, [], ◌∷◌, ◌++◌, length, take, drop, refl, sym, ap, ◌∙◌, subst, arith, length-append, append_assoc, Option, Some, None}
+use Rattle.std.specs.Prelude.{codes, if◌then◌else◌}
+use Rattle.std.specs.List.{list_all, list_any}
+use Rattle.std.proofs.lemmas.List.{take-append-drop}
+use Rattle.go_model.specs.declared.token.Meaning.{Meaning}
 use Rattle.go_model.specs.declared.token.TokenKind.{TokenKind}
-use Rattle.go_model.specs.declared.token.TokenKind.TheVariants.{Assign, IntLit}
+use Rattle.go_model.specs.declared.token.TokenKind.TheVariants as token
+use Rattle.go_model.specs.declared.token.TokenValue.{TokenValue}
+use Rattle.go_model.specs.declared.token.TokenValue.TheVariants as value
 use Rattle.go_model.specs.declared.token.LexemeKind.{LexemeKind}
 use Rattle.go_model.specs.declared.token.LexemeKind.TheVariants as lexeme
-use Rattle.go_model.specs.Lists.{Passes}
-use Rattle.go_model.specs.Lexemes.{is_name_byte, is_digit, kind_in, operators, name_kind, IsLexeme, blank, newline, operator, name, zero_literal, decimal_literal, Begins, BeginsNone}
-use Rattle.go_lex.specs.declared.scan.Start.{Start}
-use Rattle.go_lex.specs.declared.scan.Start.TheVariants.{Blank, Newline, Equals, Letter, Zero, Digit, Other}
-use Rattle.go_lex.specs.Fronts.{start_of, IsFront}
-use Rattle.go_lex.proofs.Starts.{blank_starts, newline_starts, equals_starts, zero_starts, letter_starts, digit_starts, starts_blank, starts_newline, starts_equals, starts_letter, starts_zero, starts_digit}
+use Rattle.go_model.specs.Headers.{is_text, starts_with, comment_len, text_len}
+use Rattle.go_model.specs.Quotes.{meaning_number, raw_bytes}
+use Rattle.go_model.specs.Words.{kind_in, operators, name_kind}
+use Rattle.go_model.specs.Lexemes.{is_blank, plain_value, quoted, opens_comment, comment_kind, IsLexeme, blank, newline, name, operator, integer, float, imaginary, rune, string, raw_string, Lexeme, IsComment, Stands, Begins, BeginsLongest, BeginsNone}
+use Rattle.go_model.proofs.Lists.{length_take}
+use Rattle.go_lex.specs.declared.front.Start.{Start}
+use Rattle.go_lex.specs.declared.front.Start.TheVariants.{Blank, Newline, Comment, Number, Rune, Quoted, Raw, Name, Sign}
+use Rattle.go_lex.specs.declared.front.Front.{Front}
+use Rattle.go_lex.specs.declared.operator.Operator.{Operator}
+use Rattle.go_lex.specs.Starts.{start_of, begins_number}
+use Rattle.go_lex.specs.NumberLengths.{number_at, IsNumber, int_number, float_number, imaginary_number}
+use Rattle.go_lex.specs.Names.{IsName, IsLongestName, HasNoName}
+use Rattle.go_lex.specs.Operators.{operator_at}
+use Rattle.go_lex.specs.Only.{IsOnly, HasNone, IsRune, IsString, IsRaw}
+use Rattle.go_lex.specs.Fronts.{Says, lexeme_of, IsFront, IsCommentFront}
+use Rattle.go_lex.proofs.Numbers.{number_claim}
+use Rattle.go_lex.proofs.NumberStands.{number_stands}
+use Rattle.go_lex.proofs.OperatorRows.{operator_claim, operator_stands}
+use Rattle.go_lex.proofs.Classes.{Class, classed, byte_tells, not_open, open_from, is_byte}
 
--- what a lexeme is whose first byte tells this much of it
-abbrev pub IsShaped : Start → ℕ → List ℕ → LexemeKind → Type 0
-IsShaped Blank b bs kind = (bs ≡ []) × (kind ≡ lexeme.Blank)
-IsShaped Newline b bs kind = (bs ≡ []) × (kind ≡ lexeme.Newline)
-IsShaped Equals b bs kind = (bs ≡ []) × (kind ≡ lexeme.Token Assign)
-IsShaped Letter b bs kind = Passes is_name_byte bs × (kind ≡ lexeme.Token (name_kind (b ∷ bs)))
-IsShaped Zero b bs kind = (bs ≡ []) × (kind ≡ lexeme.Token IntLit)
-IsShaped Digit b bs kind = Passes is_digit bs × (kind ≡ lexeme.Token IntLit)
-IsShaped Other b bs kind = ⊥
+-- a comment opens where there is one
+pub comment_opens : (bytes : List ℕ) (n : ℕ) → comment_len bytes ≡ Some n → opens_comment bytes ≡ true
+unfolding comment_len
+comment_opens bytes n e =
+    elim (starts_with (codes "//") bytes) as (λ t. starts_with (codes "//") bytes ≡ t → (t || starts_with (codes "/*") bytes) ≡ true) [
+      | true ↦ (λ h. refl)
+      | false ↦ (λ h. elim (starts_with (codes "/*") bytes) as (λ t. starts_with (codes "/*") bytes ≡ t → t ≡ true) [
+        | true ↦ (λ g. refl)
+        | false ↦ (λ g. absurd (let none : ◌≡◌ {A = Option ℕ} None (Some n) = rw (h, g) at e in cc))
+      ] refl)
+    ]
+    refl
 
-pub head_same : (a b : ℕ) (xs ys : List ℕ) → a ∷ xs ≡ b ∷ ys → a ≡ b
-head_same a b xs ys e = cc
+-- a lexeme at the front, where no comment opens
+lexeme_there : (bytes : List ℕ) (x : Lexeme) (more : List ℕ) → opens_comment bytes ≡ false → Begins bytes x more → IsLexeme x.kind x.value x.text
+lexeme_there bytes x more closed b = elim b.stands [ inl c ↦ absurd (let opened : opens_comment bytes ≡ true = comment_opens bytes (length x.text) c.len in cc) | inr p ↦ p.1 ]
 
-pub tail_same : (a b : ℕ) (xs ys : List ℕ) → a ∷ xs ≡ b ∷ ys → xs ≡ ys
-tail_same a b xs ys e = cc
+class_there : (bytes : List ℕ) (s : Start) (x : Lexeme) (more : List ℕ) → start_of bytes ≡ s → (s ≡ Comment → ⊥) → Begins bytes x more → Class s bytes x.kind x.value x.text
+class_there bytes s x more e other b =
+    let closed = not_open bytes s e other in
+    let is = lexeme_there bytes x more closed b in
+    let joined = b.joined in
+    let here : Class (start_of bytes) bytes x.kind x.value x.text =
+    subst (λ (xs : List ℕ). Class (start_of xs) xs x.kind x.value x.text) (sym joined)
+    (classed x.kind x.value x.text more is (subst (λ (xs : List ℕ). opens_comment xs ≡ false) joined closed)) in
+    subst (λ (t : Start). Class t bytes x.kind x.value x.text) e here
 
-row_found : (test : Bool) (k j : TokenKind) → cond test (Some j) None ≡ Some k → (test ≡ true) × (k ≡ j)
-row_found true k j e = (refl, cc)
-row_found false k j e = absurd (cc)
+-- the front of a class that is no comment
+front_by : (bytes : List ℕ) (s : Start) (kind : LexemeKind) (len : ℕ) → start_of bytes ≡ s → (s ≡ Comment → ⊥) → 0 < len → len ≤ length bytes
+    → ((said : TokenValue) × Says kind (take len bytes) said) → ((said : TokenValue) → Says kind (take len bytes) said → IsLexeme kind said (take len bytes))
+    → ((k : LexemeKind) (v : TokenValue) (text more : List ℕ) → Class s bytes k v text → bytes ≡ text ++ more → length text ≤ len) → IsFront bytes kind len
+front_by bytes s kind len e other some within said is bound = record {
+  some = some;
+  within = within;
+  says = said;
+  longest = λ v says. record {
+    begins = record { joined = sym (take-append-drop len bytes); stands = inr (not_open bytes s e other, is v says) };
+    longest = λ x more b. omega (arith, bound x.kind x.value x.text more (class_there bytes s x more e other b) b.joined, length_take len bytes within);
+  };
+}
 
--- the one operator
-pub operator_is : (text : List ℕ) (kind : TokenKind) → kind_in operators text ≡ Some kind → (text ≡ 61 ∷ []) × (kind ≡ Assign)
-operator_is text kind e =
-    let found = row_found (bytes_eq text (codes "=")) kind Assign e in
-    ((bytes_eq-Decides text (codes "=")).0 found.0, found.1)
+none_by : (bytes : List ℕ) (s : Start) → start_of bytes ≡ s → (s ≡ Comment → ⊥) → ((k : LexemeKind) (v : TokenValue) (text more : List ℕ) → Class s bytes k v text → bytes ≡ text ++ more → ⊥) → BeginsNone bytes
+none_by bytes s e other none x more b = none x.kind x.value x.text more (class_there bytes s x more e other b) b.joined
 
-shaped_as : (s : Start) (b c : ℕ) (bs cs : List ℕ) (kind : LexemeKind) → start_of c ≡ s → c ∷ cs ≡ b ∷ bs → IsShaped s c cs kind → IsShaped (start_of b) b bs kind
-shaped_as s b c bs cs kind h e shaped =
-    let first : c ≡ b = cc in
-    let rest : cs ≡ bs = cc in
-    subst (λ (p : Start × ℕ × List ℕ). IsShaped p.0 p.1 p.2 kind) (λ i. ((sym h ∙ ap start_of first) i, first i, rest i)) shaped
+-- white space
+pub blank_front : (bytes : List ℕ) → 0 < length bytes → start_of bytes ≡ Blank → IsFront bytes lexeme.Blank 1
+blank_front [] some e = absurd (omega arith)
+blank_front (b ∷ bs) some e =
+    front_by (b ∷ bs) Blank lexeme.Blank 1 e (λ no'. absurd (cc)) (omega arith) (omega arith) (value.Nothing, refl)
+    (λ v says. subst (λ (u : TokenValue). IsLexeme lexeme.Blank u (b ∷ [])) (sym says) (blank (byte_tells b bs Blank e))) (λ k v text more c joined. omega (arith, c.0))
 
-pub shape : (kind : LexemeKind) (text : List ℕ) (b : ℕ) (bs : List ℕ) → IsLexeme kind text → text ≡ b ∷ bs → IsShaped (start_of b) b bs kind
-shape kind text b bs (blank {b = c} h) e = shaped_as Blank b c bs [] kind (blank_starts c h) e (refl, refl)
-shape kind text b bs newline e = shaped_as Newline b 10 bs [] kind newline_starts e (refl, refl)
-shape kind text b bs (operator {kind = k} found) e =
-    let is = operator_is text k found in
-    shaped_as Equals b 61 bs [] kind equals_starts (sym is.0 ∙ e) (refl, ap lexeme.Token is.1)
-shape kind text b bs (name {b = c} {bs = cs} h passes) e = shaped_as Letter b c bs cs kind (letter_starts c h) e (passes, refl)
-shape kind text b bs zero_literal e = shaped_as Zero b 48 bs [] kind zero_starts e (refl, refl)
-shape kind text b bs (decimal_literal {b = c} {bs = cs} h passes) e = shaped_as Digit b c bs cs kind (digit_starts c h) e (passes, refl)
+pub newline_front : (bytes : List ℕ) → 0 < length bytes → start_of bytes ≡ Newline → IsFront bytes lexeme.Newline 1
+newline_front [] some e = absurd (omega arith)
+newline_front (b ∷ bs) some e =
+    let is = is_byte b 10 (byte_tells b bs Newline e) in
+    front_by (b ∷ bs) Newline lexeme.Newline 1 e (λ no'. absurd (cc)) (omega arith) (omega arith) (value.Nothing, refl)
+    (λ v says. subst (λ (p : TokenValue × ℕ). IsLexeme lexeme.Newline p.0 (p.1 ∷ [])) (λ i. (sym says i, sym is i)) newline) (λ k v text more c joined. omega (arith, c.0))
 
-lexeme_as : (kind k : LexemeKind) (text other : List ℕ) → kind ≡ k → text ≡ other → IsLexeme k other → IsLexeme kind text
-lexeme_as kind k text other e f is = subst (λ (p : LexemeKind × List ℕ). IsLexeme p.0 p.1) (λ i. (sym e i, sym f i)) is
+-- comments
+kind_by : (test : Bool) (k : TokenKind) → lexeme.Token k ≡ (if test then lexeme.Newline else lexeme.Blank) → ⊥
+kind_by true k e = absurd (cc)
+kind_by false k e = absurd (cc)
 
-pub shaped_lexeme : (s : Start) (b : ℕ) (bs : List ℕ) (kind : LexemeKind) → start_of b ≡ s → IsShaped s b bs kind → IsLexeme kind (b ∷ bs)
-shaped_lexeme Blank b bs kind h s = lexeme_as kind _ (b ∷ bs) _ s.1 (ap (λ (xs : List ℕ). b ∷ xs) s.0) (blank (starts_blank b h))
-shaped_lexeme Newline b bs kind h s = let e : b ≡ 10 = starts_newline b h in let f : bs ≡ [] = s.0 in lexeme_as kind _ (b ∷ bs) _ s.1 (cc) newline
-shaped_lexeme Equals b bs kind h s = let e : b ≡ 61 = starts_equals b h in let f : bs ≡ [] = s.0 in lexeme_as kind (lexeme.Token Assign) (b ∷ bs) (61 ∷ []) s.1 (cc) (operator refl)
-shaped_lexeme Letter b bs kind h s = lexeme_as kind _ (b ∷ bs) _ s.1 refl (name (starts_letter b h) s.0)
-shaped_lexeme Zero b bs kind h s = let e : b ≡ 48 = starts_zero b h in let f : bs ≡ [] = s.0 in lexeme_as kind _ (b ∷ bs) _ s.1 (cc) zero_literal
-shaped_lexeme Digit b bs kind h s = lexeme_as kind _ (b ∷ bs) _ s.1 refl (decimal_literal (starts_digit b h) s.0)
-shaped_lexeme Other b bs kind h s = absurd s
+token_no_comment : (k : TokenKind) (text : List ℕ) → lexeme.Token k ≡ comment_kind text → ⊥
+token_no_comment k text e = kind_by (starts_with (codes "//") text || list_any (λ b. b == 10) text) k e
 
-pub shaped_once : (s : Start) (b : ℕ) (bs : List ℕ) (k j : LexemeKind) → IsShaped s b bs k → IsShaped s b bs j → k ≡ j
-shaped_once Blank b bs k j p q = p.1 ∙ sym q.1
-shaped_once Newline b bs k j p q = p.1 ∙ sym q.1
-shaped_once Equals b bs k j p q = p.1 ∙ sym q.1
-shaped_once Letter b bs k j p q = p.1 ∙ sym q.1
-shaped_once Zero b bs k j p q = p.1 ∙ sym q.1
-shaped_once Digit b bs k j p q = p.1 ∙ sym q.1
-shaped_once Other b bs k j p q = absurd p
+comment_says : (kind : LexemeKind) (text : List ℕ) (v : TokenValue) → kind ≡ comment_kind text → Says kind text v → v ≡ value.Nothing
+comment_says lexeme.Blank text v e s = s
+comment_says lexeme.Newline text v e s = s
+comment_says (lexeme.Token k) text v e s = absurd (token_no_comment k text e)
 
-pub not_empty : (kind : LexemeKind) (text : List ℕ) → IsLexeme kind text → text ≡ [] → ⊥
-not_empty kind text (blank h) e = cc
-not_empty kind text newline e = cc
-not_empty kind text (operator {kind = k} found) e = let is : text ≡ 61 ∷ [] = (operator_is text k found).0 in cc
-not_empty kind text (name h passes) e = cc
-not_empty kind text zero_literal e = cc
-not_empty kind text (decimal_literal h passes) e = cc
+said_nothing : (kind : LexemeKind) (text : List ℕ) → kind ≡ comment_kind text → Says kind text value.Nothing
+said_nothing lexeme.Blank text e = refl
+said_nothing lexeme.Newline text e = refl
+said_nothing (lexeme.Token k) text e = absurd (token_no_comment k text e)
 
--- the longest run of bytes that pass a test
-run_at : (p : ℕ → Bool) (x : ℕ) (xs : List ℕ) (b : Bool) → p x ≡ b → Passes p (take (prefix_len p xs) xs) → Passes p (take (cond b (1 + prefix_len p xs) 0) (x ∷ xs))
-run_at p x xs true e passes = rw one-add (e, passes)
-run_at p x xs false e passes = tt
+same_some : (m n : ℕ) → ◌≡◌ {A = Option ℕ} (Some m) (Some n) → m ≡ n
+same_some m n e = cc
 
-pub run_passes : (p : ℕ → Bool) (xs : List ℕ) → Passes p (take (prefix_len p xs) xs)
-run_passes p [] = tt
-run_passes p (x ∷ xs) = run_at p x xs (p x) refl (run_passes p xs)
+-- where a comment opens, only a comment stands
+comment_there : (bytes : List ℕ) (x : Lexeme) (more : List ℕ) → opens_comment bytes ≡ true → Begins bytes x more → comment_len bytes ≡ Some (length x.text)
+comment_there bytes x more opened b = elim b.stands [ inl c ↦ c.len | inr p ↦ absurd (let closed = p.0 in cc) ]
 
-run_most : (p : ℕ → Bool) (front more : List ℕ) → Passes p front → length front ≤ prefix_len p (front ++ more)
-run_most p [] more passes = omega arith
-run_most p (x ∷ front) more passes = rw (passes.0) (omega (arith, run_most p front more passes.1))
-
--- how many bytes go on a lexeme of this start
-abbrev pub run_of : Start → List ℕ → ℕ
-run_of Letter bs = prefix_len is_name_byte bs
-run_of Digit bs = prefix_len is_digit bs
-run_of _ bs = 0
-
-pub run_of-le-length : (s : Start) (bs : List ℕ) → run_of s bs ≤ length bs
-run_of-le-length Letter bs = prefix_len-le-length is_name_byte bs
-run_of-le-length Digit bs = prefix_len-le-length is_digit bs
-run_of-le-length _ bs = omega arith
-
-shaped_most : (s : Start) (b : ℕ) (bs more : List ℕ) (kind : LexemeKind) → IsShaped s b bs kind → length bs ≤ run_of s (bs ++ more)
-shaped_most Blank b bs more kind s = omega (arith, ap length s.0)
-shaped_most Newline b bs more kind s = omega (arith, ap length s.0)
-shaped_most Equals b bs more kind s = omega (arith, ap length s.0)
-shaped_most Letter b bs more kind s = run_most is_name_byte bs more s.0
-shaped_most Zero b bs more kind s = omega (arith, ap length s.0)
-shaped_most Digit b bs more kind s = run_most is_digit bs more s.0
-shaped_most Other b bs more kind s = absurd s
-
-pub no_longer : (b : ℕ) (bs : List ℕ) (kind : LexemeKind) (text more : List ℕ) → Begins (b ∷ bs) kind text more → length text ≤ suc (run_of (start_of b) bs)
-no_longer b bs kind [] more begins = omega arith
-no_longer b bs kind (o ∷ os) more begins =
-    let first : b ≡ o = head_same b o bs (os ++ more) begins.joined in
-    let rest : bs ≡ os ++ more = tail_same b o bs (os ++ more) begins.joined in
-    let shaped = shape kind (o ∷ os) o os begins.stands refl in
-    let most : length os ≤ run_of (start_of o) (os ++ more) = shaped_most (start_of o) o os more kind shaped in
-    let here : length os ≤ run_of (start_of b) bs = subst (λ (p : ℕ × List ℕ). length os ≤ run_of (start_of p.0) p.1) (λ i. (sym first i, sym rest i)) most in
-    omega arith
-
-pub split : (n : ℕ) (xs : List ℕ) → xs ≡ take n xs ++ drop n xs
-split zero xs = refl
-split (suc n) [] = refl
-split (suc n) (x ∷ xs) = ap (λ (ys : List ℕ). x ∷ ys) (split n xs)
-
-pub length_taken : (n : ℕ) (xs : List ℕ) → n ≤ length xs → length (take n xs) ≡ n
-length_taken zero xs h = refl
-length_taken (suc n) [] h = absurd (omega arith)
-length_taken (suc n) (x ∷ xs) h = ap suc (length_taken n xs (omega arith))
-
--- a lexeme with all the bytes that can go on it is the front
-pub front : (bytes : List ℕ) (s : Start) (kind : LexemeKind) (n : ℕ) → 0 < length bytes → start_of (get_or bytes 0 0) ≡ s → n ≡ run_of s (drop 1 bytes)
-    → IsShaped s (get_or bytes 0 0) (take n (drop 1 bytes)) kind → IsFront bytes kind (1 + n)
-front [] s kind n more h e shaped = absurd (omega arith)
-front (b ∷ bs) s kind n more h e shaped =
-    let most : suc n ≡ suc (run_of (start_of b) bs) = ap suc (e ∙ ap (λ (t : Start). run_of t bs) (sym h)) in
-    let within : suc n ≤ length (b ∷ bs) = omega (arith, e, run_of-le-length s bs) in
-    rw one-add (record {
-      some = omega arith;
-      within = within;
-      longest = record {
-        begins = record { joined = split (suc n) (b ∷ bs); stands = shaped_lexeme s b (take n bs) kind h shaped };
-        longest = λ k other rest begins.
-            subst (λ (m : ℕ). length other ≤ m) (sym (length_taken (suc n) (b ∷ bs) within ∙ most)) (no_longer b bs k other rest begins);
+pub comment_front : (bytes : List ℕ) (f : Front) → IsCommentFront bytes f → IsFront bytes f.kind f.len
+comment_front bytes f c =
+    let size = length_take f.len bytes c.within in
+    let opened = comment_opens bytes f.len c.len_is in
+    record {
+      some = c.some;
+      within = c.within;
+      says = (value.Nothing, said_nothing f.kind (take f.len bytes) c.kind_is);
+      longest = λ v says. record {
+        begins = record {
+          joined = sym (take-append-drop f.len bytes);
+          stands = inl (record { len = c.len_is ∙ ap Some (sym size); kind_is = c.kind_is; silent = comment_says f.kind (take f.len bytes) v c.kind_is says });
+        };
+        longest = λ x more b. omega (arith, size, same_some (length x.text) f.len (sym (comment_there bytes x more opened b) ∙ c.len_is));
       };
-    })
+    }
 
-pub none_begins : (bytes : List ℕ) → 0 < length bytes → start_of (get_or bytes 0 0) ≡ Other → BeginsNone bytes
-none_begins [] more h kind text rest begins = absurd (omega arith)
-none_begins (b ∷ bs) more h kind [] rest begins = not_empty kind [] begins.stands refl
-none_begins (b ∷ bs) more h kind (o ∷ os) rest begins =
-    let shaped = shape kind (o ∷ os) o os begins.stands refl in
-    let other : start_of o ≡ Other = sym (ap start_of (head_same b o bs (os ++ rest) begins.joined)) ∙ h in
-    subst (λ (s : Start). IsShaped s o os kind) other shaped
+pub no_comment : (bytes : List ℕ) → 0 < length bytes → start_of bytes ≡ Comment → comment_len bytes ≡ None → BeginsNone bytes
+no_comment [] some e none x more b = absurd (omega arith)
+no_comment (c ∷ cs) some e none x more b = absurd (let there = comment_there (c ∷ cs) x more (open_from c cs e) b in cc)
 
-take_of_length : (xs : List ℕ) → take (length xs) xs ≡ xs
-take_of_length [] = refl
-take_of_length (x ∷ xs) = ap (λ (ys : List ℕ). x ∷ ys) (take_of_length xs)
+-- numbers
+number_lexeme : (kind : TokenKind) (text : List ℕ) → IsNumber kind text → IsLexeme (lexeme.Token kind) (plain_value kind text) text
+number_lexeme kind text (int_number i) = integer i
+number_lexeme kind text (float_number f) = float f
+number_lexeme kind text (imaginary_number m) = imaginary m
 
--- what is past a place, as the code's range has it
-pub past_place : (n : ℕ) (xs : List ℕ) → take (length xs - n) (drop n xs) ≡ drop n xs
-past_place n xs = rw (sym (length-drop n xs)) (take_of_length (drop n xs))
+begins_at : (bytes : List ℕ) → 0 < length bytes → start_of bytes ≡ Number → begins_number bytes ≡ true
+begins_at [] some e = absurd (omega arith)
+begins_at (b ∷ bs) some e = byte_tells b bs Number e
 
-first_and_more : (n : ℕ) (bytes : List ℕ) → 0 < length bytes → take (1 + n) bytes ≡ get_or bytes 0 0 ∷ take n (drop 1 bytes)
-first_and_more n [] more = absurd (omega arith)
-first_and_more n (b ∷ bs) more = rw one-add refl
+number_bound : (bytes text more : List ℕ) (kind : TokenKind) → IsNumber kind text → bytes ≡ text ++ more → length text ≤ (number_at bytes).len
+number_bound bytes text more kind is e = subst (λ (xs : List ℕ). length text ≤ (number_at xs).len) (sym e) ((number_claim kind text more is).bound)
 
-pub name_front : (bytes : List ℕ) (kind : TokenKind) (n : ℕ) → 0 < length bytes → start_of (get_or bytes 0 0) ≡ Letter → n ≡ prefix_len is_name_byte (take (length bytes - 1) (drop 1 bytes))
-    → kind ≡ name_kind (take (1 + n) bytes) → IsFront bytes (lexeme.Token kind) (1 + n)
-name_front bytes kind n more h e is =
-    let run : n ≡ prefix_len is_name_byte (drop 1 bytes) = e ∙ ap (prefix_len is_name_byte) (past_place 1 bytes) in
-    front bytes Letter (lexeme.Token kind) n more h run (
-      subst (λ (m : ℕ). Passes is_name_byte (take m (drop 1 bytes))) (sym run) (run_passes is_name_byte (drop 1 bytes)),
-      ap lexeme.Token (is ∙ ap name_kind (first_and_more n bytes more)),
-    )
+pub number_front : (bytes : List ℕ) → 0 < length bytes → start_of bytes ≡ Number → IsFront bytes (lexeme.Token (number_at bytes).kind) (number_at bytes).len
+number_front bytes some e =
+    let n = number_at bytes in
+    let at = number_stands bytes (begins_at bytes some e) in
+    front_by bytes Number (lexeme.Token n.kind) n.len e (λ no'. absurd (cc)) at.some at.within (plain_value n.kind (take n.len bytes), number_lexeme n.kind (take n.len bytes) at.stands)
+    (λ v says. says)
+    (λ k v text more c joined. elim c [ inl p ↦ number_bound bytes text more p.0 p.1 joined | inr p ↦ omega (arith, ap length p.0, at.some) ])
 
-pub decimal_front : (bytes : List ℕ) (n : ℕ) → 0 < length bytes → start_of (get_or bytes 0 0) ≡ Digit → n ≡ prefix_len is_digit (take (length bytes - 1) (drop 1 bytes))
-    → IsFront bytes (lexeme.Token IntLit) (1 + n)
-decimal_front bytes n more h e =
-    let run : n ≡ prefix_len is_digit (drop 1 bytes) = e ∙ ap (prefix_len is_digit) (past_place 1 bytes) in
-    front bytes Digit (lexeme.Token IntLit) n more h run
-    (subst (λ (m : ℕ). Passes is_digit (take m (drop 1 bytes))) (sym run) (run_passes is_digit (drop 1 bytes)), refl)
+-- literals in quotes
+first_is : (q : ℕ) (bytes : List ℕ) → ((b : ℕ) (bs : List ℕ) → bytes ≡ b ∷ bs → (b == q) ≡ true) → 0 < length bytes → bytes ≡ q ∷ drop 1 bytes
+first_is q [] f some = absurd (omega arith)
+first_is q (b ∷ bs) f some = ap (λ (x : ℕ). x ∷ bs) (is_byte b q (f b bs refl))
+
+pub rune_first : (bytes : List ℕ) → 0 < length bytes → start_of bytes ≡ Rune → bytes ≡ 39 ∷ drop 1 bytes
+rune_first bytes some e = first_is 39 bytes (λ b bs is. byte_tells b bs Rune (ap start_of (sym is) ∙ e)) some
+
+pub quoted_first : (bytes : List ℕ) → 0 < length bytes → start_of bytes ≡ Quoted → bytes ≡ 34 ∷ drop 1 bytes
+quoted_first bytes some e = first_is 34 bytes (λ b bs is. byte_tells b bs Quoted (ap start_of (sym is) ∙ e)) some
+
+pub raw_first : (bytes : List ℕ) → 0 < length bytes → start_of bytes ≡ Raw → bytes ≡ 96 ∷ drop 1 bytes
+raw_first bytes some e = first_is 96 bytes (λ b bs is. byte_tells b bs Raw (ap start_of (sym is) ∙ e)) some
+
+rune_lexeme : (text : List ℕ) → IsRune text → (said : TokenValue) × IsLexeme (lexeme.Token token.RuneLit) said text
+rune_lexeme text r = (value.Rune (meaning_number r.1), subst (IsLexeme (lexeme.Token token.RuneLit) (value.Rune (meaning_number r.1))) (sym r.3) (rune r.2))
+
+string_lexeme : (text : List ℕ) → IsString text → (said : TokenValue) × IsLexeme (lexeme.Token token.StrLit) said text
+string_lexeme text s = (value.Str s.1, subst (IsLexeme (lexeme.Token token.StrLit) (value.Str s.1)) (sym s.3) (string s.2))
+
+raw_lexeme : (text : List ℕ) → IsRaw text → (said : TokenValue) × IsLexeme (lexeme.Token token.StrLit) said text
+raw_lexeme text s = (value.Str (raw_bytes s.0), subst (IsLexeme (lexeme.Token token.StrLit) (value.Str (raw_bytes s.0))) (sym s.3) (raw_string s.0 s.1 s.2))
+
+only_as : (P : List ℕ → Type 0) (bytes other : List ℕ) (n : ℕ) → bytes ≡ other → IsOnly P other n → IsOnly P bytes n
+only_as P bytes other n e o = subst (λ (xs : List ℕ). IsOnly P xs n) (sym e) o
+
+none_as : (P : List ℕ → Type 0) (bytes other : List ℕ) → bytes ≡ other → HasNone P other → HasNone P bytes
+none_as P bytes other e o = subst (HasNone P) (sym e) o
+
+pub rune_front : (bytes behind : List ℕ) (n : ℕ) → 0 < length bytes → start_of bytes ≡ Rune → behind ≡ drop 1 bytes → IsOnly IsRune (39 ∷ behind) n → IsFront bytes (lexeme.Token token.RuneLit) n
+rune_front bytes behind n some e is only =
+    let o = only_as IsRune bytes (39 ∷ behind) n (rune_first bytes some e ∙ ap (λ (xs : List ℕ). 39 ∷ xs) (sym is)) only in
+    front_by bytes Rune (lexeme.Token token.RuneLit) n e (λ no'. absurd (cc)) o.some o.within (rune_lexeme (take n bytes) o.stands) (λ v says. says)
+    (λ k v text more c joined. omega (arith, o.only text more (c.0, c.1, c.2, c.3) joined))
+
+pub no_rune : (bytes behind : List ℕ) → 0 < length bytes → start_of bytes ≡ Rune → behind ≡ drop 1 bytes → HasNone IsRune (39 ∷ behind) → BeginsNone bytes
+no_rune bytes behind some e is none =
+    let o = none_as IsRune bytes (39 ∷ behind) (rune_first bytes some e ∙ ap (λ (xs : List ℕ). 39 ∷ xs) (sym is)) none in
+    none_by bytes Rune e (λ no'. absurd (cc)) (λ k v text more c joined. o text more (c.0, c.1, c.2, c.3) joined)
+
+pub string_front : (bytes behind : List ℕ) (n : ℕ) → 0 < length bytes → start_of bytes ≡ Quoted → behind ≡ drop 1 bytes → IsOnly IsString (34 ∷ behind) n → IsFront bytes (lexeme.Token token.StrLit) n
+string_front bytes behind n some e is only =
+    let o = only_as IsString bytes (34 ∷ behind) n (quoted_first bytes some e ∙ ap (λ (xs : List ℕ). 34 ∷ xs) (sym is)) only in
+    front_by bytes Quoted (lexeme.Token token.StrLit) n e (λ no'. absurd (cc)) o.some o.within (string_lexeme (take n bytes) o.stands) (λ v says. says)
+    (λ k v text more c joined. omega (arith, o.only text more (c.0, c.1, c.2, c.3) joined))
+
+pub no_string : (bytes behind : List ℕ) → 0 < length bytes → start_of bytes ≡ Quoted → behind ≡ drop 1 bytes → HasNone IsString (34 ∷ behind) → BeginsNone bytes
+no_string bytes behind some e is none =
+    let o = none_as IsString bytes (34 ∷ behind) (quoted_first bytes some e ∙ ap (λ (xs : List ℕ). 34 ∷ xs) (sym is)) none in
+    none_by bytes Quoted e (λ no'. absurd (cc)) (λ k v text more c joined. o text more (c.0, c.1, c.2, c.3) joined)
+
+pub raw_front : (bytes behind : List ℕ) (n : ℕ) → 0 < length bytes → start_of bytes ≡ Raw → behind ≡ drop 1 bytes → IsOnly IsRaw (96 ∷ behind) n → IsFront bytes (lexeme.Token token.StrLit) n
+raw_front bytes behind n some e is only =
+    let o = only_as IsRaw bytes (96 ∷ behind) n (raw_first bytes some e ∙ ap (λ (xs : List ℕ). 96 ∷ xs) (sym is)) only in
+    front_by bytes Raw (lexeme.Token token.StrLit) n e (λ no'. absurd (cc)) o.some o.within (raw_lexeme (take n bytes) o.stands) (λ v says. says)
+    (λ k v text more c joined. omega (arith, o.only text more (c.0, c.1, c.2, c.3) joined))
+
+pub no_raw : (bytes behind : List ℕ) → 0 < length bytes → start_of bytes ≡ Raw → behind ≡ drop 1 bytes → HasNone IsRaw (96 ∷ behind) → BeginsNone bytes
+no_raw bytes behind some e is none =
+    let o = none_as IsRaw bytes (96 ∷ behind) (raw_first bytes some e ∙ ap (λ (xs : List ℕ). 96 ∷ xs) (sym is)) none in
+    none_by bytes Raw e (λ no'. absurd (cc)) (λ k v text more c joined. o text more (c.0, c.1, c.2, c.3) joined)
+
+-- names
+name_lexeme : (text : List ℕ) → IsName text → IsLexeme (lexeme.Token (name_kind text)) (plain_value (name_kind text) text) text
+name_lexeme text n = name n.0 n.1 n.2 n.3 n.4 n.5
+
+pub name_front : (bytes : List ℕ) (kind : TokenKind) (n : ℕ) → start_of bytes ≡ Name → IsLongestName bytes n → kind ≡ name_kind (take n bytes) → IsFront bytes (lexeme.Token kind) n
+name_front bytes kind n e l is =
+    subst (λ (k : TokenKind). IsFront bytes (lexeme.Token k) n) (sym is)
+    (front_by bytes Name (lexeme.Token (name_kind (take n bytes))) n e (λ no'. absurd (cc)) l.some l.within (plain_value (name_kind (take n bytes)) (take n bytes), name_lexeme (take n bytes) l.stands) (λ v says. says)
+    (λ k v text more c joined. l.longest text more c.0 joined))
+
+pub no_name : (bytes : List ℕ) → start_of bytes ≡ Name → HasNoName bytes → BeginsNone bytes
+no_name bytes e none = none_by bytes Name e (λ no'. absurd (cc)) (λ k v text more c joined. none text more c.0 joined)
+
+-- operators
+same_operator : (o p : Operator) → ◌≡◌ {A = Option Operator} (Some o) (Some p) → o ≡ p
+same_operator o p e = cc
+
+operator_bound : (bytes text more : List ℕ) (kind : TokenKind) (o : Operator) → kind_in operators text ≡ Some kind → bytes ≡ text ++ more → operator_at bytes ≡ Some o → length text ≤ o.len
+operator_bound bytes text more kind o row joined found =
+    let c = operator_claim text more kind row in
+    let same : c.0 ≡ o = same_operator c.0 o (sym c.1 ∙ ap operator_at (sym joined) ∙ found) in
+    subst (λ (p : Operator). length text ≤ p.len) same c.2.bound
+
+pub operator_front : (bytes : List ℕ) (o : Operator) → start_of bytes ≡ Sign → operator_at bytes ≡ Some o → IsFront bytes (lexeme.Token o.kind) o.len
+operator_front bytes o e found =
+    let s = operator_stands bytes o found in
+    front_by bytes Sign (lexeme.Token o.kind) o.len e (λ no'. absurd (cc)) s.some s.within (plain_value o.kind (take o.len bytes), operator s.stands) (λ v says. says)
+    (λ k v text more c joined. operator_bound bytes text more c.0 o c.1 joined found)
+
+pub no_operator : (bytes : List ℕ) → start_of bytes ≡ Sign → operator_at bytes ≡ None → BeginsNone bytes
+no_operator bytes e none =
+    none_by bytes Sign e (λ no'. absurd (cc))
+    (λ k v text more c joined. let claim = operator_claim text more c.0 c.1 in absurd (let here : ◌≡◌ {A = Option Operator} (Some claim.0) None = sym claim.1 ∙ ap operator_at (sym joined) ∙ none in cc))
+
+-- a front that a function has made
+pub front_as : (bytes : List ℕ) (f g : Front) → f ≡ g → IsFront bytes g.kind g.len → IsFront bytes f.kind f.len
+front_as bytes f g e h = subst (λ (x : Front). IsFront bytes x.kind x.len) (sym e) h

@@ -1,18 +1,32 @@
--- What the scanner tells of the bytes before it.
-use Rattle.std.specs.Prelude.{◌<◌, ◌≤◌, ◌==◌, ℕ, if◌then◌else◌, List, length, take, drop}
+-- The longest lexeme at the front of some bytes.
+use Rattle.std.specs.Prelude.{◌≡◌, ◌<◌, ◌≤◌, ℕ, Some, List, length, take, drop}
 use Rattle.go_model.specs.declared.token.LexemeKind.{LexemeKind}
-use Rattle.go_model.specs.Lexemes.{is_blank, is_letter, is_first_digit, BeginsLongest}
-use Rattle.go_lex.specs.declared.scan.Start.{Start}
-use Rattle.go_lex.specs.declared.scan.Start.TheVariants.{Blank, Newline, Equals, Letter, Zero, Digit, Other}
+use Rattle.go_model.specs.declared.token.LexemeKind.TheVariants as lexeme
+use Rattle.go_model.specs.declared.token.TokenValue.{TokenValue}
+use Rattle.go_model.specs.declared.token.TokenValue.TheVariants as value
+use Rattle.go_model.specs.Lexemes.{IsLexeme, Lexeme, BeginsLongest, comment_kind}
+use Rattle.go_model.specs.Headers.{comment_len}
+use Rattle.go_lex.specs.declared.front.Front.{Front}
 
--- which lexemes a byte begins
-unfoldable pub start_of : ℕ → Start
-start_of b =
-    if is_blank b then Blank else (if b == 10 then Newline else (if b == 61 then Equals
-    else (if is_letter b then Letter else (if b == 48 then Zero else (if is_first_digit b then Digit else Other)))))
+-- what a lexeme of this kind and text says: white space and comments say nothing
+abbrev pub Says : LexemeKind → List ℕ → TokenValue → Type 0
+Says (lexeme.Token kind) text said = IsLexeme (lexeme.Token kind) said text
+Says _ text said = said ≡ value.Nothing
+
+-- a lexeme of this kind, value and text
+abbrev pub lexeme_of : LexemeKind → TokenValue → List ℕ → Lexeme
+lexeme_of kind said text = record { kind = kind; value = said; text = text }
 
 -- the longest lexeme at the front has this kind and this many bytes
 pub record IsFront (bytes : List ℕ) (kind : LexemeKind) (len : ℕ) : Type 0 where
   pub some : 0 < len
   pub within : len ≤ length bytes
-  pub longest : BeginsLongest bytes kind (take len bytes) (drop len bytes)
+  pub says : (said : TokenValue) × Says kind (take len bytes) said
+  pub longest : (said : TokenValue) → Says kind (take len bytes) said → BeginsLongest bytes (lexeme_of kind said (take len bytes)) (drop len bytes)
+
+-- the comment at the front
+pub record IsCommentFront (bytes : List ℕ) (front : Front) : Type 0 where
+  pub some : 0 < front.len
+  pub within : front.len ≤ length bytes
+  pub len_is : comment_len bytes ≡ Some front.len
+  pub kind_is : front.kind ≡ comment_kind (take front.len bytes)

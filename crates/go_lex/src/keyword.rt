@@ -1,6 +1,6 @@
 //! The keywords.
 ghost use Rattle.std.specs.Prelude.{◌≡◌};
-ghost use Rattle.go_model.specs.Lexemes.{kind_in, keywords, name_kind};
+ghost use Rattle.go_model.specs.Words.{kind_in, keywords, name_kind};
 ghost use Rattle.go_lex.specs.Keywords.{short_keywords, keywords_of_four, keywords_of_five, keywords_of_six, long_keywords};
 
 use go_model::token::TokenKind;

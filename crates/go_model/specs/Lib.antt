@@ -1,3 +1,4 @@
+pub mod Alphabets
 pub mod Assignability
 pub mod Bits
 pub mod BuildConstraints
@@ -15,9 +16,11 @@ pub mod Keys
 pub mod Lexemes
 pub mod Lists
 pub mod MethodSets
+pub mod Numbers
 pub mod Operators
 pub mod Outline
 pub mod Platforms
+pub mod Quotes
 pub mod Selectors
 pub mod Tables
 pub mod Tags
@@ -27,5 +30,6 @@ pub mod Tokens
 pub mod Trees
 pub mod TypeNames
 pub mod Underlying
+pub mod Words
 pub mod Worlds
 pub mod formers

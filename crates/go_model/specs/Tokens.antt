@@ -1,7 +1,7 @@
--- The tokens of a Go source file, after the Go specification, "Lexical elements": "Tokens",
--- "Semicolons" and "Integer literals". They are read off the cut of the file into lexemes.
+-- The tokens of a Go source file, after the Go specification, "Lexical elements": "Tokens" and
+-- "Semicolons". They are read off the cut of the file into lexemes.
 -- In crate go_lex, proofs/Scanned.antt shows that the scanner gives these tokens.
-use Rattle.std.specs.Prelude.{◌≡◌, ℕ, ◌+◌, ◌-◌, ◌*◌, ◌^◌, nat_lt, pos, Bool, true, false, if◌then◌else◌, Option, Some, None, List, [], ◌∷◌, ◌++◌, length}
+use Rattle.std.specs.Prelude.{◌≡◌, ℕ, ◌+◌, ◌-◌, Bool, true, false, if◌then◌else◌, Option, Some, None, List, [], ◌∷◌, ◌++◌, length}
 use Rattle.go_model.specs.declared.token.TokenKind.{TokenKind}
 use Rattle.go_model.specs.declared.token.TokenKind.TheVariants.{Ident, IntLit, FloatLit, ImagLit, RuneLit, StrLit, BreakWord, ContinueWord, FallthroughWord, ReturnWord, Increment, Decrement, RightParen, RightBracket, RightBrace, Semicolon}
 use Rattle.go_model.specs.declared.token.TokenValue.{TokenValue}
@@ -9,26 +9,8 @@ use Rattle.go_model.specs.declared.token.TokenValue.TheVariants as value
 use Rattle.go_model.specs.declared.token.Token.{Token}
 use Rattle.go_model.specs.declared.token.LexemeKind.{LexemeKind}
 use Rattle.go_model.specs.declared.token.LexemeKind.TheVariants as lexeme
+use Rattle.go_model.specs.Headers.{without_mark}
 use Rattle.go_model.specs.Lexemes.{Lexeme, CutTo}
-
--- the number whose decimal digits are those of `n` and then these
-abbrev pub decimal_from : ℕ → List ℕ → ℕ
-decimal_from n [] = n
-decimal_from n (d ∷ ds) = decimal_from (n * 10 + (d - 48)) ds
-
--- the number that a decimal literal writes
-abbrev pub decimal_value : List ℕ → ℕ
-decimal_value digits = decimal_from 0 digits
-
--- a whole number as a token's value
-abbrev pub number_value : ℕ → TokenValue
-number_value n = if nat_lt n (2 ^ 127) then value.Number (pos n) else value.Wide
-
--- what a token of this kind and text says
-abbrev pub token_value : TokenKind → List ℕ → TokenValue
-token_value Ident text = value.Ident text
-token_value IntLit text = number_value (decimal_value text)
-token_value _ text = value.Nothing
 
 -- after a token of these kinds a newline ends a statement
 abbrev pub ends_line : TokenKind → Bool
@@ -55,12 +37,11 @@ abbrev pub inserted : Option ℕ → List Token
 inserted None = []
 inserted (Some end) = record { kind = Semicolon; start = end; end = end; inserted = true; value = value.Nothing } ∷ []
 
--- the tokens that a lexeme gives
-abbrev pub lexeme_tokens : LexemeKind → List ℕ → ℕ → Option ℕ → List Token
-lexeme_tokens lexeme.Blank text start pending = []
-lexeme_tokens lexeme.Newline text start pending = inserted pending
-lexeme_tokens (lexeme.Token kind) text start pending =
-    record { kind = kind; start = start; end = start + length text; inserted = false; value = token_value kind text } ∷ []
+-- the tokens that a lexeme of this kind, value and length gives
+abbrev pub lexeme_tokens : LexemeKind → TokenValue → ℕ → ℕ → Option ℕ → List Token
+lexeme_tokens lexeme.Blank said len start pending = []
+lexeme_tokens lexeme.Newline said len start pending = inserted pending
+lexeme_tokens (lexeme.Token kind) said len start pending = record { kind = kind; start = start; end = start + len; inserted = false; value = said } ∷ []
 
 -- where a semicolon is wanted after a lexeme
 abbrev pub pending_after : LexemeKind → ℕ → Option ℕ → Option ℕ
@@ -72,10 +53,10 @@ pending_after (lexeme.Token kind) end pending = if ends_line kind then Some end 
 abbrev pub tokens_of : ℕ → Option ℕ → List Lexeme → List Token
 tokens_of start pending [] = inserted pending
 tokens_of start pending (x ∷ xs) =
-    lexeme_tokens x.kind x.text start pending ++ tokens_of (start + length x.text) (pending_after x.kind (start + length x.text) pending) xs
+    lexeme_tokens x.kind x.value (length x.text) start pending ++ tokens_of (start + length x.text) (pending_after x.kind (start + length x.text) pending) xs
 
--- the tokens of a file
+-- the tokens of a file: those of its cut behind a byte order mark at its start
 pub record IsTokens (bytes : List ℕ) (tokens : List Token) : Type 0 where
   pub lexemes : List Lexeme
-  pub cut : CutTo bytes lexemes []
-  pub tokens_are : tokens ≡ tokens_of 0 None lexemes
+  pub cut : CutTo (without_mark bytes) lexemes []
+  pub tokens_are : tokens ≡ tokens_of (length bytes - length (without_mark bytes)) None lexemes

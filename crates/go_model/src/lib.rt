@@ -1,10 +1,12 @@
-//! The vocabulary of the gate: small containers, tokens, the syntax of Go, platforms and trees of
-//! files, which its layers share.
+//! The vocabulary of the gate: small containers, characters, tokens, the syntax of Go, values, kinds and types,
+//! platforms and trees of files, which its layers share.
 #![tactic(auto)]
 
 pub mod boxed;
 pub mod build;
+pub mod characters;
 pub mod class;
+pub mod front;
 pub mod list;
 pub mod memory;
 pub mod platform;

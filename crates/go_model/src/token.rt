@@ -100,6 +100,13 @@ pub enum LexemeKind {
     Token(TokenKind),
 }
 
+/// What a character or an escape of a rune or string literal stands for.
+#[derive(Clone, Copy, Debug, PartialEq, Eq)]
+pub enum Meaning {
+    Character(char),
+    Byte(u8),
+}
+
 /// What a token says besides its kind. Keywords, operators, floating and imaginary literals say
 /// nothing.
 #[derive(Drop)]

@@ -6,8 +6,8 @@ use Rattle.std.proofs.lemmas.List.{take-append-drop}
 use Rattle.go_model.specs.Characters.{is_name_character, BeginsPassing, IsRun}
 use Rattle.go_model.specs.Headers.{IsFront, BeginsClause}
 use Rattle.go_tags.specs.Clauses.{IsBehindKeyword}
-use Rattle.go_tags.proofs.Fronts.{front_once}
-use Rattle.go_tags.proofs.Runs.{run_once, run_zero, run_some}
+use Rattle.go_model.proofs.Fronts.{front_once}
+use Rattle.go_model.proofs.Runs.{run_once, run_zero, run_some}
 
 behind_same : (bytes one two : List ℕ) → bytes ≡ codes "package" ++ one → bytes ≡ codes "package" ++ two → one ≡ two
 behind_same bytes one two e f = sym (ap (drop 7) e) ∙ ap (drop 7) f

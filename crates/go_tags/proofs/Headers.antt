@@ -10,7 +10,7 @@ use Rattle.go_tags.specs.declared.error.TagError.TheVariants.{BadExpression, Twi
 use Rattle.go_tags.specs.HeaderCauses.{HasCause, IsOwnCause}
 use Rattle.go_tags.proofs.Complete.{expression_once}
 use Rattle.go_tags.proofs.Stepping.{parts_once}
-use Rattle.go_tags.proofs.Fronts.{front_once}
+use Rattle.go_model.proofs.Fronts.{front_once}
 use Rattle.go_tags.proofs.Clauses.{clause_once}
 
 pub text_once : (text : List ℕ) (x y : Constraint) → IsExpression text x → IsExpression text y → x ≡ y

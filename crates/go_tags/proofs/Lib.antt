@@ -1,11 +1,8 @@
 pub mod Clauses
 pub mod Complete
-pub mod Fronts
 pub mod Headers
-pub mod Lists
 pub mod Named
 pub mod NameEnds
-pub mod Runs
 pub mod Scans
 pub mod Sound
 pub mod Stepping

@@ -9,7 +9,7 @@ use Rattle.go_model.specs.declared.platform.Platform.{Platform}
 use Rattle.go_model.specs.BuildTags.{is_satisfied}
 use Rattle.go_model.specs.BuildValues.{without_test, demanded, name_holds}
 use Rattle.go_tags.specs.NameParts.{parts_back}
-use Rattle.go_tags.proofs.Lists.{split_at, rest_from, take_past}
+use Rattle.go_model.proofs.Lists.{split_at, rest_from, take_past}
 
 abbrev underscore : ℕ → Bool
 underscore b = b == 95

@@ -10,8 +10,8 @@ use Rattle.go_model.specs.declared.build.ConstraintPart.TheVariants as part
 use Rattle.go_model.specs.BuildConstraints.{is_blank, AreParts, no_part, blank, or_sign, and_sign, not_sign, open_sign, close_sign, tag}
 use Rattle.go_tags.specs.declared.parts.Step.{Step}
 use Rattle.go_tags.specs.Parts.{is_next, sign_at, onto, BeginsStep}
-use Rattle.go_tags.proofs.Runs.{run_once}
-use Rattle.go_tags.proofs.Lists.{length_take, drop_past}
+use Rattle.go_model.proofs.Runs.{run_once}
+use Rattle.go_model.proofs.Lists.{length_take, drop_past}
 
 no_tag_space : is_tag_character 32 ≡ false
 unfolding ucd_category

@@ -1,4 +1,3 @@
-pub mod Alphabets
 pub mod Causes
 pub mod Clauses
 pub mod HeaderCauses

@@ -5,9 +5,9 @@ ghost use Rattle.go_model.specs.Characters.{is_letter, is_name_character, Begins
 ghost use Rattle.go_tags.specs.Clauses.{IsBehindKeyword};
 ghost use Rattle.go_model.specs.Headers.{keywords, IsPackageName, BeginsClause, IsClause};
 
-use crate::characters::{Alphabet, begins_with_letter, run_len};
-use crate::front::past_front;
 use crate::words::is_one_of;
+use go_model::characters::{Alphabet, begins_with_letter, run_len};
+use go_model::front::past_front;
 
 #[rattlefmt::skip]
 const KEYWORDS: [&[u8]; 25] = [

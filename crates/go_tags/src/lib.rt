@@ -2,13 +2,11 @@
 //! files a platform chooses.
 #![tactic(auto)]
 
-mod characters;
 pub mod choice;
 mod clause;
 mod cursor;
 pub mod error;
 mod expression;
-mod front;
 pub mod header;
 mod lines;
 mod parts;

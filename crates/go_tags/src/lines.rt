@@ -5,7 +5,7 @@ ghost use Rattle.go_model.specs.BuildConstraints.{is_blank};
 ghost use Rattle.go_model.specs.Headers.{starts_with, build_texts, ends_word, after_word, build_text, without_blanks, is_plus_line, is_open_after, opening_comment, opening_comments, IsFront};
 ghost use Rattle.go_tags.specs.Lines.{Counts, Sums, IsScan};
 
-use crate::front::piece_len;
+use go_model::front::piece_len;
 
 /// The build lines so far.
 #[derive(Clone, Copy)]
