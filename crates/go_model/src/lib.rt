@@ -1,5 +1,5 @@
-//! The vocabulary of the gate: small containers, tokens, the syntax of Go, platforms and trees of
-//! files, which its layers share.
+//! The vocabulary of the gate: small containers, tokens, the syntax of Go, values and kinds of
+//! constants, platforms and trees of files, which its layers share.
 #![tactic(auto)]
 
 pub mod boxed;
