@@ -4,9 +4,8 @@ use Rattle.std.specs.Char.{encode_utf8, len_utf8}
 use Rattle.std.proofs.lemmas.Str.{length-encode}
 use Rattle.std.proofs.lemmas.Bool.Decides.{nat_tests}
 use Rattle.std.specs.Bool.{if◌then◌else◌}
-use Rattle.go_const.specs.Constancy.{IsConstant}
 use Rattle.go_model.specs.Classes.{class_of, class_of_basic, is_inexact, is_string}
-use Rattle.go_model.specs.Constants.{as_text, binary_value, character_of, converted, is_in_range, is_of, is_representable, kept, shift_value, unary_value}
+use Rattle.go_model.specs.Constants.{IsConstant, as_text, binary_value, character_of, converted, is_in_range, is_of, is_representable, kept, shift_value, unary_value}
 use Rattle.go_model.specs.Operators.{binary_applies, shift_applies, unary_applies}
 use Rattle.go_model.specs.declared.class.Class.{Class}
 use Rattle.go_model.specs.declared.class.Class.TheVariants as c

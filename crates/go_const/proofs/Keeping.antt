@@ -1,14 +1,14 @@
 -- What is kept of an exact number.
-use Rattle.std.proofs.Common.{◌≡◌, ℕ, ◌-◌, ◌^◌, Bool, true, false, ◌&&◌, refl, ap, ◌∙◌, None, Some, Option, ℤ, pos, neg_ℤ}
+use Rattle.std.proofs.Common.{◌≡◌, ℕ, Bool, true, false, ◌&&◌, refl, ap, ◌∙◌, None, Some, Option, ℤ}
 use Rattle.std.specs.Bool.{if◌then◌else◌}
 use Rattle.std.specs.Option.{option_map}
 use Rattle.go_const.specs.Bounds.{bounded}
-use Rattle.go_model.specs.Constants.{is_of, kept, lies_between}
+use Rattle.go_model.specs.Constants.{fits_128_bits, is_of, kept}
 use Rattle.go_model.specs.declared.value.Kind.{Kind}
 use Rattle.go_model.specs.declared.value.Value.{Value}
 use Rattle.go_model.specs.declared.value.Value.TheVariants as v
 
-kept_test : (kind : Kind) (bits : ℕ) (x : ℤ) (t : Bool) → t ≡ lies_between (neg_ℤ (pos (2 ^ 127))) (pos (2 ^ 127 - 1)) x → kept kind bits (option_map v.Int (if t then Some x else None)) ≡ kept kind bits (Some (v.Int x))
+kept_test : (kind : Kind) (bits : ℕ) (x : ℤ) (t : Bool) → t ≡ fits_128_bits x → kept kind bits (option_map v.Int (if t then Some x else None)) ≡ kept kind bits (Some (v.Int x))
 unfolding kept
 kept_test kind bits x true e = refl
 kept_test kind bits x false e = ap (λ b. if b && is_of (v.Int x) kind bits then Some (v.Int x) else None) e

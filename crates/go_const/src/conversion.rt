@@ -31,7 +31,8 @@ fn encoded(alloc: Global, character: char) -> Result<Text, NoMemory>
     Text::of(alloc, character.encode_utf8(&mut buffer).as_bytes())
 }
 
-/// A whole number as the text of its character; None exactly of other values and classes.
+/// A whole number of an integer class as the text of its character; None exactly of other values and
+/// classes.
 fn text_of(alloc: Global, value: &Value, from: Class, to: Class) -> Result<Option<Value>, NoMemory>
     ensures { IfOk result (λ answer. answer ≡ as_text value.now from to) }
 {
@@ -43,8 +44,9 @@ fn text_of(alloc: Global, value: &Value, from: Class, to: Class) -> Result<Optio
     }
 }
 
-/// The value of one kind, converted to a type. It is None exactly where the type is a float or complex
-/// one, or the value is neither representable in the type nor a whole number that becomes a text.
+/// The value of one kind, converted to a type. For a constant's value of the kind it is None exactly
+/// where the type is a float or complex one, or the value isn't representable in it and isn't a whole
+/// number converted to a string type.
 #[tactic(auto, unfolding(go_model::specs::Constants::converted))]
 pub fn convert(
     alloc: Global,
@@ -55,7 +57,7 @@ pub fn convert(
 ) -> Result<Option<Value>, NoMemory>
     ensures { IfOk result (λ answer. answer ≡ converted value.now from to bits) }
 {
-    if matches!(to.class(), Class::Float | Class::Complex) {
+    if to.class().is_inexact() {
         return Ok(None);
     }
     if is_constant(value) && representable(value, to, bits) {

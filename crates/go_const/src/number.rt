@@ -14,7 +14,7 @@ fn ones(bits: u32) -> i128
     i128::MAX >> (127 - bits.min(127))
 }
 
-/// How many numbers of its sign stand before the number: itself, or its complement where it is below 0.
+/// n for a number n of at least 0, and n - 1 for a number -n below 0.
 fn magnitude(number: i128) -> i128
     ensures { result ≡ pos (mag number) }
 {
@@ -31,7 +31,7 @@ pub fn is_number(integer: Integer, number: i128) -> bool
     }
 }
 
-/// 2^bits - 1 - number; None exactly where it hasn't 128 bits.
+/// 2^bits - 1 - number; None exactly where that doesn't fit into 128 bits, with sign.
 fn unsigned_complement(bits: u32, number: i128) -> Option<i128>
     ensures { result ≡ bounded (Some (pos (2 ^ bits - 1) -ℤ number)) }
 {
@@ -41,7 +41,8 @@ fn unsigned_complement(bits: u32, number: i128) -> Option<i128>
     ones(bits).checked_sub(number)
 }
 
-/// The number with each bit flipped: the bits of the type, where it is unsigned.
+/// The number with each bit flipped: the bits of the type, where it is unsigned. It is None exactly where
+/// that doesn't fit into 128 bits, with sign.
 fn complement(integer: Option<Integer>, number: i128) -> Option<i128>
     ensures { result ≡ bounded (Some (complement_of integer number)) }
 {
@@ -51,7 +52,8 @@ fn complement(integer: Option<Integer>, number: i128) -> Option<i128>
     }
 }
 
-/// The number of an operator before a number; None exactly where it has none of 128 bits.
+/// The number of an operator before a number. It is None exactly where the operator is for truth values,
+/// or the number doesn't fit into 128 bits, with sign.
 pub fn changed(op: UnaryOp, integer: Option<Integer>, number: i128) -> Option<i128>
     ensures { result ≡ bounded (unary_number op integer number) }
 {
@@ -73,7 +75,8 @@ fn remainder(left: i128, right: i128) -> Option<i128>
     Some(left.wrapping_rem(right))
 }
 
-/// The number of an operator between two numbers; None exactly where it has none of 128 bits.
+/// The number of an operator between two numbers. It is None exactly where the operator is for truth
+/// values, the divisor is 0, or the number doesn't fit into 128 bits, with sign.
 pub fn combined(op: BinaryOp, left: i128, right: i128) -> Option<i128>
     ensures { result ≡ bounded (binary_number op left right) }
 {
@@ -91,7 +94,7 @@ pub fn combined(op: BinaryOp, left: i128, right: i128) -> Option<i128>
     }
 }
 
-/// The number times 2^count; None exactly where it hasn't 128 bits.
+/// The number times 2^count; None exactly where that doesn't fit into 128 bits, with sign.
 #[tactic(auto, using(crate::proofs::Shifts::shifted_checked, crate::proofs::Shifts::shifted_out))]
 pub fn shifted_left(number: i128, count: u128) -> Option<i128>
     ensures { result ≡ bounded (Some (exact_shift true number count)) }

@@ -72,9 +72,9 @@ fn binary_result(
     }
 }
 
-/// The value of an operator before a value of the kind. It is None exactly where the kind hasn't the
-/// operator, or the exact value is out of range or not of the kind. The answer is always Ok, since no
-/// result is a text.
+/// The value of an operator before a value. For a value of the kind it is None exactly where the kind
+/// hasn't the operator, or the exact value is out of range or not of the kind. The answer is always Ok,
+/// since no result is a text.
 #[tactic(auto, unfolding(go_model::specs::Constants::unary_value))]
 pub fn unary(op: UnaryOp, value: &Value, kind: Kind, bits: u32) -> Result<Option<Value>, NoMemory>
     ensures { result ≡ Ok (unary_value op value.now kind bits) }
@@ -85,8 +85,8 @@ pub fn unary(op: UnaryOp, value: &Value, kind: Kind, bits: u32) -> Result<Option
     Ok(unary_result(op, value, kind, bits))
 }
 
-/// The value of an operator between two values of the kind. It is None exactly where the kind hasn't the
-/// operator, the divisor is 0, or the exact value is out of range or not of the kind.
+/// The value of an operator between two values. For values of the kind it is None exactly where the kind
+/// hasn't the operator, the divisor is 0, or the exact value is out of range or not of the kind.
 #[tactic(auto, unfolding(go_model::specs::Constants::binary_value))]
 pub fn binary(
     alloc: Global,
@@ -115,8 +115,9 @@ fn shift_result(left: bool, number: i128, count: u128, kind: Kind, bits: u32) ->
     }
 }
 
-/// The value, shifted to the left or to the right by the count. It is None exactly where the kind has no
-/// shifts, the count is below 0, or the exact value is out of range or not of the kind.
+/// The value, shifted to the left or to the right by the count. For a value of the kind, and a count that
+/// is an Int, it is None exactly where the kind has no shifts, the count is below 0, or the exact value is
+/// out of range or not of the kind.
 #[tactic(auto, unfolding(go_model::specs::Constants::shift_value))]
 pub fn shift(left: bool, value: &Value, count: &Value, kind: Kind, bits: u32) -> Option<Value>
     ensures { result ≡ shift_value left value.now count.now kind bits }

@@ -15,6 +15,7 @@ pub fn is_constant(value: &Value) -> bool
 {
     match value {
         Value::Int(number) => {
+            // The prover knows that a number fits into 128 bits only where it is read.
             let _number = *number;
             true
         }
@@ -31,7 +32,7 @@ pub fn representable(value: &Value, basic: Basic, bits: u32) -> bool
     match value {
         Value::Int(number) => match basic.integer(bits) {
             Some(integer) => is_number(integer, *number),
-            None => matches!(basic.class(), Class::Float | Class::Complex),
+            None => basic.class().is_inexact(),
         },
         Value::Str(_) => matches!(basic.class(), Class::Str),
         Value::Truth(_) => matches!(basic.class(), Class::Bool),
@@ -55,10 +56,7 @@ pub fn is_of_kind(value: &Value, kind: Kind, bits: u32) -> bool
     ensures { result ≡ is_of value.now kind bits }
 {
     match kind {
-        Kind::Typed(basic) => {
-            !matches!(basic.class(), Class::Float | Class::Complex)
-                && representable(value, basic, bits)
-        }
+        Kind::Typed(basic) => !basic.class().is_inexact() && representable(value, basic, bits),
         Kind::Loose(untyped) => is_untyped(value, untyped),
     }
 }

@@ -4,23 +4,30 @@ ghost use Rattle.std.specs.Option.{option_map};
 ghost use Rattle.go_model.specs.Constants.{kept};
 ghost use Rattle.go_model.specs.declared.value.Value.TheVariants as v;
 
-use crate::representation::{MOST_BYTES, is_of_kind};
+use crate::representation::{MOST_BYTES, is_constant, is_of_kind};
 use go_model::memory::NoMemory;
 use go_model::text::Text;
 use go_model::value::{Kind, Value};
 use std::alloc::Global;
 
-/// The number, where there is one of 128 bits and it is of the kind.
+/// The value, where it is a constant's and of the kind.
 #[tactic(auto, unfolding(go_model::specs::Constants::kept))]
-pub fn number_result(number: Option<i128>, kind: Kind, bits: u32) -> Option<Value>
-    ensures { result ≡ kept kind bits (option_map v.Int number) }
+fn result_of(value: Value, kind: Kind, bits: u32) -> Option<Value>
+    ensures { result ≡ kept kind bits (Some value) }
 {
-    let value = Value::Int(number?);
-    if is_of_kind(&value, kind, bits) {
+    if is_constant(&value) && is_of_kind(&value, kind, bits) {
         Some(value)
     } else {
         None
     }
+}
+
+/// The number, where there is one and it is of the kind.
+#[tactic(auto, unfolding(go_model::specs::Constants::kept))]
+pub fn number_result(number: Option<i128>, kind: Kind, bits: u32) -> Option<Value>
+    ensures { result ≡ kept kind bits (option_map v.Int number) }
+{
+    result_of(Value::Int(number?), kind, bits)
 }
 
 /// The truth value, where there is one and it is of the kind.
@@ -28,12 +35,7 @@ pub fn number_result(number: Option<i128>, kind: Kind, bits: u32) -> Option<Valu
 pub fn truth_result(truth: Option<bool>, kind: Kind, bits: u32) -> Option<Value>
     ensures { result ≡ kept kind bits (option_map v.Truth truth) }
 {
-    let value = Value::Truth(truth?);
-    if is_of_kind(&value, kind, bits) {
-        Some(value)
-    } else {
-        None
-    }
+    result_of(Value::Truth(truth?), kind, bits)
 }
 
 /// Two texts, one after the other.
@@ -59,10 +61,5 @@ pub fn text_result(
     if left.len() > MOST_BYTES || right.len() > MOST_BYTES - left.len() {
         return Ok(None);
     }
-    let value = Value::Str(joined(alloc, left, right)?);
-    if is_of_kind(&value, kind, bits) {
-        Ok(Some(value))
-    } else {
-        Ok(None)
-    }
+    Ok(result_of(Value::Str(joined(alloc, left, right)?), kind, bits))
 }

@@ -80,6 +80,19 @@ fn shifts_without_losing_bits(rt: HostRuntime) {
 }
 
 #[test]
+fn shifts_numbers_by_numbers_alone(rt: HostRuntime) {
+    let (yes, one) = (Value::Truth(true), Value::Int(1));
+    assert!(rt; shift(true, &yes, &one, BOOL_KIND, 64).is_none());
+    assert!(rt; shift(true, &one, &yes, INT_KIND, 64).is_none());
+    assert!(rt; shift(false, &yes, &yes, INT_KIND, 64).is_none());
+    if let Ok(word) = text(rt.alloc(), b"1") {
+        assert!(rt; shift(true, &word, &one, STR_KIND, 64).is_none());
+        assert!(rt; shift(false, &one, &word, INT_KIND, 64).is_none());
+        assert!(rt; shift(true, &word, &word, INT_KIND, 64).is_none());
+    }
+}
+
+#[test]
 fn follows_the_word_size(rt: HostRuntime) {
     let table = [
         (Basic::Int, 32, 31, None),
@@ -193,6 +206,23 @@ fn negates_and_flips_bits(rt: HostRuntime) {
         match unary(op, &Value::Int(value), kind, bits) {
             Ok(found) => assert_eq!(rt; number(&found), wanted, "{op:?} of {value}"),
             Err(_) => assert!(rt; false, "out of memory"),
+        }
+    }
+}
+
+#[test]
+fn has_no_operator_before_a_text(rt: HostRuntime) {
+    let table = [UnaryOp::Plus, UnaryOp::Minus, UnaryOp::Xor, UnaryOp::Not];
+    if let Ok(word) = text(rt.alloc(), b"1") {
+        for op in table {
+            assert!(rt;
+                matches!(unary(op, &word, STR_KIND, 64), Ok(None)),
+                "{op:?}"
+            );
+            assert!(rt;
+                matches!(unary(op, &word, INT_KIND, 64), Ok(None)),
+                "{op:?}"
+            );
         }
     }
 }
@@ -368,6 +398,15 @@ fn makes_texts_of_characters(rt: HostRuntime) {
     for (code, wanted) in table {
         let answer = convert(rt.alloc(), &Value::Int(code), INT_KIND, Basic::Str, 64);
         assert!(rt; is_text(&answer, wanted.as_bytes()), "{code}");
+    }
+    let kinds = [
+        Kind::Loose(Untyped::RuneKind),
+        Kind::Typed(Basic::Int32),
+        Kind::Typed(Basic::Uint64),
+    ];
+    for kind in kinds {
+        let answer = convert(rt.alloc(), &Value::Int(233), kind, Basic::Str, 64);
+        assert!(rt; is_text(&answer, "\u{e9}".as_bytes()), "{kind:?}");
     }
 }
 

@@ -2,7 +2,7 @@
 -- "Constant expressions", "Representability", "Operators" and "Conversions to and from a string type" of
 -- the Go specification. That a number has at most 128 bits and a text at most 65,536 bytes is this
 -- project's own, and so is that there are no values of float and complex kinds.
-use Rattle.std.specs.Prelude.{ℕ, ◌-◌, ◌^◌, Bool, true, false, not, if◌then◌else◌, ◌&&◌, ◌||◌, nat_lt, nat_le, ℤ, pos, negsuc, ◌+ℤ◌, ◌-ℤ◌, ◌*ℤ◌, neg_ℤ, int_le, int_div, int_rem, Option, None, Some, List, ◌++◌, length}
+use Rattle.std.specs.Prelude.{◌≡◌, ℕ, ◌-◌, ◌^◌, Bool, true, false, not, if◌then◌else◌, ◌&&◌, ◌||◌, nat_lt, nat_le, ℤ, pos, negsuc, ◌+ℤ◌, ◌-ℤ◌, ◌*ℤ◌, neg_ℤ, int_le, int_div, int_rem, Option, None, Some, List, ◌++◌, length}
 use Rattle.std.specs.Bool.{beq}
 use Rattle.std.specs.Char.{encode_utf8}
 use Rattle.std.specs.Cmp.Lexicographic.{slice_cmp}
@@ -37,9 +37,13 @@ use Rattle.go_model.specs.Operators.{binary_applies, shift_applies, unary_applie
 abbrev pub lies_between : ℤ → ℤ → ℤ → Bool
 lies_between low high x = int_le low x && int_le x high
 
--- a number from -2^127 to 2^127 - 1, a text of at most 65,536 bytes, or a truth value
+-- x fits into 128 bits, with sign: it is a number from -2^127 to 2^127 - 1
+abbrev pub fits_128_bits : ℤ → Bool
+fits_128_bits x = lies_between (neg_ℤ (pos (2 ^ 127))) (pos (2 ^ 127 - 1)) x
+
+-- a number that fits into 128 bits, a text of at most 65,536 bytes, or a truth value
 abbrev pub is_in_range : Value → Bool
-is_in_range (v.Int x) = lies_between (neg_ℤ (pos (2 ^ 127))) (pos (2 ^ 127 - 1)) x
+is_in_range (v.Int x) = fits_128_bits x
 is_in_range (v.Str text) = nat_le (length text) 65536
 is_in_range (v.Truth truth) = true
 
@@ -71,6 +75,10 @@ is_of_untyped _ _ = false
 unfoldable pub is_of : Value → Kind → ℕ → Bool
 is_of value (k.Typed basic) bits = not (is_inexact (class_of_basic basic)) && is_representable value basic bits
 is_of value (k.Loose untyped) bits = is_of_untyped value untyped
+
+-- the value is a constant's of the kind: in range, and of it
+abbrev pub IsConstant : Value → Kind → ℕ → Type 0
+IsConstant value kind bits = (is_in_range value ≡ true) × (is_of value kind bits ≡ true)
 
 -- an exact result is one of the operation where it is in range and of the kind
 unfoldable pub kept : Kind → ℕ → Option Value → Option Value
@@ -106,10 +114,11 @@ unary_value op value kind bits = if unary_applies op (class_of kind) then kept k
 
 -- ---- operators on two values
 
--- a quotient goes towards zero, and a remainder has the sign of the left side; there is none by 0
+-- x, and nothing where the divisor is 0
 abbrev pub unless_zero : ℤ → ℤ → Option ℤ
 unless_zero divisor x = if int_eq divisor (pos 0) then None else Some x
 
+-- a quotient goes towards zero, and a remainder has the sign of the left side; by 0 there is neither
 abbrev pub binary_number : BinaryOp → ℤ → ℤ → Option ℤ
 binary_number binary.Add x y = Some (x +ℤ y)
 binary_number binary.Subtract x y = Some (x -ℤ y)
@@ -188,11 +197,13 @@ abbrev pub character_of : ℤ → ℕ
 character_of (pos c) = if is_character c then c else 0xFFFD
 character_of (negsuc n) = 0xFFFD
 
--- a whole number becomes as a text the UTF-8 bytes of its character
+-- a whole number of an integer class becomes as a text the UTF-8 bytes of its character
 abbrev pub as_text : Value → Class → Class → Option Value
 as_text (v.Int x) c.Integer c.Str = Some (v.Str (encode_utf8 (character_of x)))
 as_text _ _ _ = None
 
--- the value of one kind, converted to a type; None where it has none, and of a float or complex type
+-- the value of one kind, converted to a type: itself where it is in range and representable in the type,
+-- else the text of a whole number, where the kind is of an integer class and the type of the string class;
+-- None where it is neither, and where the type is a float or complex one
 unfoldable pub converted : Value → Kind → Basic → ℕ → Option Value
 converted value from to bits = if is_inexact (class_of_basic to) then None else (if is_in_range value && is_representable value to bits then Some value else as_text value (class_of from) (class_of_basic to))

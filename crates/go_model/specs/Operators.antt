@@ -1,14 +1,12 @@
--- Which operators a class of kinds has, after "Arithmetic operators", "Comparison operators" and
--- "Logical operators" of the Go specification.
-use Rattle.std.specs.Prelude.{Bool, true, ◌||◌}
+-- Which operators a class of kinds has, after "Arithmetic operators" and "Logical operators" of the Go
+-- specification.
+use Rattle.std.specs.Prelude.{Bool, ◌||◌}
 use Rattle.go_model.specs.declared.class.Class.{Class}
-use Rattle.go_model.specs.declared.syntax.operator.CompareOp.{CompareOp}
-use Rattle.go_model.specs.declared.syntax.operator.CompareOp.TheVariants as compare
 use Rattle.go_model.specs.declared.value.BinaryOp.{BinaryOp}
 use Rattle.go_model.specs.declared.value.BinaryOp.TheVariants as binary
 use Rattle.go_model.specs.declared.value.UnaryOp.{UnaryOp}
 use Rattle.go_model.specs.declared.value.UnaryOp.TheVariants as unary
-use Rattle.go_model.specs.Classes.{is_boolean, is_float, is_inexact, is_integer, is_string}
+use Rattle.go_model.specs.Classes.{is_boolean, is_inexact, is_integer, is_string}
 
 -- integers, floats and complex numbers
 abbrev pub is_numeric : Class → Bool
@@ -35,15 +33,3 @@ binary_applies binary.LogicalOr class = is_boolean class
 
 abbrev pub shift_applies : Class → Bool
 shift_applies class = is_integer class
-
--- an order
-abbrev pub orders : Class → Bool
-orders class = is_integer class || is_float class || is_string class
-
-abbrev pub compare_applies : CompareOp → Class → Bool
-compare_applies compare.Equal class = true
-compare_applies compare.NotEqual class = true
-compare_applies compare.Less class = orders class
-compare_applies compare.LessEqual class = orders class
-compare_applies compare.Greater class = orders class
-compare_applies compare.GreaterEqual class = orders class

@@ -1,11 +1,11 @@
 //! Classes of kinds, and which operators a class has.
 ghost use Rattle.std.specs.Prelude.{◌≡◌};
-ghost use Rattle.go_model.specs.Classes.{class_of, class_of_basic, integer_of, integer_of_kind};
+ghost use Rattle.go_model.specs.Classes.{class_of, class_of_basic, integer_of, integer_of_kind, is_inexact};
 ghost use Rattle.go_model.specs.Operators.{binary_applies, unary_applies};
 
 use crate::value::{Basic, BinaryOp, Kind, UnaryOp, Untyped};
 
-/// What values a kind is for.
+/// A group of kinds that have the same operators: the boolean, integer, float, complex or string ones.
 #[derive(Clone, Copy, Debug, PartialEq, Eq)]
 pub enum Class {
     Bool,
@@ -20,6 +20,15 @@ pub enum Class {
 pub enum Integer {
     Signed(u32),
     Unsigned(u32),
+}
+
+impl Class {
+    /// Whether its kinds are float or complex ones, of which there are no values here.
+    pub fn is_inexact(self) -> bool
+        ensures { result ≡ is_inexact self }
+    {
+        matches!(self, Class::Float | Class::Complex)
+    }
 }
 
 impl Basic {
