@@ -160,18 +160,23 @@ const NOT_YET: &[u8] = b"apigate: input of a form not built yet\n";
 fn refuses_sources_of_other_forms(rt: HostRuntime) -> Result<(), Fail> {
     for source in [
         b"".as_slice(),
-        b"package p\nconst X = 5;".as_slice(),
-        b"package p\r\nconst X = 5\n".as_slice(),
-        b"\xef\xbb\xbfpackage p\n".as_slice(),
         b"package p\n\0".as_slice(),
+        b"package p\nconst X = \"a\n".as_slice(),
+        b"package p /* c".as_slice(),
         b"package p\nconst \xc3\x84 = 5\n".as_slice(),
-        b"package p // c\n".as_slice(),
-        b"//go:build linux\n\npackage p\n".as_slice(),
-        b"package p\nconst A_b = 5\n".as_slice(),
+        b"package p\nconst _ = 5\n".as_slice(),
         b"package p\nconst X = 08\n".as_slice(),
-        b"package p\nconst X = 012\n".as_slice(),
+        b"package p\nconst X = 0x\n".as_slice(),
         b"package p\nconst X = 1a\n".as_slice(),
+        b"package p\nconst X = 1.5\n".as_slice(),
+        b"package p\nconst X = 'a'\n".as_slice(),
+        b"package p\nconst X = -1\n".as_slice(),
         b"package p\nconst X = 170141183460469231731687303715884105728\n".as_slice(),
+        b"package p\nconst (\nX = 5\n)\n".as_slice(),
+        b"package p\nconst X int = 5\n".as_slice(),
+        b"package p\nconst X, Y = 5, 6\n".as_slice(),
+        b"package p\nvar X = 5\n".as_slice(),
+        b"package p\nimport \"m/q\"\n".as_slice(),
         b"package p\nconst x = 5\n".as_slice(),
         b"package main\nconst x = 5\n".as_slice(),
         b"package p\nconst X = 5\nconst X = 5\n".as_slice(),
@@ -185,6 +190,32 @@ fn refuses_sources_of_other_forms(rt: HostRuntime) -> Result<(), Fail> {
             ("new/p/p.go", source),
         ];
         assert!(rt; ends_plainly(&rt, &pairs, 3, b"", NOT_YET)?, "{source:?}");
+    }
+    Ok(())
+}
+
+#[test]
+fn reads_all_tokens_round_a_constant(rt: HostRuntime) -> Result<(), Fail> {
+    let five = b"pkg m/p, const X = 5\npkg m/p, const X ideal-int\n".as_slice();
+    let large = b"pkg m/p, const X = 4096\npkg m/p, const X ideal-int\n".as_slice();
+    for (source, report) in [
+        (b"package p;const X=5;".as_slice(), five),
+        (b"package p\r\nconst X = 5\r\n".as_slice(), five),
+        (b"\xef\xbb\xbfpackage p\nconst X = 5".as_slice(), five),
+        (b"//go:build linux\n\n// c\npackage p // c\nconst X = 5 // c".as_slice(), five),
+        (b"package p /* c\n */ const /* c */ X = 5 /* c */".as_slice(), five),
+        (b"package p\nconst X = 0b101\n".as_slice(), five),
+        (b"package p\nconst X = 0o5\n".as_slice(), five),
+        (b"package p\nconst X = 05\n".as_slice(), five),
+        (b"package p\nconst X = 4_096\n".as_slice(), large),
+        (b"package p\nconst X = 0x10_00\n".as_slice(), large),
+        (b"package p\nconst X = 0X1000\n".as_slice(), large),
+    ] {
+        let pairs = [
+            ("new/go.mod", b"module m\n".as_slice()),
+            ("new/p/p.go", source),
+        ];
+        assert!(rt; ends_plainly(&rt, &pairs, 0, report, b"")?, "{source:?}");
     }
     Ok(())
 }
@@ -321,7 +352,7 @@ fn names_the_first_header_that_is_refused(rt: HostRuntime) -> Result<(), Fail> {
     ] {
         let pairs = [
             module,
-            ("new/a.go", b"no form".as_slice()),
+            ("new/a.go", b"no form \0".as_slice()),
             ("new/p/a_windows.go", b"//go:build !!x\n".as_slice()),
             ("new/p/b.go", source),
             ("new/p/c.go", b"//go:build (\n//go:build )\n".as_slice()),
