@@ -14,8 +14,8 @@ use crate::literal::{raw_len, rune_len, string_len};
 use crate::name::name_len;
 use crate::number::number_at;
 use crate::operator::operator_at;
-use go_model::token::{LexemeKind, TokenKind};
 use go_model::front::comment_len;
+use go_model::token::{LexemeKind, TokenKind};
 
 /// What the first bytes tell of a lexeme: its class.
 #[derive(Clone, Copy)]

@@ -5,10 +5,10 @@ ghost use Rattle.go_tags.specs.Parts.{is_next, sign_at, onto, BeginsStep, PartsC
 
 use crate::error::TagError;
 use go_model::build::ConstraintPart;
+use go_model::characters::{Alphabet, run_len};
 use go_model::list::List;
 use go_model::memory::NoMemory;
 use go_model::text::Text;
-use go_model::characters::{Alphabet, run_len};
 use std::alloc::Global;
 
 /// What stands at the front of a text: a part, or a blank, and its length in bytes.

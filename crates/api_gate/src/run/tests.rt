@@ -202,8 +202,14 @@ fn reads_all_tokens_round_a_constant(rt: HostRuntime) -> Result<(), Fail> {
         (b"package p;const X=5;".as_slice(), five),
         (b"package p\r\nconst X = 5\r\n".as_slice(), five),
         (b"\xef\xbb\xbfpackage p\nconst X = 5".as_slice(), five),
-        (b"//go:build linux\n\n// c\npackage p // c\nconst X = 5 // c".as_slice(), five),
-        (b"package p /* c\n */ const /* c */ X = 5 /* c */".as_slice(), five),
+        (
+            b"//go:build linux\n\n// c\npackage p // c\nconst X = 5 // c".as_slice(),
+            five,
+        ),
+        (
+            b"package p /* c\n */ const /* c */ X = 5 /* c */".as_slice(),
+            five,
+        ),
         (b"package p\nconst X = 0b101\n".as_slice(), five),
         (b"package p\nconst X = 0o5\n".as_slice(), five),
         (b"package p\nconst X = 05\n".as_slice(), five),
