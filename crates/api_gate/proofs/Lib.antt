@@ -1,12 +1,13 @@
-pub mod ChosenFiles
 pub mod Drops
 pub mod Gathered
 pub mod Grown
+pub mod Lines
 pub mod Named
 pub mod OneSource
 pub mod Ordered
 pub mod Outcomes
 pub mod Ran
+pub mod ReadFiles
 pub mod Settings
 pub mod Taken
 pub mod Tested

@@ -3,7 +3,7 @@ use Rattle.std.proofs.Common.{◌≡◌, ℕ, zero, suc, ◌+◌, ◌<◌, Bool,
 use mathlib.Core.Bool.{true≢false}
 use Rattle.go_model.specs.Lists.{Has, Once, Each}
 use Rattle.api_gate.specs.declared.constants.Constant.{Constant}
-use Rattle.api_gate.specs.declared.sources.FileSource.{FileSource}
+use Rattle.api_gate.specs.declared.reading.FileSource.{FileSource}
 use Rattle.api_gate.specs.Constants.{begins_upper, AreExported}
 use Rattle.api_gate.specs.Growing.{Grows}
 use Rattle.api_gate.specs.NamesReading.{Adds, Fresh, TellsOnce}

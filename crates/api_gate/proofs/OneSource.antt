@@ -1,8 +1,6 @@
 -- What a source declares is one.
-use Rattle.std.proofs.Common.{◌≡◌, ℕ, List, Option, Some, sym, ◌∙◌, subst}
-use Rattle.go_lex.specs.Causes.{HasCause}
-use Rattle.go_lex.specs.declared.error.LexError.{LexError}
-use Rattle.go_lex.specs.declared.error.LexError.TheVariants.{BadToken}
+use Rattle.std.specs.Prelude.{IfOk, IfErr}
+use Rattle.std.proofs.Common.{◌≡◌, ℕ, List, Option, Some, sym, ◌∙◌, subst, Result, Ok, Err}
 use Rattle.go_model.specs.declared.syntax.declaration.File.{File}
 use Rattle.go_model.specs.declared.token.Token.{Token}
 use Rattle.go_model.specs.Lexemes.{IsBadPlace}
@@ -10,6 +8,9 @@ use Rattle.go_model.specs.Outline.{IsOutline}
 use Rattle.go_model.specs.Tokens.{IsTokens}
 use Rattle.api_gate.specs.declared.constants.Constant.{Constant}
 use Rattle.api_gate.specs.declared.source.Source.{Source}
+use Rattle.api_gate.specs.declared.source.SourceError.{SourceError}
+use Rattle.api_gate.specs.declared.source.SourceError.TheVariants as source
+use Rattle.api_gate.specs.FilesReading.{FormCause, SourceCause}
 use Rattle.api_gate.specs.Sources.{Declares, IsParsed, IsSource}
 
 same_list : (a b : List Constant) → ◌≡◌ {A = Option (List Constant)} (Some a) (Some b) → a ≡ b
@@ -21,10 +22,18 @@ same_record a b p q i = record { package_name = p i; constants = q i }
 declared_once : (f : File) (a b : Source) → Declares f a → Declares f b → a ≡ b
 declared_once f a b p q = same_record a b (p.package_name ∙ sym q.package_name) (same_list a.constants b.constants (p.constants ∙ sym q.constants))
 
--- bytes with a bad place declare nothing
-pub none_of_bad : (not_both : (bytes : List ℕ) (place : ℕ) (tokens : List Token) → IsBadPlace bytes place → IsTokens bytes tokens → ⊥)
-    → (bytes : List ℕ) (e : LexError) (place : ℕ) → e ≡ BadToken place → HasCause bytes e → (s : Source) → IsSource bytes s → ⊥
-none_of_bad not_both bytes e place is cause s source = not_both bytes place source.0 (subst (HasCause bytes) is cause) source.1
+-- a fact that doesn't speak of the answer
+pub if_ok : {A E : Type 0} {P : Type 0} (r : Result A E) → P → IfOk r (λ _. P)
+if_ok (Ok a) p = p
+if_ok (Err e) p = tt
+
+-- why tokens declare nothing is why the bytes do
+pub form_cause : (bytes : List ℕ) (tokens : List Token) (r : Result Source SourceError) → ((place : ℕ) → IsBadPlace bytes place → ⊥) → ((s : Source) → IsSource bytes s → IsParsed tokens s)
+    → IfErr r (FormCause ((s : Source) → IsParsed tokens s → ⊥)) → IfErr r (SourceCause bytes)
+form_cause bytes tokens (Ok s) good parsed h = tt
+form_cause bytes tokens (Err (source.BadToken place)) good parsed h = absurd h
+form_cause bytes tokens (Err source.NotYet) good parsed h = (good, λ s is. h s (parsed s is))
+form_cause bytes tokens (Err source.NoMemory) good parsed h = tt
 
 -- the tokens are the ones that were read
 pub parsed_of : (one : (bytes : List ℕ) (first second : List Token) → IsTokens bytes first → IsTokens bytes second → first ≡ second)

@@ -10,47 +10,66 @@ use Rattle.go_model.specs.Lists.{Each}
 use Rattle.go_outside.specs.Stores.{Contents}
 use Rattle.go_tags.specs.HeaderCauses.{HasCause, IsOwnCause}
 use Rattle.go_tags.specs.declared.error.TagError.{TagError}
-use Rattle.api_gate.specs.declared.sources.FileSource.{FileSource}
+use Rattle.go_model.specs.declared.build.Header.{Header}
+use Rattle.go_model.specs.Headers.{IsHeader}
+use Rattle.go_model.specs.Lexemes.{IsBadPlace}
+use Rattle.api_gate.specs.declared.refusals.FileFault.{FileFault}
+use Rattle.api_gate.specs.declared.refusals.FileFault.TheVariants as fault
+use Rattle.api_gate.specs.declared.reading.FileSource.{FileSource}
 use Rattle.api_gate.specs.declared.words.Request.{Request}
-use Rattle.api_gate.specs.Choice.{IsFirstFaulty, IsSound}
+use Rattle.api_gate.specs.Faults.{IsFaulty, IsFirstFaulty, IsSound}
 use Rattle.api_gate.specs.Features.{IsReport}
-use Rattle.api_gate.specs.Refusals.{tag_line, file_path}
-use Rattle.api_gate.specs.Runs.{Outcome, IsOutcome, ends_words, ends_asked, IsTreeRefusal, by_header, by_form, IsTreeReport, EndsWith, unloaded, refused_tree, reported_tree, reported, refused, new_side}
+use Rattle.api_gate.specs.Refusals.{file_line, new_side}
+use Rattle.api_gate.specs.Runs.{Outcome, IsOutcome, ends_words, ends_asked, IsTreeRefusal, by_file, by_form, IsTreeReport, EndsWith, unloaded, refused_tree, reported_tree, reported, refused}
 use Rattle.api_gate.specs.Sources.{AreSources}
 use Rattle.api_gate.specs.Words.{IsRequest}
 
--- where each header that is read is sound, none is the first faulty one
-none_faulty : (p : Platform) (files : List TreeFile) (f : TreeFile) (e : TagError) → Each (IsSound p) files → IsFirstFaulty p files f e → ⊥
-none_faulty p [] f e s h = h
-none_faulty p (g ∷ files) f e s h = elim h [ inl a ↦ s.0 e a.1 | inr b ↦ none_faulty p files f e s.1 b.1 ]
+-- where each file is sound, none is the first faulty one
+none_faulty : (p : Platform) (files : List TreeFile) (file : TreeFile) (f : FileFault) → Each (IsSound p) files → IsFirstFaulty p files file f → ⊥
+none_faulty p [] file f s h = h
+none_faulty p (x ∷ files) file f s h = elim h [ inl a ↦ s.0 f a.1 | inr b ↦ none_faulty p files file f s.1 b.1 ]
 
 abbrev pub OneCause : Type 0
 OneCause = (bytes : List ℕ) (one two : TagError) → IsOwnCause one → IsOwnCause two → HasCause bytes one → HasCause bytes two → one ≡ two
 
--- the first faulty file and its cause are one
-same_faulty : OneCause → (p : Platform) (files : List TreeFile) (f g : TreeFile) (d e : TagError) → IsFirstFaulty p files f d → IsFirstFaulty p files g e → (f ≡ g) × (d ≡ e)
-same_faulty one p [] f g d e a b = absurd a
-same_faulty one p (x ∷ files) f g d e a b =
-    elim a [
-      | inl i ↦ elim b [ inl j ↦ (sym i.0 ∙ j.0, one x.bytes d e i.1.own j.1.own i.1.cause j.1.cause) | inr j ↦ absurd (j.0 d i.1) ]
-      | inr i ↦ elim b [ inl j ↦ absurd (i.0 e j.1) | inr j ↦ same_faulty one p files f g d e i.1 j.1 ]
-    ]
+abbrev pub HeaderOrCause : Type 0
+HeaderOrCause = (bytes : List ℕ) (header : Header) (error : TagError) → IsOwnCause error → HasCause bytes error → IsHeader bytes header → ⊥
+
+abbrev pub OnePlace : Type 0
+OnePlace = (bytes : List ℕ) (one two : ℕ) → IsBadPlace bytes one → IsBadPlace bytes two → one ≡ two
+
+module _ (one : OneCause) (either : HeaderOrCause) (place : OnePlace) where
+  -- a file has one fault
+  same_fault : (p : Platform) (file : TreeFile) (d e : FileFault) → IsFaulty p file d → IsFaulty p file e → d ≡ e
+  same_fault p file (fault.BadHeader c) (fault.BadHeader d) a b = ap fault.BadHeader (one file.bytes c d a.own b.own a.cause b.cause)
+  same_fault p file (fault.BadHeader c) (fault.BadToken n) a b = absurd (either file.bytes b.0.0 c a.own a.cause b.0.1)
+  same_fault p file (fault.BadToken n) (fault.BadHeader c) a b = absurd (either file.bytes a.0.0 c b.own b.cause a.0.1)
+  same_fault p file (fault.BadToken n) (fault.BadToken m) a b = ap fault.BadToken (place file.bytes n m a.1 b.1)
+
+  -- the first faulty file and its fault are one
+  same_faulty : (p : Platform) (files : List TreeFile) (f g : TreeFile) (d e : FileFault) → IsFirstFaulty p files f d → IsFirstFaulty p files g e → (f ≡ g) × (d ≡ e)
+  same_faulty p [] f g d e a b = absurd a
+  same_faulty p (x ∷ files) f g d e a b =
+      elim a [
+        | inl i ↦ elim b [ inl j ↦ (sym i.0 ∙ j.0, same_fault p x d e i.1 j.1) | inr j ↦ absurd (j.0 d i.1) ]
+        | inr i ↦ elim b [ inl j ↦ absurd (i.0 e j.1) | inr j ↦ same_faulty p files f g d e i.1 j.1 ]
+      ]
 
 module _ (one_request : (words : List (List ℕ)) (r s : Request) → IsRequest words r → IsRequest words s → r ≡ s)
     (one_answer : (m : Contents) (root : List ℕ) (r s : Result Tree LoadError) → LoadsModule m root r → LoadsModule m root s → Agree r s)
-    (one_cause : OneCause)
+    (one_cause : OneCause) (either : HeaderOrCause) (one_place : OnePlace)
     (one_sources : (p : Platform) (files : List TreeFile) (a b : List FileSource) → AreSources p files a → AreSources p files b → a ≡ b)
     (one_report : (path : List ℕ) (sources : List FileSource) (a b : List ℕ) → IsReport path sources a → IsReport path sources b → a ≡ b) where
   same_refusal : (p : Platform) (t : Tree) (a b : List ℕ) → IsTreeRefusal p t a → IsTreeRefusal p t b → a ≡ b
-  same_refusal p t a b (by_header f d i x) (by_header g e j y) =
-      let s : (f ≡ g) × (d ≡ e) = same_faulty one_cause p t.files f g d e i j in
-      x ∙ ap (λ (h : TreeFile). tag_line new_side p (file_path h) d) s.0 ∙ ap (λ (c : TagError). tag_line new_side p (file_path g) c) s.1 ∙ sym y
-  same_refusal p t a b (by_header f d i x) (by_form sound none y) = absurd (none_faulty p t.files f d sound i)
-  same_refusal p t a b (by_form sound none x) (by_header f d i y) = absurd (none_faulty p t.files f d sound i)
+  same_refusal p t a b (by_file f d i x) (by_file g e j y) =
+      let s : (f ≡ g) × (d ≡ e) = same_faulty one_cause either one_place p t.files f g d e i j in
+      x ∙ ap (λ (h : TreeFile). file_line new_side p h d) s.0 ∙ ap (λ (c : FileFault). file_line new_side p g c) s.1 ∙ sym y
+  same_refusal p t a b (by_file f d i x) (by_form sound none y) = absurd (none_faulty p t.files f d sound i)
+  same_refusal p t a b (by_form sound none x) (by_file f d i y) = absurd (none_faulty p t.files f d sound i)
   same_refusal p t a b (by_form sound none x) (by_form sound' none' y) = x ∙ sym y
 
   not_both : (p : Platform) (t : Tree) (line text : List ℕ) → IsTreeRefusal p t line → IsTreeReport p t text → ⊥
-  not_both p t line text (by_header f d i x) r = none_faulty p t.files f d r.1.sound i
+  not_both p t line text (by_file f d i x) r = none_faulty p t.files f d r.1.sound i
   not_both p t line text (by_form sound none x) r = none r.0 r.1
 
   same_tree_report : (p : Platform) (t : Tree) (a b : List ℕ) → IsTreeReport p t a → IsTreeReport p t b → a ≡ b

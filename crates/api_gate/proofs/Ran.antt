@@ -13,14 +13,12 @@ use Rattle.go_load.specs.Loads.{LoadsModule, LoadCause}
 use Rattle.go_load.specs.declared.error.LoadError.{LoadError}
 use Rattle.go_model.specs.declared.platform.Platform.{Platform}
 use Rattle.go_outside.specs.Faults.{Rose}
-use Rattle.go_tags.specs.declared.error.TagError.{TagError}
-use Rattle.api_gate.specs.declared.choice.ChoiceError.{ChoiceError}
-use Rattle.api_gate.specs.declared.choice.ChoiceError.TheVariants as choice
-use Rattle.api_gate.specs.ChoiceReading.{ChoiceCause}
-use Rattle.api_gate.specs.Refusals.{tag_line}
+use Rattle.api_gate.specs.declared.reading.ReadError.{ReadError}
+use Rattle.api_gate.specs.declared.reading.ReadError.TheVariants as read
+use Rattle.api_gate.specs.FilesReading.{ReadCause}
 use Rattle.go_model.specs.declared.tree.Tree.{Tree}
 use Rattle.api_gate.specs.RunsReading.{AgreesWith, AgreesWithLoad, AgreesWithSome}
-use Rattle.api_gate.specs.Runs.{Outcome, IsOutcome, ends_words, ends_asked, EndsWith, unloaded, refused_tree, reported_tree, IsTreeRefusal, by_header, new_side, MayEnd, may_words, may_ask, Decides, Ran, IsComplete, outcome_of, reported, refused, bad_words}
+use Rattle.api_gate.specs.Runs.{Outcome, IsOutcome, ends_words, ends_asked, IsTreeRefusal, by_file, EndsWith, unloaded, refused_tree, reported_tree, MayEnd, may_words, may_ask, Decides, Ran, IsComplete, outcome_of, reported, refused, bad_words}
 use Rattle.api_gate.specs.Words.{IsRequest}
 
 abbrev Bytes : Type 0
@@ -175,7 +173,7 @@ told_load (Some m) r root answer d e l h = (answer, subst (λ (dir : List ℕ). 
 pub unloaded_read : (p : Platform) (e : LoadError) (d : Decision) (before now : ℕ) → AgreesWith p (Err e) d → LoadCause {A = Tree} before now (Err e) → d ≡ decision.ReadFault → Rose before now
 unloaded_read p e d before now h c is = subst (λ (x : LoadError). LoadCause {A = Tree} before now (Err x)) (subst (AgreesWith p (Err e)) is h) c
 
-pub tree_refused : (p : Platform) (t : Tree) (path line : List ℕ) (cause : TagError) (e : ChoiceError) → e ≡ choice.Refused path cause → line ≡ tag_line new_side p path cause → ChoiceCause p t.files e → IsTreeRefusal p t line
-tree_refused p t path line cause e is so c =
-    let d : ChoiceCause p t.files (choice.Refused path cause) = subst (ChoiceCause p t.files) is c in
-    by_header d.0 cause d.1 (so ∙ ap (λ (x : List ℕ). tag_line new_side p x cause) d.2)
+pub tree_refused : (p : Platform) (t : Tree) (line : List ℕ) (e : ReadError) → e ≡ read.Refused line → ReadCause p t.files e → IsTreeRefusal p t line
+tree_refused p t line e is c =
+    let d : ReadCause p t.files (read.Refused line) = subst (ReadCause p t.files) is c in
+    by_file d.0 d.1 d.2 d.3

@@ -10,7 +10,7 @@ use Rattle.std.specs.List.Sorted.{IsStrictlySortedBy}
 use Rattle.go_load.specs.Names.{place}
 use Rattle.go_model.specs.Lists.{Has}
 use Rattle.api_gate.specs.declared.constants.Constant.{Constant}
-use Rattle.api_gate.specs.declared.sources.FileSource.{FileSource}
+use Rattle.api_gate.specs.declared.reading.FileSource.{FileSource}
 
 -- a byte ends an element of a path
 abbrev pub is_slash : ℕ → Bool

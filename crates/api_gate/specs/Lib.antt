@@ -1,13 +1,14 @@
-pub mod Choice
-pub mod ChoiceReading
 pub mod Constants
 pub mod Delivery
+pub mod Faults
 pub mod Features
 pub mod FeaturesReading
+pub mod FilesReading
 pub mod Growing
 pub mod NamesReading
 pub mod Outcome
 pub mod Refusals
+pub mod RefusalsReading
 pub mod Runs
 pub mod RunsReading
 pub mod Sources

@@ -1,6 +1,8 @@
 -- The fault lines of refusals, by their causes.
 -- Source: this project's reports and exit statuses, docs/definitions.md, "Refusals".
-use Rattle.std.specs.Prelude.{ℕ, List, ◌++◌, codes}
+use Rattle.std.specs.Prelude.{ℕ, ◌+◌, Bool, nat_eq, if◌then◌else◌, pos, List, [], ◌∷◌, ◌++◌, length, take, codes}
+use Rattle.std.specs.Fmt.{signed_decimal}
+use Rattle.std.specs.List.{filter, list_any}
 use Rattle.go_load.specs.Names.{under}
 use Rattle.go_load.specs.declared.error.LoadError.{LoadError}
 use Rattle.go_load.specs.declared.error.LoadError.TheVariants as load
@@ -11,6 +13,8 @@ use Rattle.go_model.specs.declared.tree.TreeFile.{TreeFile}
 use Rattle.go_model.specs.Platforms.{name_of}
 use Rattle.go_tags.specs.declared.error.TagError.{TagError}
 use Rattle.go_tags.specs.declared.error.TagError.TheVariants as tag
+use Rattle.api_gate.specs.declared.refusals.FileFault.{FileFault}
+use Rattle.api_gate.specs.declared.refusals.FileFault.TheVariants as fault
 
 -- `apigate: WHERE: WHAT` and a newline
 abbrev pub fault_line : List ℕ → List ℕ → List ℕ
@@ -47,6 +51,32 @@ file_path file = under file.folder file.name
 abbrev pub load_line : List ℕ → LoadError → List ℕ
 load_line side error = fault_line side (load_text error)
 
--- a header of the tree at this side is refused on a platform
-abbrev pub tag_line : List ℕ → Platform → List ℕ → TagError → List ℕ
-tag_line side p path error = fault_line (side ++ codes " " ++ name_of p) (path ++ codes ": " ++ tag_text error)
+-- how fault lines name the tree of the option `--new`
+abbrev pub new_side : List ℕ
+new_side = codes "new"
+
+abbrev pub is_newline : ℕ → Bool
+is_newline b = nat_eq b 10
+
+-- the bytes behind the last newline: all of them, where there is none
+abbrev pub last_line : List ℕ → List ℕ
+last_line [] = []
+last_line (b ∷ bs) = if list_any is_newline (b ∷ bs) then last_line bs else b ∷ bs
+
+-- the line of an offset, from 1, by the newlines before it
+abbrev pub line_at : List ℕ → ℕ → ℕ
+line_at bytes offset = 1 + length (filter is_newline (take offset bytes))
+
+-- its column, from 1, by the bytes since the last newline before it
+abbrev pub column_at : List ℕ → ℕ → ℕ
+column_at bytes offset = 1 + length (last_line (take offset bytes))
+
+-- `PATH: WHY` or `PATH:LINE:COLUMN: not a token`
+abbrev pub file_text : TreeFile → FileFault → List ℕ
+file_text file (fault.BadHeader error) = file_path file ++ codes ": " ++ tag_text error
+file_text file (fault.BadToken place) =
+    file_path file ++ codes ":" ++ signed_decimal (pos (line_at file.bytes place)) ++ codes ":" ++ signed_decimal (pos (column_at file.bytes place)) ++ codes ": not a token"
+
+-- a file of the tree at this side is refused on a platform
+abbrev pub file_line : List ℕ → Platform → TreeFile → FileFault → List ℕ
+file_line side p file f = fault_line (side ++ codes " " ++ name_of p) (file_text file f)

@@ -1,7 +1,7 @@
 -- What a run writes and how it ends, by the words and the told files. This is what the top call's
 -- clauses speak of: `IsOutcome` says what the definitions give, and `Ran` what a run may do.
 -- Source: this project's reports and exit statuses, docs/definitions.md, "Runs".
-use Rattle.std.specs.Prelude.{◌≡◌, ◌⊎◌, ℕ, List, [], Option, Result, Err, Ok, codes}
+use Rattle.std.specs.Prelude.{◌≡◌, ◌⊎◌, ℕ, List, [], Option, Result, Err, Ok}
 use Rattle.go_load.specs.Answers.{IsFree}
 use Rattle.go_load.specs.Loads.{LoadsModule}
 use Rattle.go_load.specs.declared.error.LoadError.{LoadError}
@@ -11,18 +11,18 @@ use Rattle.go_model.specs.declared.tree.TreeFile.{TreeFile}
 use Rattle.go_model.specs.Lists.{Each}
 use Rattle.go_model.specs.Trees.{IsTree, IsModulePath}
 use Rattle.go_outside.specs.Stores.{Contents}
-use Rattle.go_tags.specs.declared.error.TagError.{TagError}
+use Rattle.api_gate.specs.declared.refusals.FileFault.{FileFault}
 use Rattle.api_gate.specs.declared.decision.Decision.{Decision}
 use Rattle.api_gate.specs.declared.decision.Decision.TheVariants as decision
-use Rattle.api_gate.specs.declared.sources.FileSource.{FileSource}
+use Rattle.api_gate.specs.declared.reading.FileSource.{FileSource}
 use Rattle.api_gate.specs.declared.status.Status.{Status}
 use Rattle.api_gate.specs.declared.status.Status.TheVariants as status
 use Rattle.api_gate.specs.declared.words.Request.{Request}
-use Rattle.api_gate.specs.Choice.{IsFirstFaulty, IsSound}
+use Rattle.api_gate.specs.Faults.{IsFirstFaulty, IsSound}
 use Rattle.api_gate.specs.Delivery.{output_of, fault_of, status_of, Delivered}
 use Rattle.api_gate.specs.Features.{IsReport}
 use Rattle.api_gate.specs.Outcome.{words_line, not_yet_line}
-use Rattle.api_gate.specs.Refusals.{load_line, tag_line, file_path}
+use Rattle.api_gate.specs.Refusals.{file_line, load_line, new_side}
 use Rattle.api_gate.specs.Sources.{AreSources, ArePackages}
 use Rattle.api_gate.specs.Words.{IsRequest}
 
@@ -41,19 +41,15 @@ bad_words = record { output = []; fault = words_line; status = status.Words }
 abbrev pub refused : List ℕ → Outcome
 refused line = record { output = []; fault = line; status = status.Refused }
 
--- how fault lines name the tree of the option `--new`
-abbrev pub new_side : List ℕ
-new_side = codes "new"
-
--- no header is refused, and the chosen files declare packages in the form that is read today
+-- no file is refused, and the chosen files declare packages in the form that is read today
 pub record AreReadAs (p : Platform) (files : List TreeFile) (sources : List FileSource) : Type 0 where
   pub sound : Each (IsSound p) files
   pub read : AreSources p files sources
   pub packages : ArePackages sources
 
--- why a loaded tree is refused on a platform: a header before a form that isn't built yet
+-- why a loaded tree is refused on a platform: a file's own fault before a form that isn't built yet
 pub data IsTreeRefusal (p : Platform) (t : Tree) (line : List ℕ) : Type 0 where
-  by_header : (file : TreeFile) (error : TagError) → IsFirstFaulty p t.files file error → line ≡ tag_line new_side p (file_path file) error → IsTreeRefusal p t line
+  by_file : (file : TreeFile) (f : FileFault) → IsFirstFaulty p t.files file f → line ≡ file_line new_side p file f → IsTreeRefusal p t line
   by_form : Each (IsSound p) t.files → ((sources : List FileSource) → AreReadAs p t.files sources → ⊥) → line ≡ not_yet_line → IsTreeRefusal p t line
 
 -- the report on a loaded tree

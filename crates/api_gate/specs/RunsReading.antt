@@ -9,12 +9,12 @@ use Rattle.go_model.specs.declared.tree.Tree.{Tree}
 use Rattle.go_outside.specs.Stores.{Contents}
 use Rattle.api_gate.specs.declared.decision.Decision.{Decision}
 use Rattle.api_gate.specs.declared.decision.Decision.TheVariants as decision
-use Rattle.api_gate.specs.declared.sources.FileSource.{FileSource}
+use Rattle.api_gate.specs.declared.reading.FileSource.{FileSource}
 use Rattle.api_gate.specs.declared.words.Request.{Request}
 use Rattle.api_gate.specs.Features.{IsReport}
 use Rattle.api_gate.specs.Outcome.{not_yet_line}
-use Rattle.api_gate.specs.Refusals.{load_line}
-use Rattle.api_gate.specs.Runs.{new_side, IsTreeRefusal, IsTreeReport, MayLoad}
+use Rattle.api_gate.specs.Refusals.{load_line, new_side}
+use Rattle.api_gate.specs.Runs.{IsTreeRefusal, IsTreeReport, MayLoad}
 use Rattle.api_gate.specs.Sources.{ArePackages}
 
 -- what the sources of a tree decide, but for want of memory

@@ -11,8 +11,8 @@ use Rattle.go_model.specs.Outline.{IsOutline}
 use Rattle.go_model.specs.Tokens.{IsTokens}
 use Rattle.api_gate.specs.declared.constants.Constant.{Constant}
 use Rattle.api_gate.specs.declared.source.Source.{Source}
-use Rattle.api_gate.specs.declared.sources.FileSource.{FileSource}
-use Rattle.api_gate.specs.Choice.{IsChosen}
+use Rattle.api_gate.specs.declared.reading.FileSource.{FileSource}
+use Rattle.api_gate.specs.Faults.{IsChosen}
 use Rattle.api_gate.specs.Constants.{constants_of, AreExported}
 
 -- the syntax tree has no import, has this package name and declares these constants

@@ -2,13 +2,13 @@
 ghost use Rattle.std.specs.Prelude.{◌≡◌, ◌≢◌, ◌⊎◌, IfOk, OnOk, Decides, List, [], ◌++◌, ◌∷◌, true, codes, ℕ};
 ghost use Rattle.std.specs.Fmt.{signed_decimal};
 ghost use Rattle.std.specs.List.{list_all, slice_split};
-ghost use Rattle.api_gate.specs.declared.sources.FileSource.{FileSource};
+ghost use Rattle.api_gate.specs.declared.reading.FileSource.{FileSource};
 ghost use Rattle.api_gate.specs.Features.{value_line, kind_line, is_public_element, is_slash, IsLineOf, IsFeature, IsFeatureOf, IsReport, unlines};
 ghost use Rattle.api_gate.specs.Growing.{Grows};
 ghost use Rattle.api_gate.specs.FeaturesReading.{IsLineOfSome};
 
 use crate::constants::Constant;
-use crate::sources::FileSource;
+use crate::reading::FileSource;
 use go_load::names::place;
 use go_model::memory::NoMemory;
 use go_model::text::Text;

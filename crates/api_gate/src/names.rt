@@ -1,14 +1,14 @@
 //! The names that the files of a tree declare, and those of their packages.
 ghost use Rattle.std.specs.Prelude.{◌≡◌, List, IfOk, true, false};
 ghost use Rattle.go_model.specs.Lists.{Each, Has, Once};
-ghost use Rattle.api_gate.specs.declared.sources.FileSource.{FileSource};
+ghost use Rattle.api_gate.specs.declared.reading.FileSource.{FileSource};
 ghost use Rattle.api_gate.specs.Constants.{AreExported, begins_upper};
 ghost use Rattle.api_gate.specs.Growing.{Grows};
 ghost use Rattle.api_gate.specs.NamesReading.{Adds, TellsOnce};
 ghost use Rattle.api_gate.specs.Sources.{AreOfOnePackage, ArePackages, declared, declared_in};
 
 use crate::constants::Constant;
-use crate::sources::FileSource;
+use crate::reading::FileSource;
 use go_model::memory::NoMemory;
 use go_model::text::Text;
 use std::alloc::Global;

@@ -1,14 +1,31 @@
 //! The fault lines of refusals.
-ghost use Rattle.std.specs.Prelude.{◌≡◌, ◌++◌, IfOk, codes};
-ghost use Rattle.api_gate.specs.Refusals.{fault_line, limit_text, load_line, tag_line, tag_text};
+ghost use Rattle.std.specs.Prelude.{◌≡◌, ◌≤◌, ◌++◌, IfOk, codes, length, take};
+ghost use Rattle.std.specs.List.{filter};
+ghost use Rattle.api_gate.specs.Refusals.{fault_line, file_line, file_text, is_newline, last_line, limit_text, load_line, tag_text};
+ghost use Rattle.api_gate.specs.RefusalsReading.{IsWithin};
+ghost use Rattle.api_gate.specs.declared.refusals.FileFault.TheVariants as fault;
 
 use go_load::error::LoadError;
+use go_load::names::under;
 use go_model::memory::NoMemory;
 use go_model::platform::Platform;
 use go_model::text::Text;
-use go_model::tree::LimitName;
+use go_model::tree::{LimitName, TreeFile};
 use go_tags::error::TagError;
+use itoa::Buffer;
 use std::alloc::Global;
+
+/// How fault lines name the tree of the option `--new`.
+pub const NEW_SIDE: &[u8] = b"new";
+
+/// Why a file of a tree is refused on a platform.
+#[derive(Clone, Copy, Debug, PartialEq, Eq)]
+pub enum FileFault {
+    /// Its header is refused.
+    BadHeader(TagError),
+    /// At this byte offset stands no token.
+    BadToken(u32),
+}
 
 fn fault_line(alloc: Global, place: &[u8], what: &[u8]) -> Result<Text, NoMemory>
     ensures { IfOk result (λ line. line ≡ fault_line place.now what.now) }
@@ -67,21 +84,105 @@ fn tag_text(error: TagError) -> &'static [u8]
     }
 }
 
-/// The fault line of a refused header, in the file at a path below the root of its tree.
-pub fn tag_line(
+fn is_newline(byte: u8) -> bool
+    ensures { result ≡ is_newline byte }
+{
+    byte == b'\n'
+}
+
+fn newlines(bytes: &[u8]) -> usize
+    ensures count { result ≡ length (filter is_newline bytes.now) }
+    ensures within { result ≤ length bytes.now }
+{
+    let mut count = 0usize;
+    for byte in bytes {
+        if is_newline(*byte) {
+            count += 1;
+        }
+    }
+    count
+}
+
+// How many bytes follow the last newline.
+fn last_line_len(bytes: &[u8]) -> usize
+    ensures len { result ≡ length (last_line bytes.now) }
+    ensures within { result ≤ length bytes.now }
+{
+    let mut len = 0usize;
+    for byte in bytes {
+        if is_newline(*byte) {
+            len = 0;
+        } else {
+            len += 1;
+        }
+    }
+    len
+}
+
+fn header_text(alloc: Global, file: &TreeFile, error: TagError) -> Result<Text, NoMemory>
+    ensures { IfOk result (λ text. text ≡ file_text file.now (fault.BadHeader error)) }
+{
+    let path = under(alloc, file.folder.bytes(), file.name.bytes())?;
+    let mut text = path.into_vec();
+    text.extend_from_slice(b": ")?;
+    text.extend_from_slice(tag_text(error))?;
+    Ok(Text::from_vec(text))
+}
+
+// The bytes before an offset.
+fn front(bytes: &[u8], offset: usize) -> &[u8]
+    requires { offset ≤ length bytes.now }
+    ensures { result.now ≡ take offset bytes.now }
+{
+    &bytes[..offset]
+}
+
+fn token_text(alloc: Global, file: &TreeFile, place: u32) -> Result<Text, NoMemory>
+    requires within { place ≤ length file.now.bytes }
+    requires small { length file.now.bytes ≤ 4194304 }
+    ensures { IfOk result (λ text. text ≡ file_text file.now (fault.BadToken place)) }
+{
+    let path = under(alloc, file.folder.bytes(), file.name.bytes())?;
+    let before = front(file.bytes.bytes(), place as usize);
+    let line = 1 + newlines(before);
+    let column = 1 + last_line_len(before);
+    let mut text = path.into_vec();
+    let mut buffer = Buffer::new();
+    text.extend_from_slice(b":")?;
+    text.extend_from_slice(buffer.format(line as i128).as_bytes())?;
+    text.extend_from_slice(b":")?;
+    text.extend_from_slice(buffer.format(column as i128).as_bytes())?;
+    text.extend_from_slice(b": not a token")?;
+    Ok(Text::from_vec(text))
+}
+
+fn file_text(alloc: Global, file: &TreeFile, fault: FileFault) -> Result<Text, NoMemory>
+    requires within { IsWithin file.now fault }
+    requires small { length file.now.bytes ≤ 4194304 }
+    ensures { IfOk result (λ text. text ≡ file_text file.now fault) }
+{
+    match fault {
+        FileFault::BadHeader(error) => header_text(alloc, file, error),
+        FileFault::BadToken(place) => token_text(alloc, file, place),
+    }
+}
+
+/// The fault line of a file that is refused on a platform. The side says which of the run's trees it
+/// is of.
+pub fn file_line(
     alloc: Global,
     side: &[u8],
     platform: Platform,
-    path: &[u8],
-    error: TagError,
+    file: &TreeFile,
+    fault: FileFault,
 ) -> Result<Text, NoMemory>
-    ensures { IfOk result (λ line. line ≡ tag_line side.now platform path.now error) }
+    requires within { IsWithin file.now fault }
+    requires small { length file.now.bytes ≤ 4194304 }
+    ensures { IfOk result (λ line. line ≡ file_line side.now platform file.now fault) }
 {
     let mut place = Vec::from_slice(alloc, side)?;
     place.extend_from_slice(b" ")?;
     place.extend_from_slice(platform.name())?;
-    let mut what = Vec::from_slice(alloc, path)?;
-    what.extend_from_slice(b": ")?;
-    what.extend_from_slice(tag_text(error))?;
-    fault_line(alloc, &place, &what)
+    let text = file_text(alloc, file, fault)?;
+    fault_line(alloc, &place, text.bytes())
 }

@@ -6,23 +6,22 @@ ghost use Rattle.go_model.specs.declared.tree.Tree.{Tree};
 ghost use Rattle.go_outside.specs.Faults.{Told, Rose};
 ghost use Rattle.go_outside.specs.Sinks.{Takes};
 ghost use Rattle.go_outside.specs.Stores.{Contents};
-ghost use Rattle.api_gate.specs.ChoiceReading.{ChoiceCause};
 ghost use Rattle.api_gate.specs.Delivery.{NeverFell};
+ghost use Rattle.api_gate.specs.FilesReading.{ReadCause};
 ghost use Rattle.api_gate.specs.Outcome.{not_yet_line};
 ghost use Rattle.api_gate.specs.Runs.{Outcome, IsOutcome, MayEnd, Decides, Ran, IsComplete};
 ghost use Rattle.api_gate.specs.RunsReading.{AgreesWith, AgreesWithLoad, AgreesWithSome, Reports};
 ghost use Rattle.api_gate.specs.Words.{IsRequest};
 
-use crate::choice::{ChoiceError, choose};
 use crate::decision::Decision;
 use crate::deliver::deliver;
 use crate::features::{one_report, report};
 use crate::names::are_packages;
-use crate::refusals::{load_line, tag_line};
-use crate::source::SourceError;
-use crate::sources::{FileSource, one_sources, read_sources};
+use crate::reading::{FileSource, ReadError, one_sources, read_files};
+use crate::refusals::{NEW_SIDE, load_line};
 use crate::status::Status;
 use crate::words::{Request, one_request, read_words};
+use go_lex::scan::one_list;
 use go_load::error::LoadError;
 use go_load::load::{load_module, one_answer};
 use go_model::memory::NoMemory;
@@ -36,9 +35,6 @@ use go_outside::sink::Sink;
 use go_tags::header::one_header;
 use std::alloc::Global;
 use std::thread::Threads;
-
-/// The tree that fault lines name `new`.
-const NEW_SIDE: &[u8] = b"new";
 
 const NOT_YET_LINE: &[u8] = b"apigate: input of a form not built yet\n";
 
@@ -79,17 +75,13 @@ fn report_on(alloc: Global, module: &[u8], sources: &[FileSource]) -> Decision
     }
 }
 
-fn refuse_header(alloc: Global, platform: Platform, error: ChoiceError) -> Decision
-    ensures { (t : Tree) → ChoiceCause platform t.files error → AgreesWith platform (Ok t) result }
+// What a tree decides of which a file is refused.
+fn unread(error: ReadError) -> Decision
+    ensures { (p : Platform) (t : Tree) → ReadCause p t.files error → AgreesWith p (Ok t) result }
 {
     match error {
-        ChoiceError::NoMemory => Decision::NoMemory,
-        ChoiceError::Refused(path, cause) => {
-            match tag_line(alloc, NEW_SIDE, platform, path.bytes(), cause) {
-                Ok(line) => Decision::Refused(line),
-                Err(NoMemory) => Decision::NoMemory,
-            }
-        }
+        ReadError::NoMemory => Decision::NoMemory,
+        ReadError::Refused(line) => Decision::Refused(line),
     }
 }
 
@@ -99,15 +91,10 @@ fn tree_features(alloc: Global, platform: Platform, tree: &Tree) -> Decision
     ensures { AgreesWith platform (Ok tree.now) result }
 {
     one_sources();
-    let files = tree.files.items();
-    let flags = match choose(alloc, platform, files) {
-        Ok(flags) => flags,
-        Err(error) => return refuse_header(alloc, platform, error),
-    };
-    match read_sources(alloc, files, flags.items()) {
-        Err(SourceError::NotYet) => not_yet(alloc),
-        Err(SourceError::NoMemory) => Decision::NoMemory,
-        Ok(sources) => report_on(alloc, tree.module.bytes(), sources.items()),
+    match read_files(alloc, platform, tree.files.items()) {
+        Err(error) => unread(error),
+        Ok(None) => not_yet(alloc),
+        Ok(Some(sources)) => report_on(alloc, tree.module.bytes(), sources.items()),
     }
 }
 
@@ -187,6 +174,7 @@ pub fn one_outcome()
     one_request();
     one_answer();
     one_header();
+    one_list();
     one_sources();
     one_report();
 }

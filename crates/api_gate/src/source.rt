@@ -1,8 +1,10 @@
 //! A source file of the first form.
-ghost use Rattle.std.specs.Prelude.{◌≡◌, ◌≤◌, ℕ, List, IfOk, Err, length};
+ghost use Rattle.std.specs.Prelude.{◌≡◌, ◌≤◌, ℕ, List, IfOk, IfErr, length};
+ghost use Rattle.go_model.specs.Lexemes.{IsBadPlace};
 ghost use Rattle.go_model.specs.declared.syntax.declaration.File.{File};
 ghost use Rattle.go_model.specs.Outline.{IsOutline};
 ghost use Rattle.api_gate.specs.declared.source.Source.{Source};
+ghost use Rattle.api_gate.specs.FilesReading.{FormCause, SourceCause};
 ghost use Rattle.api_gate.specs.Sources.{Declares, IsParsed, IsSource};
 
 use crate::constants::{Constant, constants_of};
@@ -28,7 +30,9 @@ pub struct Source {
 /// Why a source file gave nothing.
 #[derive(Clone, Copy, Debug, PartialEq, Eq)]
 pub enum SourceError {
-    /// It isn't of the first form.
+    /// At this byte offset stands no token.
+    BadToken(u32),
+    /// It isn't of the form that is read today.
     NotYet,
     NoMemory,
 }
@@ -46,7 +50,7 @@ impl From<NoMemory> for SourceError {
 
 fn source_of(alloc: Global, outline: &File) -> Result<Source, SourceError>
     ensures ok { IfOk result (Declares outline.now) }
-    ensures not_yet { result ≡ Err SourceError.NotYet → (s : Source) → Declares outline.now s → ⊥ }
+    ensures cause { IfErr result (FormCause ((s : Source) → Declares outline.now s → ⊥)) }
 {
     if !outline.imports.items().is_empty() {
         return Err(SourceError::NotYet);
@@ -63,7 +67,7 @@ fn source_of(alloc: Global, outline: &File) -> Result<Source, SourceError>
 // The tree of these tokens, which are given up.
 fn outline_of(alloc: Global, tokens: List<Token>) -> Result<File, SourceError>
     ensures ok { IfOk result (IsOutline tokens) }
-    ensures not_yet { result ≡ Err SourceError.NotYet → (f : File) → IsOutline tokens f → ⊥ }
+    ensures cause { IfErr result (FormCause ((f : File) → IsOutline tokens f → ⊥)) }
 {
     match parse_outline(alloc, tokens.items()) {
         Err(ParseError::NoMemory) => Err(SourceError::NoMemory),
@@ -74,7 +78,7 @@ fn outline_of(alloc: Global, tokens: List<Token>) -> Result<File, SourceError>
 
 fn parse_source(alloc: Global, tokens: List<Token>) -> Result<Source, SourceError>
     ensures ok { IfOk result (IsParsed tokens) }
-    ensures not_yet { result ≡ Err SourceError.NotYet → (s : Source) → IsParsed tokens s → ⊥ }
+    ensures cause { IfErr result (FormCause ((s : Source) → IsParsed tokens s → ⊥)) }
 {
     one_tree();
     match outline_of(alloc, tokens) {
@@ -83,17 +87,18 @@ fn parse_source(alloc: Global, tokens: List<Token>) -> Result<Source, SourceErro
     }
 }
 
-/// What the bytes of a source file declare. `NotYet` comes exactly where they aren't of the first
-/// form.
+/// What the bytes of a source file declare. `BadToken` comes exactly where they have no tokens, with the
+/// bad place, and `NotYet` exactly where they have, and aren't of the form that is read today.
 pub fn read_source(alloc: Global, bytes: &[u8]) -> Result<Source, SourceError>
     requires { length bytes.now ≤ 4194304 }
-    ensures ok { IfOk result (IsSource bytes.now) }
-    ensures not_yet { result ≡ Err SourceError.NotYet → (s : Source) → IsSource bytes.now s → ⊥ }
+    ensures source { IfOk result (IsSource bytes.now) }
+    ensures sound { IfOk result (λ _. (place : ℕ) → IsBadPlace bytes.now place → ⊥) }
+    ensures cause { IfErr result (SourceCause bytes.now) }
 {
     one_list();
     match scan(alloc, bytes) {
         Err(LexError::NoMemory) => Err(SourceError::NoMemory),
-        Err(LexError::BadToken(_)) => Err(SourceError::NotYet),
+        Err(LexError::BadToken(place)) => Err(SourceError::BadToken(place)),
         Ok(tokens) => parse_source(alloc, tokens),
     }
 }

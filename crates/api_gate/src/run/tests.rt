@@ -160,9 +160,6 @@ const NOT_YET: &[u8] = b"apigate: input of a form not built yet\n";
 fn refuses_sources_of_other_forms(rt: HostRuntime) -> Result<(), Fail> {
     for source in [
         b"".as_slice(),
-        b"package p\n\0".as_slice(),
-        b"package p\nconst X = \"a\n".as_slice(),
-        b"package p /* c".as_slice(),
         b"package p\nconst \xc3\x84 = 5\n".as_slice(),
         b"package p\nconst _ = 5\n".as_slice(),
         b"package p\nconst X = 08\n".as_slice(),
@@ -358,7 +355,7 @@ fn names_the_first_header_that_is_refused(rt: HostRuntime) -> Result<(), Fail> {
     ] {
         let pairs = [
             module,
-            ("new/a.go", b"no form \0".as_slice()),
+            ("new/a.go", b"no form".as_slice()),
             ("new/p/a_windows.go", b"//go:build !!x\n".as_slice()),
             ("new/p/b.go", source),
             ("new/p/c.go", b"//go:build (\n//go:build )\n".as_slice()),
@@ -384,6 +381,39 @@ fn names_the_first_header_that_is_refused(rt: HostRuntime) -> Result<(), Fail> {
     ];
     let fault = b"apigate: new linux-amd64: b.go: +build without go:build\n".as_slice();
     assert!(rt; ends_plainly(&rt, &pairs, 3, b"", fault)?);
+    Ok(())
+}
+
+#[test]
+fn names_the_first_place_without_a_token(rt: HostRuntime) -> Result<(), Fail> {
+    for (source, fault) in [
+        (
+            b"package p\n\0".as_slice(),
+            b"apigate: new linux-amd64: p/p.go:2:1: not a token\n".as_slice(),
+        ),
+        (
+            b"\xef\xbb\xbf\0".as_slice(),
+            b"apigate: new linux-amd64: p/p.go:1:4: not a token\n".as_slice(),
+        ),
+        (
+            b"package p\n\nconst X = \"a\n".as_slice(),
+            b"apigate: new linux-amd64: p/p.go:3:11: not a token\n".as_slice(),
+        ),
+        (
+            b"package p /* c\n".as_slice(),
+            b"apigate: new linux-amd64: p/p.go:1:11: not a token\n".as_slice(),
+        ),
+    ] {
+        // An earlier file is of another form, and a later one has a refused header.
+        let pairs = [
+            ("new/go.mod", b"module m\n".as_slice()),
+            ("new/a.go", b"no form".as_slice()),
+            ("new/p/a_windows.go", b"\0".as_slice()),
+            ("new/p/p.go", source),
+            ("new/q/q.go", b"// +build x\n".as_slice()),
+        ];
+        assert!(rt; ends_plainly(&rt, &pairs, 3, b"", fault)?, "{source:?}");
+    }
     Ok(())
 }
 

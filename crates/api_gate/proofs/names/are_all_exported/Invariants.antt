@@ -1,6 +1,6 @@
 use Rattle.std.proofs.Common.{drop}
 use Rattle.go_model.specs.Lists.{Each}
-use Rattle.api_gate.specs.declared.sources.FileSource.{FileSource}
+use Rattle.api_gate.specs.declared.reading.FileSource.{FileSource}
 use Rattle.api_gate.specs.Constants.{AreExported}
 use Rattle.api_gate.proofs.names.are_all_exported.Given as goal
 

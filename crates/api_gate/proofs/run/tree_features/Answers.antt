@@ -1,7 +1,7 @@
 use Rattle.std.proofs.Common.{List, subst}
 use Rattle.go_model.specs.declared.tree.TreeFile.{TreeFile}
-use Rattle.api_gate.specs.ChoiceReading.{ChoiceCause}
+use Rattle.api_gate.specs.FilesReading.{ReadCause}
 use Rattle.api_gate.proofs.run.tree_features.Goals as goal
 
 pub returns-in-Err : goal.returns-in-Err
-returns-in-Err c = c.refuse_header.ensures c.args.tree.now (subst (λ (files : List TreeFile). ChoiceCause c.args.platform files c.in-Err.error) c.items-files.ensures c.in-Err.ensures.cause)
+returns-in-Err c = c.unread.ensures c.args.platform c.args.tree.now (subst (λ (files : List TreeFile). ReadCause c.args.platform files c.in-Err.error) c.items.ensures c.in-Err.ensures.cause)

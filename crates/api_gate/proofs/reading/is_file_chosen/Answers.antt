@@ -2,8 +2,8 @@ use Rattle.std.proofs.Common.{List, ℕ, ap, subst, ◌∙◌}
 use Rattle.std.specs.Option.{option_copied}
 use Rattle.go_model.specs.BuildValues.{is_chosen}
 use Rattle.go_model.specs.Headers.{IsHeader}
-use Rattle.api_gate.proofs.ChosenFiles.{chosen_by}
-use Rattle.api_gate.proofs.choice.is_file_chosen.Goals as goal
+use Rattle.api_gate.proofs.ReadFiles.{chosen_by}
+use Rattle.api_gate.proofs.reading.is_file_chosen.Goals as goal
 
 pub returns-in-Ok-clause-chosen : goal.returns-in-Ok-clause-chosen
 returns-in-Ok-clause-chosen c =

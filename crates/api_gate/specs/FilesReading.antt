@@ -1,0 +1,61 @@
+-- What the functions that read the files of a tree answer.
+use Rattle.std.specs.Prelude.{◌≡◌, ℕ, Bool, true, false, Option, Some, None, List, [], ◌∷◌, ◌++◌}
+use Rattle.go_model.specs.declared.platform.Platform.{Platform}
+use Rattle.go_model.specs.declared.tree.TreeFile.{TreeFile}
+use Rattle.go_model.specs.Lexemes.{IsBadPlace}
+use Rattle.api_gate.specs.declared.reading.FileAnswer.{FileAnswer}
+use Rattle.api_gate.specs.declared.reading.FileAnswer.TheVariants as answer
+use Rattle.api_gate.specs.declared.reading.FileSource.{FileSource}
+use Rattle.api_gate.specs.declared.reading.ReadError.{ReadError}
+use Rattle.api_gate.specs.declared.reading.ReadError.TheVariants as error
+use Rattle.api_gate.specs.declared.refusals.FileFault.{FileFault}
+use Rattle.api_gate.specs.declared.source.Source.{Source}
+use Rattle.api_gate.specs.declared.source.SourceError.{SourceError}
+use Rattle.api_gate.specs.declared.source.SourceError.TheVariants as source
+use Rattle.api_gate.specs.Faults.{IsChosen, IsFaulty, IsFirstFaulty}
+use Rattle.api_gate.specs.Refusals.{file_line, new_side}
+use Rattle.api_gate.specs.Sources.{AreSources, IsFileSource, IsSource}
+
+-- whether the platform chooses the file
+pub record Tells (p : Platform) (file : TreeFile) (flag : Bool) : Type 0 where
+  pub chosen : flag ≡ true → IsChosen p file
+  pub left : flag ≡ false → IsChosen p file → ⊥
+
+-- why bytes declare nothing: want of memory may come at any time
+abbrev pub SourceCause : List ℕ → SourceError → Type 0
+SourceCause bytes (source.BadToken place) = IsBadPlace bytes place
+SourceCause bytes source.NotYet = ((place : ℕ) → IsBadPlace bytes place → ⊥) × ((s : Source) → IsSource bytes s → ⊥)
+SourceCause bytes source.NoMemory = Unit {0}
+
+-- why tokens or a tree declare nothing
+abbrev pub FormCause : Type 0 → SourceError → Type 0
+FormCause none (source.BadToken place) = ⊥
+FormCause none source.NotYet = none
+FormCause none source.NoMemory = Unit {0}
+
+-- what a file that isn't refused gives
+abbrev pub Gives : Platform → TreeFile → FileAnswer → Type 0
+Gives p file answer.LeftOut = IsChosen p file → ⊥
+Gives p file answer.NotYet = IsChosen p file × ((s : FileSource) → IsFileSource file s → ⊥)
+Gives p file (answer.Declares s) = IsChosen p file × IsFileSource file s
+
+-- why a file is refused
+abbrev pub FileCause : Platform → TreeFile → ReadError → Type 0
+FileCause p file (error.Refused line) = (f : FileFault) × IsFaulty p file f × (line ≡ file_line new_side p file f)
+FileCause p file error.NoMemory = Unit {0}
+
+-- what the files of a tree declare, or that one of them isn't of the form that is read today
+abbrev pub ReadAs : Platform → List TreeFile → Option (List FileSource) → Type 0
+ReadAs p files (Some sources) = AreSources p files sources
+ReadAs p files None = (sources : List FileSource) → AreSources p files sources → ⊥
+
+-- why the files of a tree are refused
+abbrev pub ReadCause : Platform → List TreeFile → ReadError → Type 0
+ReadCause p files (error.Refused line) = (file : TreeFile) × (f : FileFault) × IsFirstFaulty p files file f × (line ≡ file_line new_side p file f)
+ReadCause p files error.NoMemory = Unit {0}
+
+-- the answer goes to what was read so far
+abbrev pub Added : FileAnswer → List FileSource → Bool → List FileSource → Bool → Type 0
+Added answer.LeftOut sources is_read more is_more = (more ≡ sources) × (is_more ≡ is_read)
+Added answer.NotYet sources is_read more is_more = (more ≡ sources) × (is_more ≡ false)
+Added (answer.Declares s) sources is_read more is_more = (more ≡ sources ++ s ∷ []) × (is_more ≡ is_read)

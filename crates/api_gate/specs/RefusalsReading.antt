@@ -1,0 +1,10 @@
+-- What the functions that write fault lines ask for.
+use Rattle.std.specs.Prelude.{◌≤◌, length}
+use Rattle.go_model.specs.declared.tree.TreeFile.{TreeFile}
+use Rattle.api_gate.specs.declared.refusals.FileFault.{FileFault}
+use Rattle.api_gate.specs.declared.refusals.FileFault.TheVariants as fault
+
+-- the place that is named stands in the file, or behind its last byte
+abbrev pub IsWithin : TreeFile → FileFault → Type 0
+IsWithin file (fault.BadHeader error) = Unit {0}
+IsWithin file (fault.BadToken place) = place ≤ length file.bytes
