@@ -58,9 +58,9 @@ module _ {A : Type 0} (key : A → List ℕ) where
   before_item [] ys x y a h = absurd h
   before_item (z ∷ xs) ys x y a (inl s) = subst (λ (w : A). order (key w) (key x) ≡ Less) s (each_key (key z) (xs ++ x ∷ ys) x a.0 (has_middle xs ys x))
     where
-    has_middle : (xs ys : List A) (x : A) → Has (xs ++ x ∷ ys) x
-    has_middle [] ys x = inl refl
-    has_middle (w ∷ xs) ys x = inr (has_middle xs ys x)
+      has_middle : (xs ys : List A) (x : A) → Has (xs ++ x ∷ ys) x
+      has_middle [] ys x = inl refl
+      has_middle (w ∷ xs) ys x = inr (has_middle xs ys x)
   before_item (z ∷ xs) ys x y a (inr h) = before_item xs ys x y a.1 h
 
   after_item : (xs ys : List A) (x y : A) → Ascending (map key (xs ++ x ∷ ys)) → Has ys y → order (key x) (key y) ≡ Less
@@ -91,11 +91,11 @@ module _ {A : Type 0} (key : A → List ℕ) where
     pub narrowed_none : (low high : ℕ) → high ≤ low → Narrowed low high → None ≡ first_with key items k
     narrowed_none low high h n = sym (first_none items k each)
       where
-      each : (x : A) → Has items x → bytes_eq (key x) k ≡ false
-      each x i = elim (has_split (take low items) (drop low items) x (subst (λ (w : List A). Has w x) (sym (take-append-drop low items)) i)) [
-        | inl a ↦ other_less (key x) k (n.before x a)
-        | inr b ↦ other_greater (key x) k (n.after x (subst (λ (m : ℕ). Has (drop m items) x) (omega (arith, n.rises)) b))
-      ]
+        each : (x : A) → Has items x → bytes_eq (key x) k ≡ false
+        each x i = elim (has_split (take low items) (drop low items) x (subst (λ (w : List A). Has w x) (sym (take-append-drop low items)) i)) [
+          | inl a ↦ other_less (key x) k (n.before x a)
+          | inr b ↦ other_greater (key x) k (n.after x (subst (λ (m : ℕ). Has (drop m items) x) (omega (arith, n.rises)) b))
+        ]
 
     module _ (ordered : Ascending (map key items)) (low high middle : ℕ) (x : A) (n : Narrowed low high) (in_range : middle < high) (is : x ≡ get_or items middle x) where
       short : middle < length items
@@ -132,8 +132,8 @@ module _ {A : Type 0} (key : A → List ℕ) where
       pub narrowed_equal : order (key x) k ≡ Equal → Some x ≡ first_with key items k
       narrowed_equal h = sym (ap (λ (w : List A). first_with key w k) parted ∙ first_skip (take middle items) (x ∷ drop (middle + 1) items) k (λ y i. other_less (key y) k (subst (λ (w : List ℕ). order (key y) w ≡ Less) same (before_item (take middle items) (drop (middle + 1) items) x y sorted i))) ∙ ap (λ b. if b then Some x else first_with key (drop (middle + 1) items) k) (sym (is_eq-slice_cmp (key x) k) ∙ ap is_eq h))
         where
-        same : key x ≡ k
-        same = slice_cmp-IsAntisymmetric nat_cmp-IsAntisymmetric (key x) k h
+          same : key x ≡ k
+          same = slice_cmp-IsAntisymmetric nat_cmp-IsAntisymmetric (key x) k h
 
 pub in_middle : (low high n : ℕ) → low < high → high ≤ n → low + (high - low) / 2 < n
 in_middle low high n a b = omega arith

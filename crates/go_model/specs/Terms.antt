@@ -2,7 +2,6 @@
 -- Public source: Go specification, "Types", "Type identity" and, for `error`, "Errors".
 use Rattle.std.specs.Prelude.{◌≡◌, ◌&&◌, ℕ, List, [], ◌∷◌, Bool, true, false, codes}
 use Rattle.std.specs.Str.{bytes_eq}
-
 use Rattle.go_model.specs.declared.types.names.TypeName.{TypeName}
 use Rattle.go_model.specs.declared.types.names.Sel.{Sel}
 use Rattle.go_model.specs.declared.types.term.Term.{Term, Term-F, out-Term, roll-Term}

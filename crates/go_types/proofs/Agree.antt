@@ -47,17 +47,17 @@ module _ (P : TypeName → Bool) where
   base_within : (t : Term) → Within P t → Within P (base_of t)
   base_within t w = by (out-Term t) refl
     where
-    by : (l : Layer) → out-Term t ≡ l → Within P (base_layer t l)
-    by (Term-F.Plain b) e = w
-    by (Term-F.Named n) e = w
-    by (Term-F.Pointer b) e = λ n h. rolled t (Term-F.Pointer b) e w n (base_names b n h)
-    by (Term-F.Slice b) e = w
-    by (Term-F.Array k b) e = w
-    by (Term-F.Map k b) e = w
-    by (Term-F.Chan d b) e = w
-    by (Term-F.Func g) e = w
-    by (Term-F.Struct fs) e = w
-    by (Term-F.Interface ms) e = w
+      by : (l : Layer) → out-Term t ≡ l → Within P (base_layer t l)
+      by (Term-F.Plain b) e = w
+      by (Term-F.Named n) e = w
+      by (Term-F.Pointer b) e = λ n h. rolled t (Term-F.Pointer b) e w n (base_names b n h)
+      by (Term-F.Slice b) e = w
+      by (Term-F.Array k b) e = w
+      by (Term-F.Map k b) e = w
+      by (Term-F.Chan d b) e = w
+      by (Term-F.Func g) e = w
+      by (Term-F.Struct fs) e = w
+      by (Term-F.Interface ms) e = w
 
   named_within : (t : Term) (n : TypeName) → out-Term t ≡ Term-F.Named n → Within P t → P n ≡ true
   named_within t n e w = rolled t (Term-F.Named n) e w n (name_stands n)
@@ -66,32 +66,32 @@ module _ (P : TypeName → Bool) where
     under_same : (t : Term) → Within P t → under A t ≡ under B t
     under_same t w = by (out-Term t) refl
       where
-      by : (l : Layer) → out-Term t ≡ l → under_layer A l ≡ under_layer B l
-      by (Term-F.Plain b) e = refl
-      by (Term-F.Named n) e = ap (under_entry n) (same n (named_within t n e w))
-      by (Term-F.Pointer b) e = refl
-      by (Term-F.Slice b) e = refl
-      by (Term-F.Array k b) e = refl
-      by (Term-F.Map k b) e = refl
-      by (Term-F.Chan d b) e = refl
-      by (Term-F.Func g) e = refl
-      by (Term-F.Struct fs) e = refl
-      by (Term-F.Interface ms) e = refl
+        by : (l : Layer) → out-Term t ≡ l → under_layer A l ≡ under_layer B l
+        by (Term-F.Plain b) e = refl
+        by (Term-F.Named n) e = ap (under_entry n) (same n (named_within t n e w))
+        by (Term-F.Pointer b) e = refl
+        by (Term-F.Slice b) e = refl
+        by (Term-F.Array k b) e = refl
+        by (Term-F.Map k b) e = refl
+        by (Term-F.Chan d b) e = refl
+        by (Term-F.Func g) e = refl
+        by (Term-F.Struct fs) e = refl
+        by (Term-F.Interface ms) e = refl
 
     declared_same : (t : Term) → Within P t → declared_methods A (out-Term t) ≡ declared_methods B (out-Term t)
     declared_same t w = by (out-Term t) refl
       where
-      by : (l : Layer) → out-Term t ≡ l → declared_methods A l ≡ declared_methods B l
-      by (Term-F.Plain b) e = refl
-      by (Term-F.Named n) e = ap methods_of_entry (same n (named_within t n e w))
-      by (Term-F.Pointer b) e = refl
-      by (Term-F.Slice b) e = refl
-      by (Term-F.Array k b) e = refl
-      by (Term-F.Map k b) e = refl
-      by (Term-F.Chan d b) e = refl
-      by (Term-F.Func g) e = refl
-      by (Term-F.Struct fs) e = refl
-      by (Term-F.Interface ms) e = refl
+        by : (l : Layer) → out-Term t ≡ l → declared_methods A l ≡ declared_methods B l
+        by (Term-F.Plain b) e = refl
+        by (Term-F.Named n) e = ap methods_of_entry (same n (named_within t n e w))
+        by (Term-F.Pointer b) e = refl
+        by (Term-F.Slice b) e = refl
+        by (Term-F.Array k b) e = refl
+        by (Term-F.Map k b) e = refl
+        by (Term-F.Chan d b) e = refl
+        by (Term-F.Func g) e = refl
+        by (Term-F.Struct fs) e = refl
+        by (Term-F.Interface ms) e = refl
 
     endings_same : (s : Sel) (at : Spot) → Within P at.term → endings A s at ≡ endings B s at
     endings_same s at i =
@@ -109,17 +109,17 @@ module _ (P : TypeName → Bool) where
       under_within : (t : Term) (l : Layer) → under A t ≡ l → Within P t → Within P (roll-Term l)
       under_within t l u w = subst (λ (k : Layer). Within P (roll-Term k)) u (by (out-Term t) refl)
         where
-        by : (k : Layer) → out-Term t ≡ k → Within P (roll-Term (under_layer A k))
-        by (Term-F.Plain b) e = rolled t (Term-F.Plain b) e w
-        by (Term-F.Named n) e = entry_within n (entry A n) (named_within t n e w) refl (rolled t (Term-F.Named n) e w)
-        by (Term-F.Pointer b) e = rolled t (Term-F.Pointer b) e w
-        by (Term-F.Slice b) e = rolled t (Term-F.Slice b) e w
-        by (Term-F.Array k b) e = rolled t (Term-F.Array k b) e w
-        by (Term-F.Map k b) e = rolled t (Term-F.Map k b) e w
-        by (Term-F.Chan d b) e = rolled t (Term-F.Chan d b) e w
-        by (Term-F.Func g) e = rolled t (Term-F.Func g) e w
-        by (Term-F.Struct fs) e = rolled t (Term-F.Struct fs) e w
-        by (Term-F.Interface ms) e = rolled t (Term-F.Interface ms) e w
+          by : (k : Layer) → out-Term t ≡ k → Within P (roll-Term (under_layer A k))
+          by (Term-F.Plain b) e = rolled t (Term-F.Plain b) e w
+          by (Term-F.Named n) e = entry_within n (entry A n) (named_within t n e w) refl (rolled t (Term-F.Named n) e w)
+          by (Term-F.Pointer b) e = rolled t (Term-F.Pointer b) e w
+          by (Term-F.Slice b) e = rolled t (Term-F.Slice b) e w
+          by (Term-F.Array k b) e = rolled t (Term-F.Array k b) e w
+          by (Term-F.Map k b) e = rolled t (Term-F.Map k b) e w
+          by (Term-F.Chan d b) e = rolled t (Term-F.Chan d b) e w
+          by (Term-F.Func g) e = rolled t (Term-F.Func g) e w
+          by (Term-F.Struct fs) e = rolled t (Term-F.Struct fs) e w
+          by (Term-F.Interface ms) e = rolled t (Term-F.Interface ms) e w
 
       field_within : (t : Term) (fs : List Field) (f : Field) → under A t ≡ Term-F.Struct fs → Has fs f → Within P t → Within P (out-Field f).term
       field_within t fs f u h w = λ n k. under_within t (Term-F.Struct fs) u w n (field_has fs f n h k)
@@ -127,10 +127,10 @@ module _ (P : TypeName → Bool) where
       step_within : (through : Bool) (f : Field) (at : Spot) → Within P (out-Field f).term → Has (step through f) at → Within P at.term
       step_within through f at w h = by (out-Field f).embedded h
         where
-        by : (b : Bool) → Has (if b then record { through = through || is_pointer (out-Field f).term; term = base_of (out-Field f).term } ∷ [] else []) at → Within P at.term
-        by true (inl e) = subst (λ (s : Spot). Within P s.term) e (base_within (out-Field f).term w)
-        by true (inr k) = absurd k
-        by false k = absurd k
+          by : (b : Bool) → Has (if b then record { through = through || is_pointer (out-Field f).term; term = base_of (out-Field f).term } ∷ [] else []) at → Within P at.term
+          by true (inl e) = subst (λ (s : Spot). Within P s.term) e (base_within (out-Field f).term w)
+          by true (inr k) = absurd k
+          by false k = absurd k
 
       fields_within : (t : Term) (l : Layer) (f : Field) → under A t ≡ l → Has (fields_of l) f → Within P t → Within P (out-Field f).term
       fields_within t (Term-F.Struct fs) f u h w = field_within t fs f u h w
@@ -163,17 +163,17 @@ module _ (P : TypeName → Bool) where
       start_same : (t : Term) → Within P t → start A t ≡ start B t
       start_same t w = by (out-Term t) refl
         where
-        by : (l : Layer) → out-Term t ≡ l → start_layer A t l ≡ start_layer B t l
-        by (Term-F.Plain b) e = refl
-        by (Term-F.Named n) e = ap (start_named t) (under_same t w)
-        by (Term-F.Pointer b) e = pointer_same t b (λ n h. rolled t (Term-F.Pointer b) e w n (base_names b n h))
-        by (Term-F.Slice b) e = refl
-        by (Term-F.Array k b) e = refl
-        by (Term-F.Map k b) e = refl
-        by (Term-F.Chan d b) e = refl
-        by (Term-F.Func g) e = refl
-        by (Term-F.Struct fs) e = refl
-        by (Term-F.Interface ms) e = refl
+          by : (l : Layer) → out-Term t ≡ l → start_layer A t l ≡ start_layer B t l
+          by (Term-F.Plain b) e = refl
+          by (Term-F.Named n) e = ap (start_named t) (under_same t w)
+          by (Term-F.Pointer b) e = pointer_same t b (λ n h. rolled t (Term-F.Pointer b) e w n (base_names b n h))
+          by (Term-F.Slice b) e = refl
+          by (Term-F.Array k b) e = refl
+          by (Term-F.Map k b) e = refl
+          by (Term-F.Chan d b) e = refl
+          by (Term-F.Func g) e = refl
+          by (Term-F.Struct fs) e = refl
+          by (Term-F.Interface ms) e = refl
 
       start_pointer_within : (t base : Term) (l : Layer) → Within P t → Within P base → Within P (start_pointer t base l).term
       start_pointer_within t base (Term-F.Plain b) w v = v
@@ -202,17 +202,17 @@ module _ (P : TypeName → Bool) where
       start_within : (t : Term) → Within P t → Within P (start A t).term
       start_within t w = by (out-Term t) refl
         where
-        by : (l : Layer) → out-Term t ≡ l → Within P (start_layer A t l).term
-        by (Term-F.Plain b) e = w
-        by (Term-F.Named n) e = start_named_within t (under A t) w refl
-        by (Term-F.Pointer b) e = start_pointer_within t b (under A b) w (λ n h. rolled t (Term-F.Pointer b) e w n (base_names b n h))
-        by (Term-F.Slice b) e = w
-        by (Term-F.Array k b) e = w
-        by (Term-F.Map k b) e = w
-        by (Term-F.Chan d b) e = w
-        by (Term-F.Func g) e = w
-        by (Term-F.Struct fs) e = w
-        by (Term-F.Interface ms) e = w
+          by : (l : Layer) → out-Term t ≡ l → Within P (start_layer A t l).term
+          by (Term-F.Plain b) e = w
+          by (Term-F.Named n) e = start_named_within t (under A t) w refl
+          by (Term-F.Pointer b) e = start_pointer_within t b (under A b) w (λ n h. rolled t (Term-F.Pointer b) e w n (base_names b n h))
+          by (Term-F.Slice b) e = w
+          by (Term-F.Array k b) e = w
+          by (Term-F.Map k b) e = w
+          by (Term-F.Chan d b) e = w
+          by (Term-F.Func g) e = w
+          by (Term-F.Struct fs) e = w
+          by (Term-F.Interface ms) e = w
 
       reach_same : (s : Sel) (t : Term) → Within P t → (k : ℕ) → ends A s k (start A t) ≡ ends B s k (start B t)
       reach_same s t w k = ends_same s k (start A t) (start_within t w) ∙ ap (ends B s k) (start_same t w)

@@ -19,18 +19,18 @@ module _ (T : Table) (profile : Bool) (from to : Term) where
   assigned true a b c d = assign_interface d
   assigned false a b c d = none
     where
-    none : Assignable T profile from to → ⊥
-    none (assign_identical x) = a x
-    none (assign_underlying x) = b x
-    none (assign_interface x) = d x
-    none (assign_channel x) = c x
+      none : Assignable T profile from to → ⊥
+      none (assign_identical x) = a x
+      none (assign_underlying x) = b x
+      none (assign_interface x) = d x
+      none (assign_channel x) = c x
 
   pub converted : (answer : Bool) → basics_convert T from to ≡ false → (UnderlyingConverts T profile from to → ⊥) → (PointerConverts T profile from to → ⊥) → Decides (Assignable T profile from to) answer → Decides (Convertible T profile from to) answer
   converted true a b c d = convert_assignable d
   converted false a b c d = none
     where
-    none : Convertible T profile from to → ⊥
-    none (convert_assignable x) = d x
-    none (convert_underlying x) = b x
-    none (convert_pointer x) = c x
-    none (convert_basic x) = true≢false (sym x ∙ a)
+      none : Convertible T profile from to → ⊥
+      none (convert_assignable x) = d x
+      none (convert_underlying x) = b x
+      none (convert_pointer x) = c x
+      none (convert_basic x) = true≢false (sym x ∙ a)

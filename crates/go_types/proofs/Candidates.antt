@@ -67,8 +67,8 @@ tested false x e h = absurd h
 not_field : (t : Term) (e : Ending) → e.target ≡ field t → IsMethod e → ⊥
 not_field t e i m = no (sym i ∙ m.2)
   where
-  no : field t ≡ method m.0 m.1 → ⊥
-  no k = absurd (cc)
+    no : field t ≡ method m.0 m.1 → ⊥
+    no k = absurd (cc)
 
 field_no : (s : Sel) (q : Bool) (f : Field) (e : Ending) → Has (field_ending s q f) e → IsMethod e → ⊥
 field_no s q f e h m = let k = tested (same_sel (out-Field f).sel s) (record { through = q; target = field (out-Field f).term }) e h in not_field (out-Field f).term e (ap (λ (x : Ending). x.target) (sym k.1)) m
@@ -82,12 +82,12 @@ method_yes s q m e h = sel_is (out-Method m).sel s (tested (same_sel (out-Method
 -- a method that a selector names in a type itself is one of its methods
 place_has : (T : Table) (s : Sel) (at : Spot) (e : Ending) → Has (endings T s at) e → IsMethod e → Has (place_sels T at) s
 place_has T s at e h m = elim (has-split ((gather (field_ending s at.through) (fields_of (under T at.term))) ++ (gather (declared_ending s at.through) (declared_methods T (out-Term at.term)))) (gather (method_ending s at.through) (methods_of (under T at.term))) e h) [
-    | inl b ↦ elim (has-split (gather (field_ending s at.through) (fields_of (under T at.term))) (gather (declared_ending s at.through) (declared_methods T (out-Term at.term))) e b) [
-      | inl a ↦ (let k = gather_of (field_ending s at.through) (fields_of (under T at.term)) e a in absurd (field_no s at.through k.0 e k.2 m))
-      | inr c ↦ (let k = gather_of (declared_ending s at.through) (declared_methods T (out-Term at.term)) e c in has-left (map declared_sel (declared_methods T (out-Term at.term))) (map method_sel (methods_of (under T at.term))) s (has_map declared_sel (declared_methods T (out-Term at.term)) k.0 s k.1 (declared_yes s at.through k.0 e k.2)))
-    ]
-    | inr d ↦ (let k = gather_of (method_ending s at.through) (methods_of (under T at.term)) e d in has-right (map declared_sel (declared_methods T (out-Term at.term))) (map method_sel (methods_of (under T at.term))) s (has_map method_sel (methods_of (under T at.term)) k.0 s k.1 (method_yes s at.through k.0 e k.2)))
+  | inl b ↦ elim (has-split (gather (field_ending s at.through) (fields_of (under T at.term))) (gather (declared_ending s at.through) (declared_methods T (out-Term at.term))) e b) [
+    | inl a ↦ (let k = gather_of (field_ending s at.through) (fields_of (under T at.term)) e a in absurd (field_no s at.through k.0 e k.2 m))
+    | inr c ↦ (let k = gather_of (declared_ending s at.through) (declared_methods T (out-Term at.term)) e c in has-left (map declared_sel (declared_methods T (out-Term at.term))) (map method_sel (methods_of (under T at.term))) s (has_map declared_sel (declared_methods T (out-Term at.term)) k.0 s k.1 (declared_yes s at.through k.0 e k.2)))
   ]
+  | inr d ↦ (let k = gather_of (method_ending s at.through) (methods_of (under T at.term)) e d in has-right (map declared_sel (declared_methods T (out-Term at.term))) (map method_sel (methods_of (under T at.term))) s (has_map method_sel (methods_of (under T at.term)) k.0 s k.1 (method_yes s at.through k.0 e k.2)))
+]
 
 layer_has : (T : Table) (s : Sel) (layer : List Spot) (e : Ending) → Has (gather (endings T s) layer) e → IsMethod e → Has (gather (place_sels T) layer) s
 layer_has T s layer e h m = let k = gather_of (endings T s) layer e h in gather_has (place_sels T) layer k.0 s k.1 (place_has T s k.0 e k.2 m)
@@ -121,26 +121,27 @@ next_try T t depth layer new once twice newer again sels more l g f = record {
   ];
 }
   where
-  now : (s : Sel) (e : Ending) → IsOnly T s t depth e → IsMethod e → Has more s
-  now s e o m =
-      let k = here T s (start T t) (l.layers s).layered o.none in
-      let j = some_of (gather (ends T s 0) layer) (ap (λ (w : List Ending). min 2 (length w)) (sym o.only) ∙ k) in
-      let i = only_item (ends T s depth (start T t)) e j.0 o.only (sub_here T s (start T t) j.0 (l.layers s).layered j.1) in
-      g.gained s (layer_has T s layer e (subst (λ (w : List Ending). Has w e) (sym (gather_none T s layer)) (subst (Has (gather (ends T s 0) layer)) (sym i) j.1)) m)
+    now : (s : Sel) (e : Ending) → IsOnly T s t depth e → IsMethod e → Has more s
+    now s e o m =
+        let k = here T s (start T t) (l.layers s).layered o.none in
+        let j = some_of (gather (ends T s 0) layer) (ap (λ (w : List Ending). min 2 (length w)) (sym o.only) ∙ k) in
+        let i = only_item (ends T s depth (start T t)) e j.0 o.only (sub_here T s (start T t) j.0 (l.layers s).layered j.1) in
+        g.gained s (layer_has T s layer e (subst (λ (w : List Ending). Has w e) (sym (gather_none T s layer)) (subst (Has (gather (ends T s 0) layer)) (sym i) j.1)) m)
 
 pub all_tried : (T : Table) (t : Term) (depth : ℕ) (layer : List Spot) (once twice : List Key) (sels : List Sel) → Tried T t depth layer once twice sels → layer ≡ [] → (s : Sel) (g : Signature) → InSet T t s g → Has sels s
 all_tried T t depth layer once twice sels l e s g i = elim (side i.depth depth) [
-    | inl a ↦ l.tried s i.depth _ a i.only (i.pointer, g, refl)
-    | inr b ↦ absurd (one_some _ _ (none_left T s (start T t) depth layer (l.layers s).seen (l.layers s).layered (λ k h. i.only.none k (omega (arith, h, b))) e i.depth) i.only.only)
-  ]
+  | inl a ↦ l.tried s i.depth _ a i.only (i.pointer, g, refl)
+  | inr b ↦ absurd (one_some _ _ (none_left T s (start T t) depth layer (l.layers s).seen (l.layers s).layered (λ k h. i.only.none k (omega (arith, h, b))) e i.depth) i.only.only)
+]
   where
-  side : (d n : ℕ) → (d < n) ⊎ (n ≤ d)
-  side zero zero = inr (omega arith)
-  side zero (suc n) = inl (omega arith)
-  side (suc d) zero = inr (omega arith)
-  side (suc d) (suc n) = elim (side d n) [ inl a ↦ inl (omega arith) | inr b ↦ inr (omega arith) ]
-  one_some : {A : Type 0} (xs : List A) (x : A) → xs ≡ [] → xs ≡ x ∷ [] → ⊥
-  one_some xs x a b = absurd (cc)
+    side : (d n : ℕ) → (d < n) ⊎ (n ≤ d)
+    side zero zero = inr (omega arith)
+    side zero (suc n) = inl (omega arith)
+    side (suc d) zero = inr (omega arith)
+    side (suc d) (suc n) = elim (side d n) [ inl a ↦ inl (omega arith) | inr b ↦ inr (omega arith) ]
+
+    one_some : {A : Type 0} (xs : List A) (x : A) → xs ≡ [] → xs ≡ x ∷ [] → ⊥
+    one_some xs x a b = absurd (cc)
 
 map_next : {A : Type 0} (f : A → Sel) (xs : List A) (i : ℕ) (x : A) → i < length xs → x ≡ get_or xs i x → map f (take (i + 1) xs) ≡ map f (take i xs) ++ f x ∷ []
 map_next f xs i x h e = ap (map f) (taken_next xs i x h e) ∙ map-append f (take i xs) (x ∷ [])
@@ -180,10 +181,11 @@ next_collected T t keys rest old new s e c (inl a) = record {
   ];
 }
   where
-  shape : map method_sel old ++ keys ≡ map method_sel new ++ rest
-  shape = ap (λ w. map method_sel old ++ w) (e ∙ ap (λ w. w ∷ rest) (sym a.2)) ∙ sym (append_assoc (map method_sel old) (method_sel a.0 ∷ []) rest) ∙ ap (λ w. w ++ rest) (sym (ap (map method_sel) a.1 ∙ map-append method_sel old (a.0 ∷ [])))
-  same_method : (m n : Method) → (out-Method m).sel ≡ (out-Method n).sel → (out-Method m).signature ≡ (out-Method n).signature → m ≡ n
-  same_method m n i j = sym (roll-out-Method m) ∙ ap (λ x. roll-Method (record { sel = x; signature = (out-Method m).signature })) i ∙ ap (λ x. roll-Method (record { sel = (out-Method n).sel; signature = x })) j ∙ roll-out-Method n
+    shape : map method_sel old ++ keys ≡ map method_sel new ++ rest
+    shape = ap (λ w. map method_sel old ++ w) (e ∙ ap (λ w. w ∷ rest) (sym a.2)) ∙ sym (append_assoc (map method_sel old) (method_sel a.0 ∷ []) rest) ∙ ap (λ w. w ++ rest) (sym (ap (map method_sel) a.1 ∙ map-append method_sel old (a.0 ∷ [])))
+
+    same_method : (m n : Method) → (out-Method m).sel ≡ (out-Method n).sel → (out-Method m).signature ≡ (out-Method n).signature → m ≡ n
+    same_method m n i j = sym (roll-out-Method m) ∙ ap (λ x. roll-Method (record { sel = x; signature = (out-Method m).signature })) i ∙ ap (λ x. roll-Method (record { sel = (out-Method n).sel; signature = x })) j ∙ roll-out-Method n
 next_collected T t keys rest old new s e c (inr a) = record {
   sorted = subst (λ (w : List Method). IsStrictlySortedBy sel_order (map method_sel w ++ rest)) (sym a.0) (drop_middle s (map method_sel old) rest (subst (λ (w : List Sel). IsStrictlySortedBy sel_order (map method_sel old ++ w)) e c.sorted));
   sound = λ m h. c.sound m (subst (λ (w : List Method). Has w m) a.0 h);

@@ -88,8 +88,8 @@ module _ (T : Table) (s : Sel) where
       old = λ at h. absurd h;
     }
       where
-      only : (k : ℕ) → gather (reach k) (start ∷ []) ≡ reach k start
-      only k = append_nil (reach k start)
+        only : (k : ℕ) → gather (reach k) (start ∷ []) ≡ reach k start
+        only k = append_nil (reach k start)
 
     pub here : {depth : ℕ} {layer seen : List Spot} → Layered depth layer seen → None_to depth → min 2 (length (reach depth start)) ≡ min 2 (length (gather (reach 0) layer))
     here {depth} {layer} l z = ap (λ n. min 2 (length (reach n start))) (sym (plus_none depth)) ∙ l.same 0 (subst None_to (sym (plus_none depth)) z)
@@ -114,29 +114,29 @@ module _ (T : Table) (s : Sel) where
     pub none_left : (depth : ℕ) (layer seen : List Spot) → Layered depth layer seen → None_to depth → layer ≡ [] → (d : ℕ) → reach d start ≡ []
     none_left depth layer seen l below e d = all (d + 1) d (omega arith)
       where
-      past : (k m : ℕ) → k ≡ depth + m → None_to k → reach k start ≡ []
-      past k m is z = nothing _ (zero_of _ (ap (λ n. min 2 (length (reach n start))) is ∙ l.same m (subst None_to is z) ∙ ap (λ (w : List Spot). min 2 (length (gather (reach m) w))) e))
+        past : (k m : ℕ) → k ≡ depth + m → None_to k → reach k start ≡ []
+        past k m is z = nothing _ (zero_of _ (ap (λ n. min 2 (length (reach n start))) is ∙ l.same m (subst None_to is z) ∙ ap (λ (w : List Spot). min 2 (length (gather (reach m) w))) e))
 
-      at : (k : ℕ) → None_to k → reach k start ≡ []
-      at k z = elim (parts k depth) [ inl a ↦ below k a | inr b ↦ past k b.0 b.1 z ]
+        at : (k : ℕ) → None_to k → reach k start ≡ []
+        at k z = elim (parts k depth) [ inl a ↦ below k a | inr b ↦ past k b.0 b.1 z ]
 
-      all : (k : ℕ) → None_to k
-      all zero j h = absurd (omega arith)
-      all (suc k) j h = elim (last k j (omega arith)) [ inl a ↦ all k j a | inr s ↦ ap (λ m. reach m start) s ∙ at k (all k) ]
+        all : (k : ℕ) → None_to k
+        all zero j h = absurd (omega arith)
+        all (suc k) j h = elim (last k j (omega arith)) [ inl a ↦ all k j a | inr s ↦ ap (λ m. reach m start) s ∙ at k (all k) ]
 
     pub next_layer : (depth : ℕ) (layer seen new : List Spot) → Layered depth layer seen → Thinned (seen ++ layer) (gather (steps T) layer) new → Layered (depth + 1) new (seen ++ layer)
     next_layer depth layer seen new l t = record {
       same = λ k z. ap (λ n. min 2 (length (reach n start))) (plus_next depth k) ∙ l.same (suc k) (subst None_to (plus_next depth k) z)
-        ∙ ap (λ (w : List Ending). min 2 (length w)) (sym (layer_next k layer)) ∙ sym (t.same (reach k) (λ u h. useless u h k z));
+          ∙ ap (λ (w : List Ending). min 2 (length w)) (sym (layer_next k layer)) ∙ sym (t.same (reach k) (λ u h. useless u h k z));
       sub = λ k x h. let a = gather_of (reach k) new x h in subst (λ (n : ℕ). Has (reach n start) x) (sym (plus_next depth k)) (l.sub (suc k) x (subst (λ (w : List Ending). Has w x) (layer_next k layer) (gather_has (reach k) (gather (steps T) layer) a.0 x (t.sub a.0 a.1) a.2)));
       old = λ u h k z. useless u h k z;
     }
       where
-      sooner : (k : ℕ) → None_to ((depth + 1) + k) → None_to (depth + k)
-      sooner k z j h = z j (omega arith)
+        sooner : (k : ℕ) → None_to ((depth + 1) + k) → None_to (depth + k)
+        sooner k z j h = z j (omega arith)
 
-      useless : (u : Spot) → Has (seen ++ layer) u → (k : ℕ) → None_to ((depth + 1) + k) → reach k u ≡ []
-      useless u h k z = elim (has-split seen layer u h) [
-        | inl a ↦ l.old u a k (sooner k z)
-        | inr b ↦ has_none (reach k u) (λ x r. empty_has _ x (z (depth + k) (omega arith)) (l.sub k x (gather_has (reach k) layer u x b r)))
-      ]
+        useless : (u : Spot) → Has (seen ++ layer) u → (k : ℕ) → None_to ((depth + 1) + k) → reach k u ≡ []
+        useless u h k z = elim (has-split seen layer u h) [
+          | inl a ↦ l.old u a k (sooner k z)
+          | inr b ↦ has_none (reach k u) (λ x r. empty_has _ x (z (depth + k) (omega arith)) (l.sub k x (gather_has (reach k) layer u x b r)))
+        ]

@@ -28,14 +28,14 @@ head_same xs x y e f = cc
 not_many : {A : Type 0} (xs : List A) (x : A) → xs ≡ x ∷ [] → 2 ≤ length xs → ⊥
 not_many {A} xs x e h = few (subst (λ (w : List A). 2 ≤ length w) e h)
   where
-  few : 2 ≤ 1 → ⊥
-  few k = omega arith
+    few : 2 ≤ 1 → ⊥
+    few k = omega arith
 
 many_none : {A : Type 0} (xs : List A) → xs ≡ [] → 2 ≤ length xs → ⊥
 many_none {A} xs e h = few (subst (λ (w : List A). 2 ≤ length w) e h)
   where
-  few : 2 ≤ 0 → ⊥
-  few k = omega arith
+    few : 2 ≤ 0 → ⊥
+    few k = omega arith
 
 module _ (T : Table) (s : Sel) (t : Term) where
   same_depth : (d e : ℕ) (x y : Ending) → IsOnly T s t d x → IsOnly T s t e y → d ≡ e
@@ -57,15 +57,15 @@ module _ (T : Table) (s : Sel) (t : Term) where
   called_by : (m : MethodFound) (g : Signature) → Finds T s t (found.MethodAt m) → InSet T t s g → IsCalled g (found.MethodAt m)
   called_by m g f i = by_target (same_ending f.0 i.depth _ _ f.1 i.only)
     where
-    by_target : ◌≡◌ {A = Ending} (record { through = m.through_pointer; target = method m.pointer_receiver m.signature }) (record { through = i.through; target = method i.pointer g }) → IsCalled g (found.MethodAt m)
-    by_target e = let h : method m.pointer_receiver m.signature ≡ method i.pointer g = ap (λ (x : Ending). x.target) e in
-        (cc, subst (λ (p : Bool). Reaches p m.through_pointer) (let k : i.pointer ≡ m.pointer_receiver = cc in k) (subst (Reaches i.pointer) (ap (λ (x : Ending). x.through) (sym e)) i.reaches))
+      by_target : ◌≡◌ {A = Ending} (record { through = m.through_pointer; target = method m.pointer_receiver m.signature }) (record { through = i.through; target = method i.pointer g }) → IsCalled g (found.MethodAt m)
+      by_target e = let h : method m.pointer_receiver m.signature ≡ method i.pointer g = ap (λ (x : Ending). x.target) e in
+          (cc, subst (λ (p : Bool). Reaches p m.through_pointer) (let k : i.pointer ≡ m.pointer_receiver = cc in k) (subst (Reaches i.pointer) (ap (λ (x : Ending). x.through) (sym e)) i.reaches))
 
   pub called_of : (r : Found) (g : Signature) → Finds T s t r → InSet T t s g → IsCalled g r
   called_of (found.FieldAt f) g (d, o, is) i = absurd (no_field (ap (λ (x : Ending). x.target) (same_ending d i.depth _ _ o i.only)))
     where
-    no_field : field f.term ≡ method i.pointer g → ⊥
-    no_field e = absurd (cc)
+      no_field : field f.term ≡ method i.pointer g → ⊥
+      no_field e = absurd (cc)
   called_of (found.MethodAt m) g f i = called_by m g f i
   called_of found.Ambiguous g f i = no_many i.depth f.0 _ i.only f.1 f.2
   called_of found.Nothing g (inl f) i = one_some _ _ (f i.depth) i.only.only

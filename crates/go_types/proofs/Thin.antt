@@ -44,8 +44,8 @@ thin_start seen all kept e = subst (λ (w : List Spot). Thinning seen all w all)
 pub thin_end : (seen all kept rest : List Spot) → rest ≡ [] → Thinning seen all kept rest → Thinned seen all kept
 thin_end seen all kept rest e t = record { sub = t.sub; same = λ f u. more (length (gather f kept)) ∙ ap (λ (w : List Spot). min 2 (length (gather f kept) + length (gather f w))) (sym e) ∙ t.same f u }
   where
-  more : (n : ℕ) → min 2 n ≡ min 2 (n + 0)
-  more n = omega arith
+    more : (n : ℕ) → min 2 n ≡ min 2 (n + 0)
+    more n = omega arith
 
 thin_add : (seen all kept rest : List Spot) (at : Spot) → Thinning seen all kept (at ∷ rest) → Thinning seen all (kept ++ at ∷ []) rest
 thin_add seen all kept rest at t = record {
@@ -56,17 +56,19 @@ thin_add seen all kept rest at t = record {
 
 thin_skip : (seen all kept rest : List Spot) (at : Spot) → Drops seen kept at → Thinning seen all kept (at ∷ rest) → Thinning seen all kept rest
 thin_skip seen all kept rest at (inl s) t = record {
-  sub = t.sub; left = λ x h. t.left x (inr h);
+  sub = t.sub;
+  left = λ x h. t.left x (inr h);
   same = λ f u. ap (λ (w : List Ending). min 2 (length (gather f kept) + length (w ++ gather f rest))) (sym (u at s)) ∙ t.same f u;
 }
 thin_skip seen all kept rest at (inr s) t = record {
-  sub = t.sub; left = λ x h. t.left x (inr h);
+  sub = t.sub;
+  left = λ x h. t.left x (inr h);
   same = λ f u. enough (length (f at)) (length (gather f kept)) (length (gather f rest)) (length (f at ++ gather f rest)) (twice_gives f kept at s) (length-append (f at) (gather f rest)) ∙ t.same f u;
 }
   where
-  enough : (g a r w : ℕ) → 2 * g ≤ a → w ≡ g + r → min 2 (a + r) ≡ min 2 (a + w)
-  enough zero a r w h e = omega arith
-  enough (suc g) a r w h e = omega arith
+    enough : (g a r w : ℕ) → 2 * g ≤ a → w ≡ g + r → min 2 (a + r) ≡ min 2 (a + w)
+    enough zero a r w h e = omega arith
+    enough (suc g) a r w h e = omega arith
 
 pub thin_next : (seen all kept new : List Spot) (i : ℕ) (at : Spot) → i < length all → at ≡ get_or all i at → Keeps seen kept new at → Thinning seen all kept (drop i all) → Thinning seen all new (drop (i + 1) all)
 thin_next seen all kept new i at h e (inl s) t = subst (λ (w : List Spot). Thinning seen all w (drop (i + 1) all)) (sym s) (thin_add seen all kept (drop (i + 1) all) at (subst (Thinning seen all kept) (drop_next i all at h e) t))

@@ -50,12 +50,15 @@ pub push_met : (all : List Term) (met newer : List TypeName) (t : Term) → Meet
 push_met all met newer t m = subst (λ (w : List TypeName). Pushes all met all w t) (sym m.1) (pushed_none all met, λ k. subst (Has all) m.0.2 (k m.0.0 m.0.1))
 
 pub push_new : (all : List Term) (met newer : List TypeName) (t : Term) → MeetsTerm met newer t false → Pushes all met (all ++ t ∷ []) newer t
-push_new all met newer t m = (record {
-  more = t ∷ [];
-  is = refl;
-  each = λ u h. elim h [ inl e ↦ e | inr n ↦ absurd n ];
-  known = λ k n h. elim (m n h) [ inl a ↦ has-left all (t ∷ []) (roll-Term (Term-F.Named n)) (k n a) | inr e ↦ subst (Has (all ++ t ∷ [])) (sym e) (has-last all t) ];
-}, λ k. has-last all t)
+push_new all met newer t m = (
+  record {
+    more = t ∷ [];
+    is = refl;
+    each = λ u h. elim h [ inl e ↦ e | inr n ↦ absurd n ];
+    known = λ k n h. elim (m n h) [ inl a ↦ has-left all (t ∷ []) (roll-Term (Term-F.Named n)) (k n a) | inr e ↦ subst (Has (all ++ t ∷ [])) (sym e) (has-last all t) ];
+  },
+  λ k. has-last all t,
+)
 
 pub push_as : (all new : List Term) (met newer : List TypeName) (t p : Term) (met_before : Bool) → new ≡ all ++ p ∷ [] → p ≡ t → met_before ≡ false → MeetsTerm met newer t met_before → Pushes all met new newer t
 push_as all new met newer t p b e s f m = subst (λ (w : List Term). Pushes all met w newer t) (sym (e ∙ ap (λ x. all ++ x ∷ []) s)) (push_new all met newer t (subst (MeetsTerm met newer t) f m))
@@ -72,7 +75,8 @@ field_more a b c m n o fs gs f e p q = (
   λ k g h. elim (has-back fs f g (subst (λ (w : List Field). Has w g) e h)) [
     | inl x ↦ pushed_has b c n o (out-Field g).term q.0 (p.1 k g x)
     | inr s ↦ subst (λ (w : Field). Has c (out-Field w).term) s (q.1 (p.0.known k))
-  ])
+  ],
+)
 
 module _ (T : Table) where
   -- what was looked at is compared by parts that are there
@@ -106,13 +110,15 @@ module _ (T : Table) where
   pub looked_array : (t e p : Term) (n : ℕ) (all new : List Term) (met newer : List TypeName) → under T t ≡ Term-F.Array n e → p ≡ e → Pushes all met new newer p → Looked T t all met new newer true
   looked_array t e p n all new met newer s q h = (
     pushed_as all new met newer (λ u i l. in_array s (subst (LeadsToIncomparable T) (sym i ∙ q) l)) h.0,
-    λ k. subst (ByParts (Has new)) (sym s) (subst (Has new) q (h.1 k)))
+    λ k. subst (ByParts (Has new)) (sym s) (subst (Has new) q (h.1 k)),
+  )
 
   pub looked_struct : (t : Term) (fs gs : List Field) (all new : List Term) (met newer : List TypeName) → under T t ≡ Term-F.Struct fs → gs ≡ fs → PushesFields all met new newer gs → Looked T t all met new newer true
   looked_struct t fs gs all new met newer s q h =
-      let p : PushesFields all met new newer fs = subst (PushesFields all met new newer) q h in
-      (pushed_as all new met newer (λ u i l. in_struct i.0 s i.1 (subst (LeadsToIncomparable T) (sym i.2) l)) p.0,
-      λ k. subst (ByParts (Has new)) (sym s) (p.1 k))
+      let p : PushesFields all met new newer fs = subst (PushesFields all met new newer) q h in (
+        pushed_as all new met newer (λ u i l. in_struct i.0 s i.1 (subst (LeadsToIncomparable T) (sym i.2) l)) p.0,
+        λ k. subst (ByParts (Has new)) (sym s) (p.1 k),
+      )
 
   -- what stands at a place
   has_at : (xs : List Term) (i : ℕ) (d : Term) → i < length xs → Has xs (get_or xs i d)
@@ -135,8 +141,8 @@ module _ (T : Table) where
     ];
   }
     where
-    taken : take (at + 1) new ≡ take at all ++ part ∷ []
-    taken = ap (take (at + 1)) p.0.is ∙ take_append (at + 1) all p.0.more (omega arith) ∙ take_more all at part h ∙ ap (λ x. take at all ++ x ∷ []) (sym e)
+      taken : take (at + 1) new ≡ take at all ++ part ∷ []
+      taken = ap (take (at + 1)) p.0.is ∙ take_append (at + 1) all p.0.more (omega arith) ∙ take_more all at part h ∙ ap (λ x. take at all ++ x ∷ []) (sym e)
 
   pub walked : (t : Term) (at : ℕ) (all : List Term) (met : List TypeName) → Walks t at all met → length all ≤ at → LeadsToIncomparable T t → ⊥
   walked t at all met w h l = none_leads all (λ u i. w.closed u (subst (λ (z : List Term). Has z u) (sym (take_all at all h)) i)) t w.from l

@@ -10,7 +10,7 @@ ghost use Rattle.go_model.specs.declared.types.term.Term.{out-Term};
 use crate::identical::identical;
 use crate::implements::decide;
 use crate::kinds::is_named;
-use crate::lookup::{error_type, Lookup};
+use crate::lookup::{Lookup, error_type};
 use go_model::memory::NoMemory;
 use go_model::types::table::TypeTable;
 use go_model::types::term::{Direction, Term};

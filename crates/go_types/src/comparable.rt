@@ -7,7 +7,7 @@ ghost use Rattle.go_model.specs.Comparison.{Comparable};
 ghost use Rattle.go_types.specs.Search.{Adds};
 ghost use Rattle.go_types.specs.Parts.{MeetsTerm, Pushes, PushesFields, Looked, PartAt};
 
-use crate::lookup::{error_type, Lookup};
+use crate::lookup::{Lookup, error_type};
 use crate::part::Part;
 use go_model::memory::NoMemory;
 use go_model::types::names::TypeName;
@@ -31,11 +31,7 @@ fn add(names: &mut BTreeSet<TypeName>, name: TypeName) -> Result<(), NoMemory>
 }
 
 // Whether a type is a name that was met before; it is met.
-fn meets(
-    alloc: Global,
-    met: &mut BTreeSet<TypeName>,
-    term: &Term,
-) -> Result<bool, NoMemory>
+fn meets(alloc: Global, met: &mut BTreeSet<TypeName>, term: &Term) -> Result<bool, NoMemory>
     ensures { IfOk result (MeetsTerm met.old.keys met.new.keys term.now) }
 {
     match term {
@@ -139,11 +135,7 @@ fn walk<'a, T: TypeTable>(
 }
 
 /// Whether two values of a type can be compared, where a table of types tells the names in it.
-pub fn comparable_in<T: TypeTable>(
-    alloc: Global,
-    types: &T,
-    term: &Term,
-) -> Result<bool, NoMemory>
+pub fn comparable_in<T: TypeTable>(alloc: Global, types: &T, term: &Term) -> Result<bool, NoMemory>
     ensures { IfOk result (Decides (Comparable (T.lookup types.now) term.now)) }
 {
     let error = error_type(alloc)?;

@@ -9,7 +9,7 @@ ghost use Rattle.go_model.specs.Conversions.{UnderlyingConverts, PointerConverts
 use crate::assignable::assigns;
 use crate::identical::identical;
 use crate::kinds::{both_basic, is_text};
-use crate::lookup::{error_type, Lookup};
+use crate::lookup::{Lookup, error_type};
 use crate::untagged::untagged;
 use go_model::memory::NoMemory;
 use go_model::types::table::TypeTable;
@@ -68,8 +68,12 @@ impl<'a, T: TypeTable> Lookup<'a, T> {
         match from {
             Term::Pointer(base) => match to {
                 Term::Pointer(other) => {
-                    let converts =
-                        self.underlying_converts(alloc, profile, base.value(), other.value())?;
+                    let converts = self.underlying_converts(
+                        alloc,
+                        profile,
+                        base.value(),
+                        other.value(),
+                    )?;
                     Ok(converts)
                 }
                 _ => Ok(false),

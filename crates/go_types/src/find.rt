@@ -7,7 +7,7 @@ ghost use Rattle.go_types.specs.Search.{Knows, Thinned};
 ghost use Rattle.go_model.specs.Worlds.{table_of};
 
 use crate::ending::{Ending, Target};
-use crate::lookup::{error_type, Lookup};
+use crate::lookup::{Lookup, error_type};
 use crate::met::Met;
 use crate::place::Place;
 use crate::steps::{add_endings, add_steps};
@@ -198,12 +198,7 @@ pub fn find_in<T: TypeTable>(
 }
 
 /// What a selector finds in a type of a world.
-pub fn find(
-    alloc: Global,
-    world: &World,
-    term: &Term,
-    sel: &Sel,
-) -> Result<Found, NoMemory>
+pub fn find(alloc: Global, world: &World, term: &Term, sel: &Sel) -> Result<Found, NoMemory>
     ensures { IfOk result (Finds (table_of world.now.packages) sel.now term.now) }
 {
     find_in(alloc, world, term, sel)

@@ -6,7 +6,7 @@ ghost use Rattle.go_model.specs.MethodSets.{HasMethod, HasMethods, Implements};
 
 use crate::find::search;
 use crate::identical::same_signature;
-use crate::lookup::{error_type, Lookup};
+use crate::lookup::{Lookup, error_type};
 use go_model::memory::NoMemory;
 use go_model::types::found::Found;
 use go_model::types::table::TypeTable;

@@ -106,9 +106,7 @@ fn basic_converts(from: Basic, to: Basic) -> bool
 {
     let number = is_integer(from) || is_float(from);
     let other = is_integer(to) || is_float(to);
-    (number && other)
-        || (is_complex(from) && is_complex(to))
-        || (is_integer(from) && is_string(to))
+    (number && other) || (is_complex(from) && is_complex(to)) || (is_integer(from) && is_string(to))
 }
 
 /// Whether two underlying types are basic types that convert.

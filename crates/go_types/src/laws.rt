@@ -18,15 +18,13 @@ ghost use Rattle.go_model.specs.Conversions.{Convertible};
 pub fn one_find()
     ensures find { (T : Table) (s : Sel) (t : Term) (a b : Found) → Finds T s t a → Finds T s t b → a ≡ b }
     ensures signature { (T : Table) (t : Term) (s : Sel) (g h : Signature) → InSet T t s g → InSet T t s h → g ≡ h }
-{
-}
+{}
 
 /// What is permitted in a client of the profile is permitted elsewhere.
 pub fn profile_permits_less()
     ensures assignable { (T : Table) (from to : Term) → Assignable T true from to → Assignable T false from to }
     ensures convertible { (T : Table) (from to : Term) → Convertible T true from to → Convertible T false from to }
-{
-}
+{}
 
 /// Two tables that agree on a set of names which is closed under them give the same answers for the
 /// types whose names are in it.
@@ -37,5 +35,4 @@ pub fn agreeing_tables()
     ensures comparable { (P : TypeName → Bool) (A B : Table) → AgreeOn P A B → IsClosed P A → (t : Term) → Within P t → Comparable A t → Comparable B t }
     ensures back { (P : TypeName → Bool) (A B : Table) → AgreeOn P A B → AgreeOn P B A }
     ensures closed { (P : TypeName → Bool) (A B : Table) → AgreeOn P A B → IsClosed P A → IsClosed P B }
-{
-}
+{}

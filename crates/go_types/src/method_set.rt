@@ -9,7 +9,7 @@ ghost use Rattle.go_model.specs.declared.types.term.Signature.{Signature as Call
 ghost use Rattle.go_types.specs.Candidates.{Gains, declared_sel, method_sel, place_sels, IsCalledAs, AddsCalled, IsMethodSet};
 
 use crate::find::{next_layer, search};
-use crate::lookup::{error_type, Lookup};
+use crate::lookup::{Lookup, error_type};
 use crate::met::Met;
 use crate::place::Place;
 use go_model::list::List;
@@ -51,11 +51,7 @@ fn add_declared(
     Ok(())
 }
 
-fn add_methods(
-    alloc: Global,
-    sels: &mut BTreeSet<Sel>,
-    methods: &[Method],
-) -> Result<(), NoMemory>
+fn add_methods(alloc: Global, sels: &mut BTreeSet<Sel>, methods: &[Method]) -> Result<(), NoMemory>
     ensures { OnOk result (Gains sels.old.keys sels.new.keys (map method_sel methods.now)) }
 {
     for method in methods {

@@ -24,10 +24,7 @@ fn push_steps<'a>(
 {
     for field in fields {
         if field.embedded {
-            all.push(Place::new(
-                through || is_pointer(&field.term),
-                base_of(&field.term),
-            ))?;
+            all.push(Place::new(through || is_pointer(&field.term), base_of(&field.term)))?;
         }
     }
     Ok(())

@@ -5,9 +5,9 @@ ghost use Rattle.go_model.specs.Keys.{first_with, item_of};
 ghost use Rattle.go_model.specs.Keys.{placed};
 ghost use Rattle.go_model.specs.Worlds.{IsWorld, with_package, table_of, path_of};
 
-use crate::types::keyed::{find_key, place_for};
 use crate::memory::NoMemory;
 use crate::text::Text;
+use crate::types::keyed::{find_key, place_for};
 use crate::types::names::TypeName;
 use crate::types::package::{Defined, Package};
 use crate::types::table::TypeTable;
