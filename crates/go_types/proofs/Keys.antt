@@ -13,6 +13,8 @@ use Rattle.go_model.specs.Lists.{Has}
 use Rattle.go_types.specs.Search.{Adds}
 use Rattle.go_types.specs.declared.met.Key.{Key}
 use Rattle.go_model.specs.declared.types.names.TypeName.{TypeName}
+use Rattle.go_model.specs.declared.types.names.Sel.{Sel}
+use Rattle.go_model.specs.contracts.types.names.SelOrd.TheImpl as SelOrder
 use Rattle.go_types.specs.contracts.met.KeyOrd.TheImpl as KeyOrder
 use Rattle.go_model.specs.contracts.types.names.TypeNameOrd.TheImpl as NameOrder
 use Rattle.std.specs.contracts.prelude.BoolOrd.TheImpl.{ghosts}
@@ -30,11 +32,32 @@ module _ {A : Type 0} (order : A → A → Ordering) where
   adds-insert [] k x (inr h) = absurd h
   adds-insert (y ∷ ys) k x h = added k y ys (order k y) (adds-insert ys k) x h
 
+  keeps : (k y : A) (ys : List A) (o : Ordering) (x : A) → ((z : A) → Has ys z → Has (insert_key order ys k) z) → Has (y ∷ ys) x → Has (match_ordering o (k ∷ y ∷ ys) (y ∷ ys) (y ∷ insert_key order ys k)) x
+  keeps k y ys Less x f h = inr h
+  keeps k y ys Equal x f h = h
+  keeps k y ys Greater x f (inl e) = inl e
+  keeps k y ys Greater x f (inr h) = inr (f x h)
+
+  -- the keys that were there stay
+  pub keeps-insert : (ks : List A) (k x : A) → Has ks x → Has (insert_key order ks k) x
+  keeps-insert [] k x h = absurd h
+  keeps-insert (y ∷ ys) k x h = keeps k y ys (order k y) x (keeps-insert ys k) h
+
   module _ (same : (a b : A) → order a b ≡ Equal → a ≡ b) where
     at_key : (k y : A) (ys : List A) (o : Ordering) → order k y ≡ o → (is_eq o || list_any (is_at (order k)) ys) ≡ true → (list_any (is_at (order k)) ys ≡ true → Has ys k) → Has (y ∷ ys) k
     at_key k y ys Less e h rest = inr (rest h)
     at_key k y ys Equal e h rest = inl (sym (same k y e))
     at_key k y ys Greater e h rest = inr (rest h)
+
+    stands : (k y : A) (ys : List A) (o : Ordering) → order k y ≡ o → Has (insert_key order ys k) k → Has (match_ordering o (k ∷ y ∷ ys) (y ∷ ys) (y ∷ insert_key order ys k)) k
+    stands k y ys Less e h = inl refl
+    stands k y ys Equal e h = inl (sym (same k y e))
+    stands k y ys Greater e h = inr h
+
+    -- the key is there
+    pub stands-insert : (ks : List A) (k : A) → Has (insert_key order ks k) k
+    stands-insert [] k = inl refl
+    stands-insert (y ∷ ys) k = stands k y ys (order k y) refl (stands-insert ys k)
 
     pub has_key : (ks : List A) (k : A) → list_any (is_at (order k)) ks ≡ true → Has ks k
     has_key [] k h = true≢false (sym h)
@@ -69,3 +92,11 @@ pub key_same : (a b : Key) → KeyOrder.cmp-value.it a b ≡ Equal → a ≡ b
 key_same a b e =
     let h = then_both _ _ e in
     ap (λ x. key_of x a.name) (same_flags _ _ h.0) ∙ ap (λ x. key_of b.through x) (name_same _ _ h.1)
+
+abbrev sel_of : List ℕ → List ℕ → Sel
+sel_of name home = record { name = name; «package» = home }
+
+pub sel_same : (a b : Sel) → SelOrder.cmp-value.it a b ≡ Equal → a ≡ b
+sel_same a b e =
+    let h = then_both _ _ e in
+    ap (λ x. sel_of x a.«package») (same_texts _ _ h.0) ∙ ap (λ x. sel_of b.name x) (same_texts _ _ h.1)

@@ -1,5 +1,6 @@
 pub mod Agree
 pub mod Alternatives
+pub mod Candidates
 pub mod Keys
 pub mod Layers
 pub mod Levels

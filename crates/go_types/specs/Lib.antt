@@ -1,4 +1,5 @@
 pub mod Answers
+pub mod Candidates
 pub mod Endings
 pub mod Parts
 pub mod Regions

@@ -13,6 +13,7 @@ mod kinds;
 pub mod laws;
 mod lookup;
 mod met;
+pub mod method_set;
 mod part;
 mod parts;
 mod place;
