@@ -1,9 +1,8 @@
 -- Runs of characters.
-use Rattle.std.proofs.Common.{◌≡◌, ◌≢◌, ℕ, zero, suc, ◌+◌, ◌-◌, ◌<◌, ◌≤◌, Bool, true, false, List, [], ◌∷◌, ◌++◌, length, get_or, take, drop, refl, sym, ap, ◌∙◌, subst, arith, length-append, length-drop, zero-add, add-zero, append_assoc, min, ◌&&◌}
+use Rattle.std.proofs.Common.{◌≡◌, ◌≢◌, ℕ, zero, suc, ◌+◌, ◌-◌, ◌<◌, ◌≤◌, Bool, true, false, List, [], ◌∷◌, ◌++◌, length, take, drop, refl, sym, ap, ◌∙◌, subst, arith, length-append, length-drop, zero-add, add-zero, append_assoc, min, ◌&&◌}
 use Rattle.std.specs.Prelude.{IsUtf8}
 use Rattle.std.specs.Char.{IsScalar, encode_utf8, len_utf8}
-use Rattle.std.proofs.lemmas.Str.{encode_same, encode_ascii, len_utf8_ascii, length-encode, len_utf8_bounds, IsUtf8-encode, cons_from_encodes}
-use Rattle.std.proofs.lemmas.Bool.Decides.{nat_tests}
+use Rattle.std.proofs.lemmas.Str.{encode_same, length-encode, len_utf8_bounds, IsUtf8-encode, cons_from_encodes}
 use Rattle.std.proofs.lemmas.List.{take_at, drop_at, drop-drop, take-append-drop}
 use Rattle.std.proofs.Math.Seq.{take-add}
 use Rattle.std.specs.Str.{StartsWithNoChar, all_scalars}
@@ -134,15 +133,3 @@ run_zero test bytes n d e = empty_run test (subst (λ (m : ℕ). IsRun test (tak
 pub run_some : (test : ℕ → Bool) (bytes : List ℕ) (n : ℕ) → IsRun test (take n bytes) (drop n bytes) → n ≤ length bytes → 0 < n → BeginsPassing test bytes
 run_some test bytes n d within some =
     subst (BeginsPassing test) (take-append-drop n bytes) (full_run test d (λ empty. omega (arith, ap length empty, length_take n bytes within, some)))
-
-ascii_scalar : (c : ℕ) → c < 128 → IsScalar c
-ascii_scalar c h = grind (arith, nat_tests)
-
--- a byte of ASCII at the front is a character
-pub ascii_first : (bytes : List ℕ) (b : ℕ) → 0 < length bytes → get_or bytes 0 0 ≡ b → b < 128 → (bytes ≡ encode_utf8 b ++ drop (len_utf8 b) bytes) × IsScalar b
-ascii_first [] b some e h = absurd (omega arith)
-ascii_first (x ∷ xs) b some e h =
-    let one : len_utf8 b ≡ 1 = len_utf8_ascii b h in (
-      ap (λ (y : ℕ). y ∷ xs) e ∙ ap (λ (ys : List ℕ). ys ++ xs) (sym (encode_ascii b h)) ∙ ap (λ (n : ℕ). encode_utf8 b ++ drop n (x ∷ xs)) (sym one),
-      ascii_scalar b h,
-    )
