@@ -1,5 +1,5 @@
 -- Which characters of ASCII are letters.
-use Rattle.std.proofs.Common.{◌≡◌, ℕ, zero, suc, ◌<◌, ◌≤◌, Bool, true, false, ◌||◌, ◌&&◌, not, refl, sym, subst, arith, ◌⊎◌, inl, inr}
+use Rattle.std.proofs.Common.{◌≡◌, ℕ, zero, suc, ◌<◌, Bool, true, false, ◌||◌, ◌&&◌, not, refl, sym, subst, arith, ◌⊎◌, inl, inr}
 use Rattle.ucd_category.proofs.Computing.{ucd_category}
 use Rattle.go_model.specs.Characters.{is_letter}
 use Rattle.go_lex.specs.Starts.{is_name_start}

@@ -1,8 +1,7 @@
 -- Which lexemes may stand at the front of some bytes, by the class that their first bytes tell.
-use Rattle.std.proofs.Common.{◌≡◌, ◌⊎◌, inl, inr, ℕ, zero, suc, ◌+◌, ◌<◌, ◌≤◌, Bool, true, false, ◌||◌, ◌&&◌, ◌==◌, not, List, [], ◌∷◌, ◌++◌, length, take, drop, get_or, refl, sym, ap, ◌∙◌, subst, arith, length-append, append_assoc, Option, Some, None, nat_lt, if◌then◌else◌}
-use Rattle.std.specs.Prelude.{codes}
+use Rattle.std.proofs.Common.{◌≡◌, ◌⊎◌, inl, inr, ℕ, ◌<◌, ◌≤◌, Bool, true, false, ◌||◌, ◌&&◌, ◌==◌, not, List, [], ◌∷◌, ◌++◌, length, refl, sym, ap, ◌∙◌, subst, arith, length-append, append_assoc, Some, nat_lt, if◌then◌else◌}
 use Rattle.std.specs.List.{list_all}
-use Rattle.std.specs.Char.{IsScalar, encode_utf8}
+use Rattle.std.specs.Char.{encode_utf8}
 use Rattle.std.proofs.lemmas.Bool.Decides.{nat_tests}
 use Rattle.std.proofs.lemmas.Str.{char_from_byte, length-encode, len_utf8_bounds}
 use Rattle.go_model.specs.declared.token.Meaning.{Meaning}
@@ -13,7 +12,7 @@ use Rattle.go_model.specs.declared.token.TokenValue.TheVariants as value
 use Rattle.go_model.specs.declared.token.LexemeKind.{LexemeKind}
 use Rattle.go_model.specs.declared.token.LexemeKind.TheVariants as lexeme
 use Rattle.go_model.specs.Characters.{is_letter}
-use Rattle.go_model.specs.Headers.{is_text, starts_with}
+use Rattle.go_model.specs.Headers.{is_text}
 use Rattle.go_model.specs.Numbers.{is_digit_of, AreDigits, one_digit, digit_more, digit_apart, IsInteger, decimal_integer, octal_integer, prefixed_integer, IsFloat, pointed, pointless, point_first, hexadecimal, IsMultiple, digits_multiple, integer_multiple, float_multiple}
 use Rattle.go_model.specs.Quotes.{meaning_number, IsCharacter, AreCharacters, raw_bytes}
 use Rattle.go_model.specs.Words.{kind_in, operators, operators_of_three, operators_of_two, operators_of_one, name_kind}

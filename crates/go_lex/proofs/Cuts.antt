@@ -1,19 +1,10 @@
 -- A text has one cut into lexemes, which ends at its one bad place or at the end.
-use Rattle.std.proofs.Common.{◌≡◌, ◌⊎◌, inl, inr, ℕ, suc, ◌<◌, ◌≤◌, ◌+◌, List, [], ◌∷◌, ◌++◌, length, drop, refl, sym, ap, ◌∙◌, subst, arith, length-append, true, false, Option, Some}
-use Rattle.std.proofs.lemmas.List.{append-nil}
-use Rattle.go_model.specs.declared.token.TokenKind.{TokenKind}
-use Rattle.go_model.specs.declared.token.TokenKind.TheVariants as token
+use Rattle.std.proofs.Common.{◌≡◌, inl, inr, ℕ, ◌≤◌, List, [], ◌∷◌, ◌++◌, length, refl, sym, ap, ◌∙◌, subst, arith, length-append, false}
 use Rattle.go_model.specs.declared.token.TokenValue.{TokenValue}
 use Rattle.go_model.specs.declared.token.LexemeKind.{LexemeKind}
-use Rattle.go_model.specs.declared.token.LexemeKind.TheVariants as lexeme
-use Rattle.go_model.specs.Headers.{comment_len}
-use Rattle.go_model.specs.Lexemes.{IsLexeme, plain_value, opens_comment, comment_kind, Lexeme, IsComment, Stands, Begins, BeginsLongest, BeginsNone, CutTo, here, next}
-use Rattle.go_lex.specs.declared.front.Start.{Start}
-use Rattle.go_lex.specs.declared.front.Start.TheVariants.{Blank, Newline, Comment, Number, Rune, Quoted, Raw, Name, Sign}
+use Rattle.go_model.specs.Lexemes.{IsLexeme, opens_comment, comment_kind, Lexeme, Stands, Begins, BeginsLongest, BeginsNone, CutTo, here, next}
 use Rattle.go_lex.specs.Starts.{start_of}
-use Rattle.go_lex.specs.NumberLengths.{number_at, IsNumber}
-use Rattle.go_lex.proofs.Escapes.{head_same, tail_same, character_once}
-use Rattle.go_lex.proofs.Literals.{single}
+use Rattle.go_lex.proofs.Escapes.{head_same, tail_same}
 use Rattle.go_lex.proofs.Classes.{Class, classed}
 use Rattle.go_lex.proofs.Longest.{comment_opens}
 use Rattle.go_lex.proofs.OneMeaning.{class_once, nothing_begins}

@@ -1,17 +1,16 @@
 -- The escapes and plain characters that the code finds are those at the front.
-use Rattle.std.proofs.Common.{◌≡◌, ◌⊎◌, inl, inr, ℕ, zero, suc, ◌+◌, ◌-◌, ◌<◌, ◌≤◌, Bool, true, false, ◌==◌, List, [], ◌∷◌, ◌++◌, length, take, drop, refl, sym, ap, ◌∙◌, subst, arith, length-append, Option, Some, None, IfSome}
+use Rattle.std.proofs.Common.{◌≡◌, ℕ, zero, suc, ◌+◌, ◌≤◌, true, false, ◌==◌, List, [], ◌∷◌, ◌++◌, length, take, drop, refl, sym, ap, ◌∙◌, subst, arith, length-append, Option, Some, None, IfSome}
 use Rattle.std.proofs.lemmas.Bool.Decides.{nat_tests}
 use Rattle.std.specs.Prelude.{IfNone}
-use Rattle.std.specs.Char.{IsScalar, encode_utf8}
+use Rattle.std.specs.Char.{encode_utf8}
 use Rattle.std.proofs.lemmas.List.{take_at, take-append-drop}
-use Rattle.std.proofs.lemmas.Str.{encode_same, length-encode, len_utf8_bounds}
+use Rattle.std.proofs.lemmas.Str.{encode_same}
 use Rattle.go_model.specs.declared.token.Meaning.{Meaning}
-use Rattle.go_model.specs.declared.token.Meaning.TheVariants.{Character, Byte}
-use Rattle.go_model.specs.Numbers.{value_from}
-use Rattle.go_model.specs.Quotes.{is_plain, sign_of, count_of, AreCounted, IsCharacter, plain, sign, octal, hexadecimal, point}
+use Rattle.go_model.specs.declared.token.Meaning.TheVariants.{Character}
+use Rattle.go_model.specs.Quotes.{is_plain, sign_of, count_of, IsCharacter, plain, sign, octal, hexadecimal, point}
 use Rattle.go_lex.specs.declared.quote.Character.{Character as CharacterFront}
 use Rattle.go_lex.specs.CharacterFronts.{HasNoCounted, IsOctal, HasNoOctal, IsHexadecimal, IsPoint, HasNoPoint, IsPlain, HasNoPlain, BeginsCharacter, BeginsNoCharacter}
-use Rattle.go_lex.proofs.Escapes.{Form, Sign, Hex, Point, Octal, form_of, form_after, form_counted, Meant, IsQuote, meant, head_same, character_some, Split, is_plain_one, is_escape, split_of}
+use Rattle.go_lex.proofs.Escapes.{Form, Hex, Point, Octal, form_of, form_after, form_counted, Meant, IsQuote, meant, head_same, character_some, Split, is_plain_one, is_escape, split_of}
 
 pub map_some : {A : Type 0} (r : Option A) (P Q : A → Type 0) → ((x : A) → P x → Q x) → IfSome r P → IfSome r Q
 map_some None P Q f h = tt

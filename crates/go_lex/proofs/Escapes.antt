@@ -1,12 +1,10 @@
 -- The characters and escapes of literals: bytes begin with one at most.
-use Rattle.std.proofs.Common.{◌≡◌, ◌⊎◌, inl, inr, ℕ, zero, suc, ◌+◌, ◌-◌, ◌<◌, ◌≤◌, Bool, true, false, ◌||◌, ◌==◌, not, List, [], ◌∷◌, ◌++◌, length, take, drop, refl, sym, ap, ◌∙◌, subst, arith, length-append, Option, Some, None, nat_lt, if◌then◌else◌}
-use Rattle.std.specs.Char.{IsScalar, encode_utf8, digit_value}
+use Rattle.std.proofs.Common.{◌≡◌, ◌⊎◌, inl, inr, ℕ, ◌<◌, ◌≤◌, Bool, true, false, ◌||◌, ◌==◌, List, [], ◌∷◌, ◌++◌, length, take, drop, refl, sym, ap, ◌∙◌, subst, arith, Option, Some, None, if◌then◌else◌}
+use Rattle.std.specs.Char.{IsScalar, encode_utf8}
 use Rattle.std.proofs.lemmas.Bool.Decides.{nat_tests}
 use Rattle.std.proofs.lemmas.Str.{encode_same, length-encode, len_utf8_bounds}
-use Rattle.std.proofs.lemmas.List.{take_at}
 use Rattle.go_model.specs.declared.token.Meaning.{Meaning}
 use Rattle.go_model.specs.declared.token.Meaning.TheVariants.{Character, Byte}
-use Rattle.go_model.specs.Lists.{Passes}
 use Rattle.go_model.specs.Numbers.{is_digit_of, value_from}
 use Rattle.go_model.specs.Quotes.{is_plain, sign_of, count_of, AreCounted, IsCharacter, plain, sign, octal, hexadecimal, point}
 use Rattle.go_lex.proofs.Counted.{front_counted}

@@ -1,5 +1,5 @@
 -- The one literal in quotes at the front of some bytes.
-use Rattle.std.proofs.Common.{◌≡◌, ◌⊎◌, inl, inr, ℕ, zero, suc, ◌+◌, ◌-◌, ◌<◌, ◌≤◌, Bool, true, false, ◌||◌, ◌&&◌, ◌==◌, not, List, [], ◌∷◌, ◌++◌, length, take, drop, refl, sym, ap, ◌∙◌, subst, arith, length-append, length-drop, append_assoc, Option, Some, None}
+use Rattle.std.proofs.Common.{◌≡◌, inl, inr, ℕ, suc, ◌+◌, ◌<◌, ◌≤◌, Bool, true, false, ◌&&◌, ◌==◌, not, List, [], ◌∷◌, ◌++◌, length, take, drop, refl, sym, ap, ◌∙◌, subst, arith, length-append, length-drop, append_assoc, Option, Some, None}
 use Rattle.std.specs.List.{list_all, prefix_len}
 use Rattle.std.specs.Char.{encode_utf8}
 use Rattle.std.proofs.lemmas.Bool.Decides.{nat_tests}
@@ -15,7 +15,7 @@ use Rattle.go_lex.specs.declared.quote.Character.{Character as CharacterFront}
 use Rattle.go_lex.specs.CharacterFronts.{BeginsCharacter, BeginsNoCharacter}
 use Rattle.go_lex.specs.Starts.{begins_byte}
 use Rattle.go_lex.specs.Only.{IsOnly, HasNone, IsRune, IsString, IsRaw}
-use Rattle.go_lex.proofs.Escapes.{head_same, tail_same, IsQuote, character_once, character_some, Split, is_plain_one, is_escape, split_of}
+use Rattle.go_lex.proofs.Escapes.{head_same, tail_same, IsQuote, character_once, Split, is_plain_one, is_escape, split_of}
 
 byte_is : (a b : ℕ) → (a == b) ≡ true → a ≡ b
 byte_is a b h = grind (arith, nat_tests)

@@ -1,19 +1,18 @@
 -- The longest lexeme at the front of some bytes, by their class.
-use Rattle.std.proofs.Common.{◌≡◌, ◌⊎◌, inl, inr, ℕ, zero, suc, ◌+◌, ◌<◌, ◌≤◌, Bool, true, false, ◌||◌, ◌&&◌, ◌==◌, not, List, [], ◌∷◌, ◌++◌, length, take, drop, refl, sym, ap, ◌∙◌, subst, arith, length-append, append_assoc, Option, Some, None}
+use Rattle.std.proofs.Common.{◌≡◌, inl, inr, ℕ, ◌<◌, ◌≤◌, Bool, true, false, ◌||◌, ◌==◌, List, [], ◌∷◌, ◌++◌, length, take, drop, refl, sym, ap, ◌∙◌, subst, arith, Option, Some, None}
 use Rattle.std.specs.Prelude.{codes, if◌then◌else◌}
-use Rattle.std.specs.List.{list_all, list_any}
+use Rattle.std.specs.List.{list_any}
 use Rattle.std.proofs.lemmas.List.{take-append-drop}
-use Rattle.go_model.specs.declared.token.Meaning.{Meaning}
 use Rattle.go_model.specs.declared.token.TokenKind.{TokenKind}
 use Rattle.go_model.specs.declared.token.TokenKind.TheVariants as token
 use Rattle.go_model.specs.declared.token.TokenValue.{TokenValue}
 use Rattle.go_model.specs.declared.token.TokenValue.TheVariants as value
 use Rattle.go_model.specs.declared.token.LexemeKind.{LexemeKind}
 use Rattle.go_model.specs.declared.token.LexemeKind.TheVariants as lexeme
-use Rattle.go_model.specs.Headers.{is_text, starts_with, comment_len, text_len}
+use Rattle.go_model.specs.Headers.{starts_with, comment_len}
 use Rattle.go_model.specs.Quotes.{meaning_number, raw_bytes}
 use Rattle.go_model.specs.Words.{kind_in, operators, name_kind}
-use Rattle.go_model.specs.Lexemes.{is_blank, plain_value, quoted, opens_comment, comment_kind, IsLexeme, blank, newline, name, operator, integer, float, imaginary, rune, string, raw_string, Lexeme, IsComment, Stands, Begins, BeginsLongest, BeginsNone}
+use Rattle.go_model.specs.Lexemes.{plain_value, opens_comment, comment_kind, IsLexeme, blank, newline, name, operator, integer, float, imaginary, rune, string, raw_string, Lexeme, Begins, BeginsNone}
 use Rattle.go_model.proofs.Lists.{length_take}
 use Rattle.go_lex.specs.declared.front.Start.{Start}
 use Rattle.go_lex.specs.declared.front.Start.TheVariants.{Blank, Newline, Comment, Number, Rune, Quoted, Raw, Name, Sign}
@@ -24,7 +23,7 @@ use Rattle.go_lex.specs.NumberLengths.{number_at, IsNumber, int_number, float_nu
 use Rattle.go_lex.specs.Names.{IsName, IsLongestName, HasNoName}
 use Rattle.go_lex.specs.Operators.{operator_at}
 use Rattle.go_lex.specs.Only.{IsOnly, HasNone, IsRune, IsString, IsRaw}
-use Rattle.go_lex.specs.Fronts.{Says, lexeme_of, IsFront, IsCommentFront}
+use Rattle.go_lex.specs.Fronts.{Says, IsFront, IsCommentFront}
 use Rattle.go_lex.proofs.Numbers.{number_claim}
 use Rattle.go_lex.proofs.NumberStands.{number_stands}
 use Rattle.go_lex.proofs.OperatorRows.{operator_claim, operator_stands}

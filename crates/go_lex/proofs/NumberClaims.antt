@@ -1,15 +1,15 @@
 -- Number literals at the front of some bytes are no longer than what the parts' lengths say.
-use Rattle.std.proofs.Common.{◌≡◌, ◌⊎◌, inl, inr, ℕ, zero, suc, ◌+◌, ◌-◌, ◌<◌, ◌≤◌, Bool, true, false, ◌||◌, ◌&&◌, ◌==◌, List, [], ◌∷◌, ◌++◌, length, take, drop, refl, sym, ap, ◌∙◌, subst, arith, length-append, append_assoc, Option, Some, None, nat_lt}
+use Rattle.std.proofs.Common.{◌≡◌, ◌⊎◌, inl, inr, ℕ, zero, suc, ◌+◌, ◌<◌, ◌≤◌, Bool, true, false, ◌||◌, ◌==◌, List, [], ◌∷◌, ◌++◌, length, drop, refl, sym, ap, ◌∙◌, subst, arith, length-append, append_assoc, Some, nat_lt}
 use Rattle.std.proofs.lemmas.Bool.Decides.{nat_tests}
 use Rattle.std.proofs.lemmas.List.{drop_at, append-nil}
 use Rattle.go_model.specs.declared.token.TokenKind.{TokenKind}
 use Rattle.go_model.specs.declared.token.TokenKind.TheVariants.{IntLit, FloatLit, ImagLit}
-use Rattle.go_model.specs.Numbers.{is_digit_of, is_first_digit, is_x, base_of, AreDigits, one_digit, digit_more, digit_apart, AreBehind, Optional, IsExponent, IsInteger, decimal_integer, octal_integer, prefixed_integer, IsMantissa, whole_mantissa, pointed_mantissa, point_first_mantissa, IsFloat, pointed, pointless, point_first, hexadecimal, IsMultiple, digits_multiple, integer_multiple, float_multiple}
+use Rattle.go_model.specs.Numbers.{is_digit_of, is_first_digit, AreDigits, one_digit, digit_more, digit_apart, AreBehind, Optional, IsExponent}
 use Rattle.go_lex.specs.declared.number.Number.{Number}
-use Rattle.go_lex.specs.Digits.{goes_on, more_len, digits_len}
-use Rattle.go_lex.specs.NumberLengths.{is_mark, exponent_len, fraction_len, tail_len, joined_len, imaginary_len, number_kind, number_of, integer_len, decimal_number, prefixed_number, if_digits, prefix_of, number_at, behind_of, or_plain, IsNumber, int_number, float_number, imaginary_number}
-use Rattle.go_lex.proofs.DigitRuns.{digits_bound, digits_exact, behind_bound, behind_exact, behind_some, digits_some}
-use Rattle.go_lex.proofs.Parts.{all_digits, some_exact, exponent_bound, exponent_some, exponent_stop, imaginary_here, both_len, IsTail, fraction_tail, exponent_tail, IsMarked, marked_ten, marked_sixteen, exponent_stops, exponent_no_fraction, tail_stops, tail_some, tail_bound, tail_exact, no_tail, fraction_exact}
+use Rattle.go_lex.specs.Digits.{more_len, digits_len}
+use Rattle.go_lex.specs.NumberLengths.{is_mark, exponent_len, fraction_len, tail_len, joined_len, imaginary_len, number_kind, number_of, integer_len, decimal_number, prefixed_number, if_digits}
+use Rattle.go_lex.proofs.DigitRuns.{digits_bound, behind_bound, behind_some}
+use Rattle.go_lex.proofs.Parts.{all_digits, some_exact, exponent_bound, exponent_some, imaginary_here, both_len, IsTail, fraction_tail, exponent_tail, marked_ten, marked_sixteen, exponent_stops, exponent_no_fraction, tail_stops, tail_some, tail_bound, tail_exact, no_tail, fraction_exact}
 
 -- a text of this kind is no longer than the literal, and one as long is of the same kind
 pub record Claim (kind : TokenKind) (text : List ℕ) (n : Number) : Type 0 where

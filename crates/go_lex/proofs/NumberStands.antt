@@ -1,18 +1,16 @@
 -- The number literal that the parts' lengths say stands there.
-use Rattle.std.proofs.Common.{◌≡◌, ◌⊎◌, inl, inr, ℕ, zero, suc, ◌+◌, ◌-◌, ◌<◌, ◌≤◌, Bool, true, false, ◌||◌, ◌&&◌, ◌==◌, List, [], ◌∷◌, ◌++◌, length, take, drop, refl, sym, ap, ◌∙◌, subst, arith, length-append, length-drop, append_assoc, Option, Some, None, nat_lt}
+use Rattle.std.proofs.Common.{◌≡◌, ◌⊎◌, inl, inr, ℕ, suc, ◌+◌, ◌<◌, ◌≤◌, Bool, true, false, ◌||◌, ◌&&◌, ◌==◌, List, [], ◌∷◌, ◌++◌, length, take, drop, refl, sym, ap, ◌∙◌, subst, arith, length-drop, append_assoc, Option, Some, None, nat_lt}
 use Rattle.std.proofs.lemmas.Bool.Decides.{nat_tests}
-use Rattle.std.proofs.lemmas.List.{append-nil, drop-drop}
 use Rattle.std.proofs.Math.Seq.{take-add}
 use Rattle.go_model.specs.declared.token.TokenKind.{TokenKind}
-use Rattle.go_model.specs.declared.token.TokenKind.TheVariants.{IntLit, FloatLit, ImagLit}
 use Rattle.go_model.specs.Numbers.{is_digit_of, is_first_digit, is_x, base_of, AreDigits, AreBehind, Optional, IsExponent, IsInteger, decimal_integer, octal_integer, prefixed_integer, IsMantissa, whole_mantissa, pointed_mantissa, point_first_mantissa, IsFloat, pointed, pointless, point_first, hexadecimal, IsMultiple, digits_multiple, integer_multiple, float_multiple}
 use Rattle.go_lex.specs.declared.number.Number.{Number}
 use Rattle.go_lex.specs.Digits.{begins_digit, goes_on, more_len, digits_len}
-use Rattle.go_lex.specs.NumberLengths.{is_mark, exponent_len, fraction_len, tail_len, joined_len, imaginary_len, integer_len, number_of, number_kind, decimal_number, prefixed_number, if_digits, prefix_of, number_at, behind_of, or_plain, IsNumber, int_number, float_number, imaginary_number}
+use Rattle.go_lex.specs.NumberLengths.{is_mark, exponent_len, fraction_len, tail_len, joined_len, imaginary_len, integer_len, number_of, number_kind, decimal_number, prefixed_number, if_digits, prefix_of, number_at, behind_of, IsNumber, int_number, float_number, imaginary_number}
 use Rattle.go_lex.specs.Starts.{begins_number}
 use Rattle.go_lex.proofs.DigitRuns.{more_stop, more_step, digit_goes, more_within, digits_within, taken, digits_stand, behind_stand, digits_are_more, no_digits}
-use Rattle.go_lex.proofs.Parts.{both_len, IsTail, fraction_tail, exponent_tail, exponent_stand, exponent_none, exponent_stop, exponent_within, fraction_point, fraction_other, fraction_empty, imaginary_stand, is_point}
-use Rattle.go_lex.proofs.NumberClaims.{is_zero, len_of_some, len_of_int, kind_imaginary, kind_float, kind_int, lt_true, tail_ten, decimal_is}
+use Rattle.go_lex.proofs.Parts.{both_len, IsTail, fraction_tail, exponent_tail, exponent_stand, exponent_none, exponent_within, fraction_point, fraction_other, fraction_empty, imaginary_stand, is_point}
+use Rattle.go_lex.proofs.NumberClaims.{is_zero, len_of_some, len_of_int, kind_imaginary, kind_float, kind_int, decimal_is}
 use Rattle.go_lex.proofs.Numbers.{base_cases, number_plain, number_prefixed, some_base}
 
 -- digits at the front, or none

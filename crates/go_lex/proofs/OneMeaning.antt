@@ -1,5 +1,5 @@
 -- A lexeme's text says one thing.
-use Rattle.std.proofs.Common.{◌≡◌, ◌⊎◌, inl, inr, ℕ, suc, ◌<◌, ◌≤◌, ◌+◌, List, [], ◌∷◌, ◌++◌, length, drop, refl, sym, ap, ◌∙◌, subst, arith, length-append, true, false, Option, Some, None}
+use Rattle.std.proofs.Common.{◌≡◌, inl, inr, ℕ, List, [], ◌∷◌, ◌++◌, length, drop, refl, sym, ap, ◌∙◌, subst, arith, length-append, true, false, Option, Some, None}
 use Rattle.std.proofs.lemmas.List.{append-nil, drop_at}
 use Rattle.std.specs.Char.{encode_utf8}
 use Rattle.std.proofs.lemmas.Str.{length-encode, len_utf8_bounds}
@@ -10,8 +10,8 @@ use Rattle.go_model.specs.declared.token.TokenValue.{TokenValue}
 use Rattle.go_model.specs.declared.token.TokenValue.TheVariants as value
 use Rattle.go_model.specs.declared.token.LexemeKind.{LexemeKind}
 use Rattle.go_model.specs.declared.token.LexemeKind.TheVariants as lexeme
-use Rattle.go_model.specs.Quotes.{meaning_number, meaning_bytes, IsCharacter, AreCharacters, no_character, character_more, raw_bytes}
-use Rattle.go_model.specs.Words.{kind_in, operators, operators_of_three, operators_of_two, operators_of_one, name_kind}
+use Rattle.go_model.specs.Quotes.{meaning_number, meaning_bytes, AreCharacters, no_character, character_more, raw_bytes}
+use Rattle.go_model.specs.Words.{kind_in, operators, operators_of_three, operators_of_two, operators_of_one}
 use Rattle.go_model.specs.Headers.{comment_len}
 use Rattle.go_model.specs.Lexemes.{IsLexeme, blank, newline, name, operator, integer, float, imaginary, rune, string, raw_string, plain_value, quoted, Lexeme, Begins}
 use Rattle.go_lex.specs.declared.front.Start.{Start}

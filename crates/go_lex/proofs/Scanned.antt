@@ -1,5 +1,5 @@
 -- What the pass over the bytes keeps.
-use Rattle.std.proofs.Common.{◌≡◌, ℕ, zero, suc, ◌+◌, ◌-◌, ◌<◌, ◌≤◌, List, [], ◌∷◌, ◌++◌, length, take, drop, Option, None, refl, sym, ap, ◌∙◌, subst, append_assoc, arith, length-drop, drop-drop}
+use Rattle.std.proofs.Common.{◌≡◌, ℕ, ◌+◌, ◌-◌, ◌<◌, ◌≤◌, List, [], ◌∷◌, ◌++◌, length, take, drop, Option, None, refl, sym, ap, ◌∙◌, subst, append_assoc, arith, length-drop, drop-drop}
 use Rattle.go_model.specs.declared.token.Token.{Token}
 use Rattle.go_model.specs.declared.token.TokenValue.{TokenValue}
 use Rattle.go_model.specs.declared.token.LexemeKind.{LexemeKind}

@@ -1,5 +1,5 @@
 -- The characters and escapes at the front of some bytes.
-use Rattle.std.specs.Prelude.{◌≡◌, ◌<◌, ◌≤◌, ◌+◌, true, ℕ, List, [], ◌∷◌, ◌++◌, length, take, drop}
+use Rattle.std.specs.Prelude.{◌≡◌, ◌<◌, ◌≤◌, ◌+◌, true, ℕ, List, ◌∷◌, ◌++◌, length, take}
 use Rattle.go_model.specs.declared.token.Meaning.{Meaning}
 use Rattle.go_model.specs.declared.token.Meaning.TheVariants.{Character, Byte}
 use Rattle.std.specs.Char.{IsScalar, encode_utf8}

@@ -1,5 +1,5 @@
 -- The one text of a kind at the front of some bytes.
-use Rattle.std.specs.Prelude.{◌≡◌, ◌<◌, ◌≤◌, not, ◌==◌, true, ℕ, List, [], ◌∷◌, ◌++◌, length, take}
+use Rattle.std.specs.Prelude.{◌≡◌, ◌<◌, ◌≤◌, not, ◌==◌, true, ℕ, List, ◌++◌, length, take}
 use Rattle.std.specs.List.{list_all}
 use Rattle.go_model.specs.declared.token.Meaning.{Meaning}
 use Rattle.go_model.specs.Headers.{is_text}

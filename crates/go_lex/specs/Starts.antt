@@ -1,5 +1,5 @@
 -- What the first bytes tell of a lexeme.
-use Rattle.std.specs.Prelude.{ℕ, nat_lt, Bool, false, true, ◌||◌, ◌&&◌, ◌==◌, if◌then◌else◌, List, [], ◌∷◌}
+use Rattle.std.specs.Prelude.{ℕ, nat_lt, Bool, false, ◌||◌, ◌&&◌, ◌==◌, if◌then◌else◌, List, [], ◌∷◌}
 use Rattle.go_model.specs.Lexemes.{is_blank}
 use Rattle.go_model.specs.Numbers.{is_digit_of}
 use Rattle.go_lex.specs.Digits.{begins_digit}

@@ -1,4 +1,4 @@
-use Rattle.std.proofs.Common.{◌≡◌, ◌∙◌, sym, List, ℕ}
+use Rattle.std.proofs.Common.{◌∙◌, sym, List, ℕ}
 use Rattle.go_lex.proofs.TokenValues.{map_ok, string_text, string_long, raw_said, string_inner, string_said}
 use Rattle.go_lex.proofs.emit.string_text.Goals as goal
 

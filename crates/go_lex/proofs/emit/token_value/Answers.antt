@@ -1,4 +1,4 @@
-use Rattle.go_lex.proofs.TokenValues.{ident_said, int_said, rune_text, rune_said, silent_said}
+use Rattle.go_lex.proofs.TokenValues.{rune_text, rune_said, silent_said}
 use Rattle.go_lex.proofs.emit.token_value.Goals as goal
 
 pub rune_number-requires : goal.rune_number-requires

@@ -1,4 +1,4 @@
-use Rattle.std.proofs.Common.{◌≡◌, sym, ◌∙◌, List, ℕ, ap, subst}
+use Rattle.std.proofs.Common.{sym, ◌∙◌, subst}
 use Rattle.go_model.specs.declared.token.TokenKind.TheVariants as token
 use Rattle.go_model.specs.declared.token.LexemeKind.TheVariants as lexeme
 use Rattle.go_lex.specs.declared.front.Front.{Front}

@@ -1,4 +1,4 @@
-use Rattle.std.proofs.Common.{◌≡◌, List, ℕ, true, false, drop, sym, ◌∙◌, subst, arith, length-drop}
+use Rattle.std.proofs.Common.{◌≡◌, List, ℕ, true, false, sym, ◌∙◌, subst}
 use Rattle.go_lex.specs.Starts.{begins_byte}
 use Rattle.go_lex.specs.CharacterFronts.{BeginsCharacter, BeginsNoCharacter}
 use Rattle.go_lex.proofs.Literals.{string_start, string_step, string_only, string_open}

@@ -1,4 +1,3 @@
-use Rattle.std.proofs.Common.{◌≡◌, true, sym}
 use Rattle.go_lex.proofs.NameRuns.{longest_name, no_name, from_true, to_false}
 use Rattle.go_lex.proofs.name.name_len.Goals as goal
 

@@ -1,4 +1,4 @@
-use Rattle.std.proofs.Common.{◌≤◌, ◌≡◌, ℕ, List, subst, sym, ap, ◌∙◌, arith}
+use Rattle.std.proofs.Common.{ap, arith}
 use Rattle.go_model.specs.Numbers.{value_from}
 use Rattle.go_lex.proofs.Counted.{front_counted}
 use Rattle.go_lex.proofs.quote.octal.Goals as goal

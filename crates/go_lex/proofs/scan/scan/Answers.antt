@@ -1,7 +1,7 @@
-use Rattle.std.proofs.Common.{List, ℕ, ap, subst, take, sym}
+use Rattle.std.proofs.Common.{List, ℕ, ap, subst, take}
 use Rattle.go_model.specs.Lexemes.{BeginsNone}
 use Rattle.go_lex.specs.Fronts.{IsFront}
-use Rattle.go_lex.proofs.Scanned.{scanned_none, scanned_more, scanned_all, scanned_bad}
+use Rattle.go_lex.proofs.Scanned.{scanned_more, scanned_all, scanned_bad}
 use Rattle.go_lex.proofs.scan.scan.Goals as goal
 
 pub returns-in_default-clause-cause : goal.returns-in_default-clause-cause

@@ -1,5 +1,4 @@
-use Rattle.std.proofs.Common.{length, ◌-◌, drop, ◌≤◌, ◌≡◌}
-use Rattle.go_model.specs.Headers.{without_mark}
+use Rattle.std.proofs.Common.{length, ◌-◌}
 use Rattle.go_lex.proofs.Scanned.{IsScanned}
 use Rattle.go_lex.proofs.scan.scan.Given as goal
 

@@ -1,6 +1,6 @@
-use Rattle.std.proofs.Common.{List, ℕ, ◌+◌, drop, sym, subst}
-use Rattle.go_lex.specs.CharacterFronts.{BeginsCharacter, BeginsNoCharacter}
-use Rattle.go_lex.proofs.StringValues.{Decoded, decoded_start, decoded_step, decoded_all}
+use Rattle.std.proofs.Common.{List, ℕ, ◌+◌, sym, subst}
+use Rattle.go_lex.specs.CharacterFronts.{BeginsCharacter}
+use Rattle.go_lex.proofs.StringValues.{Decoded, decoded_step}
 use Rattle.go_lex.proofs.value.string_bytes.Goals as goal
 
 pub loop-c-preserved : goal.loop-c-preserved
