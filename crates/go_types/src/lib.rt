@@ -19,3 +19,6 @@ mod parts;
 mod place;
 mod steps;
 mod untagged;
+
+#[cfg(test)]
+mod tests;
