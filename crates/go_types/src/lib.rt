@@ -6,7 +6,7 @@ pub mod assignable;
 pub mod comparable;
 pub mod convertible;
 mod ending;
-mod find;
+pub mod find;
 pub mod identical;
 pub mod implements;
 mod kinds;
@@ -18,7 +18,6 @@ mod part;
 mod parts;
 mod place;
 mod steps;
-mod untagged;
-
 #[cfg(test)]
 mod tests;
+mod untagged;

@@ -430,7 +430,11 @@ fn compares_all_but_slices_maps_and_functions(rt: HostRuntime) -> Result<(), Fai
     let alloc = rt.alloc();
     let types = table(alloc)?;
     for (text, want) in COMPARABLE {
-        assert_eq!(rt; comparable_in(alloc, &types, &term(alloc, text)?)?, want, "{text:?}");
+        assert_eq!(rt;
+            comparable_in(alloc, &types, &term(alloc, text)?)?,
+            want,
+            "{text:?}"
+        );
     }
     Ok(())
 }
@@ -459,8 +463,16 @@ fn assigns(rt: HostRuntime) -> Result<(), Fail> {
     let types = table(alloc)?;
     for (from, to, elsewhere, profile) in ASSIGNABLE {
         let (left, right) = (term(alloc, from)?, term(alloc, to)?);
-        assert_eq!(rt; assignable_in(alloc, &types, &left, &right, false)?, elsewhere, "{from:?} {to:?}");
-        assert_eq!(rt; assignable_in(alloc, &types, &left, &right, true)?, profile, "{from:?} {to:?}");
+        assert_eq!(rt;
+            assignable_in(alloc, &types, &left, &right, false)?,
+            elsewhere,
+            "{from:?} {to:?}"
+        );
+        assert_eq!(rt;
+            assignable_in(alloc, &types, &left, &right, true)?,
+            profile,
+            "{from:?} {to:?}"
+        );
     }
     Ok(())
 }
@@ -493,8 +505,16 @@ fn converts(rt: HostRuntime) -> Result<(), Fail> {
     let types = table(alloc)?;
     for (from, to, elsewhere, profile) in CONVERTIBLE {
         let (left, right) = (term(alloc, from)?, term(alloc, to)?);
-        assert_eq!(rt; convertible_in(alloc, &types, &left, &right, false)?, elsewhere, "{from:?} {to:?}");
-        assert_eq!(rt; convertible_in(alloc, &types, &left, &right, true)?, profile, "{from:?} {to:?}");
+        assert_eq!(rt;
+            convertible_in(alloc, &types, &left, &right, false)?,
+            elsewhere,
+            "{from:?} {to:?}"
+        );
+        assert_eq!(rt;
+            convertible_in(alloc, &types, &left, &right, true)?,
+            profile,
+            "{from:?} {to:?}"
+        );
     }
     Ok(())
 }
@@ -502,8 +522,18 @@ fn converts(rt: HostRuntime) -> Result<(), Fail> {
 #[test]
 fn counts_tags_in_identity(rt: HostRuntime) -> Result<(), Fail> {
     let alloc = rt.alloc();
-    assert!(rt; identical(&term(alloc, b"int .F struct")?, &term(alloc, b"int .F struct")?));
-    assert!(rt; !identical(&term(alloc, b"int .F struct")?, &term(alloc, b"int 'F struct")?));
+    assert!(rt;
+        identical(
+            &term(alloc, b"int .F struct")?,
+            &term(alloc, b"int .F struct")?
+        )
+    );
+    assert!(rt;
+        !identical(
+            &term(alloc, b"int .F struct")?,
+            &term(alloc, b"int 'F struct")?
+        )
+    );
     assert!(rt; !identical(&term(alloc, b"A ^A struct")?, &term(alloc, b"A .A struct")?));
     assert!(rt; !identical(&term(alloc, b"int c")?, &term(alloc, b"int <")?));
     Ok(())
