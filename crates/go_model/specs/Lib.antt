@@ -1,6 +1,7 @@
 pub mod Alphabets
 pub mod Assignability
 pub mod Bits
+pub mod Brackets
 pub mod BuildConstraints
 pub mod BuildTags
 pub mod BuildValues
@@ -9,7 +10,9 @@ pub mod Classes
 pub mod Comparison
 pub mod Constants
 pub mod Conversions
+pub mod Declarations
 pub mod Gathered
+pub mod Grammar
 pub mod Headers
 pub mod Imports
 pub mod Keys
@@ -22,6 +25,9 @@ pub mod Outline
 pub mod Platforms
 pub mod Quotes
 pub mod Selectors
+pub mod SourceFiles
+pub mod Statements
+pub mod Symbols
 pub mod Tables
 pub mod Tags
 pub mod Terminals
