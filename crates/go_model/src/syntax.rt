@@ -4,6 +4,7 @@
 //! grows with the length of a file.
 pub mod declaration;
 pub mod expression;
+pub mod held;
 pub mod name;
 pub mod operator;
 pub mod statement;
