@@ -1,6 +1,6 @@
 -- Balanced runs: terminals whose round, square and curly brackets close in order. The body of a function
 -- that is skipped is one, in its braces.
-use Rattle.std.specs.Prelude.{◌≡◌, ℕ, Bool, true, false, List, [], ◌∷◌, Option, Some, None}
+use Rattle.std.specs.Prelude.{◌≡◌, ℕ, Bool, true, false, List, ◌∷◌, Option, Some, None}
 use Rattle.go_model.specs.declared.syntax.statement.Block.{Block}
 use Rattle.go_model.specs.declared.syntax.statement.Block.TheVariants as block
 use Rattle.go_model.specs.declared.token.TokenKind.{TokenKind}
@@ -14,7 +14,6 @@ closer kind.LeftBracket = Some kind.RightBracket
 closer kind.LeftBrace = Some kind.RightBrace
 closer _ = None
 
--- a terminal that is no bracket
 abbrev pub no_bracket : TokenKind → Bool
 no_bracket kind.LeftParen = false
 no_bracket kind.LeftBracket = false
@@ -24,6 +23,7 @@ no_bracket kind.RightBracket = false
 no_bracket kind.RightBrace = false
 no_bracket _ = true
 
+-- whether a terminal is no bracket, and its token not an odd one
 abbrev pub is_plain : Terminal → Bool
 is_plain (Sign k at) = no_bracket k
 is_plain (Identifier n) = true

@@ -10,6 +10,10 @@ use Rattle.go_model.specs.declared.token.TokenKind.{TokenKind}
 use Rattle.go_model.specs.declared.token.TokenKind.TheVariants as kind
 use Rattle.go_model.specs.Terminals.{Terminal, Sign, Identifier, Basic, Extent}
 
+-- what a rule says: the terminals at which a tree begins, the tree, and the terminals that follow it
+abbrev pub Rule : Type 0 → Type 1
+Rule A = List Terminal → A → List Terminal → Type 0
+
 -- a keyword or an operator
 pub data Takes (k : TokenKind) : List Terminal → List Terminal → Type 0 where
   takes : {ts : List Terminal} (at : Extent) → Takes k (Sign k at ∷ ts) ts
@@ -24,9 +28,11 @@ pub data Marks (k : TokenKind) : List Terminal → Bool → List Terminal → Ty
   unmarked : {ts : List Terminal} → Marks k ts false ts
   marked : {ts rest : List Terminal} → Takes k ts rest → Marks k ts true rest
 
+-- a name
 pub data TakesName (n : Name) : List Terminal → List Terminal → Type 0 where
   takes_name : {ts : List Terminal} → TakesName n (Identifier n ∷ ts) ts
 
+-- a literal
 pub data TakesLiteral (l : Literal) : List Terminal → List Terminal → Type 0 where
   takes_literal : {ts : List Terminal} (place : ℕ) → TakesLiteral l (Basic l place ∷ ts) ts
 
@@ -39,6 +45,7 @@ abbrev pub sign_of : Terminal → Option TokenKind
 sign_of (Sign k at) = Some k
 sign_of _ = None
 
+-- the keyword or operator that is next
 abbrev pub sign_at : List Terminal → Option TokenKind
 sign_at [] = None
 sign_at (t ∷ ts) = sign_of t
@@ -54,19 +61,18 @@ is_sign k (Some j) = same_kind j k
 abbrev pub begins : TokenKind → List Terminal → Bool
 begins k ts = is_sign k (sign_at ts)
 
--- whether the brackets around a list close next
 abbrev pub closing : TokenKind → Bool
 closing kind.RightParen = true
-closing kind.RightBracket = true
 closing kind.RightBrace = true
 closing _ = false
 
+-- whether `)` or `}` is next
 abbrev pub closes : List Terminal → Bool
 closes (Sign k at ∷ ts) = closing k
 closes _ = false
 
--- the end of a declaration, a field or a statement in brackets: a semicolon, which may be missing directly
--- before the bracket that closes
+-- the end of a declaration, a field or a method in brackets: a semicolon, which may be missing directly before
+-- `)` or `}`
 pub data Ends : List Terminal → List Terminal → Type 0 where
   ends_semicolon : {ts rest : List Terminal} → Takes kind.Semicolon ts rest → Ends ts rest
   ends_closing : {ts : List Terminal} → closes ts ≡ true → Ends ts ts
@@ -83,14 +89,14 @@ opens_type kind.StructWord = true
 opens_type kind.InterfaceWord = true
 opens_type _ = false
 
--- whether a type can begin here, which then belongs to a signature that stands before it
+-- whether a type can begin here; after the parameters of a signature it is then its result
 abbrev pub begins_type : List Terminal → Bool
 begins_type (Identifier n ∷ ts) = true
 begins_type (Sign kind.Arrow at ∷ ts) = begins kind.ChanWord ts
 begins_type (Sign k at ∷ ts) = opens_type k
 begins_type _ = false
 
--- whether `.` and a name are next, which then belong to a type's name that stands before them
+-- whether `.` and a name are next; after a name that is to be a type's they belong to it
 abbrev pub begins_selector : List Terminal → Bool
 begins_selector (Sign kind.Period at ∷ Identifier n ∷ ts) = true
 begins_selector _ = false
