@@ -1,3 +1,4 @@
+pub mod AddedPackages
 pub mod Fronts
 pub mod Lists
 pub mod Ordered

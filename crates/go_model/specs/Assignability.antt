@@ -1,6 +1,6 @@
 -- Which types are assignable to which, also in a client of the profile.
 -- Public source: Go specification, "Assignability"; what is barred in the profile is own.
-use Rattle.std.specs.Prelude.{◌≡◌, ◌&&◌, ◌||◌, Bool, true, false}
+use Rattle.std.specs.Prelude.{◌≡◌, ◌&&◌, ◌||◌, Bool, false}
 use Rattle.go_model.specs.Tables.{Table}
 use Rattle.go_model.specs.declared.types.term.Term.{Term, Term-F}
 use Rattle.go_model.specs.declared.types.term.Direction.TheVariants as towards

@@ -1,6 +1,7 @@
 pub mod Alphabets
 pub mod Assignability
 pub mod Bits
+pub mod Bounds
 pub mod Brackets
 pub mod BuildConstraints
 pub mod BuildTags
@@ -22,6 +23,7 @@ pub mod MethodSets
 pub mod Numbers
 pub mod Operators
 pub mod Outline
+pub mod PackageTypes
 pub mod Platforms
 pub mod Quotes
 pub mod Selectors
@@ -35,6 +37,7 @@ pub mod Terms
 pub mod Tokens
 pub mod Trees
 pub mod TypeNames
+pub mod TypeSelectors
 pub mod Underlying
 pub mod Words
 pub mod Worlds

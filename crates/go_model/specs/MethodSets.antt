@@ -1,10 +1,14 @@
 -- Method sets, and the types that implement an interface.
 -- Public source: Go specification, "Method sets" and "Implementing an interface".
-use Rattle.std.specs.Prelude.{◌≡◌, ◌⊎◌, ℕ, List, Bool, true, false}
+use Rattle.std.specs.Prelude.{◌≡◌, ◌⊎◌, ℕ, List, map, Bool, true, false}
+use Rattle.std.specs.List.Sorted.{IsStrictlySortedBy}
+use Rattle.std.specs.Ordering.{nat_cmp, ordering_then}
+use Rattle.std.specs.declared.cmp.Ordering.{Ordering}
+use Rattle.std.specs.Cmp.Lexicographic.{slice_cmp}
 use Rattle.go_model.specs.Lists.{Has}
 use Rattle.go_model.specs.Tables.{Table}
 use Rattle.go_model.specs.Underlying.{under}
-use Rattle.go_model.specs.Selectors.{Ending, method, IsOnly, is_defined_pointer}
+use Rattle.go_model.specs.Selectors.{method, IsOnly, is_defined_pointer}
 use Rattle.go_model.specs.declared.types.names.Sel.{Sel}
 use Rattle.go_model.specs.declared.types.term.Term.{Term, Term-F}
 use Rattle.go_model.specs.declared.types.term.Method.{Method, out-Method}
@@ -33,3 +37,16 @@ HasMethods T t ms = (m : Method) → Has ms m → HasMethod T t m
 -- the type implements the interface
 abbrev pub Implements : Table → Term → Term → Type 0
 Implements T t interface = (ms : List Method) × (under T interface ≡ Term-F.Interface ms) × HasMethods T t ms
+
+abbrev pub method_sel : Method → Sel
+method_sel m = (out-Method m).sel
+
+-- selectors in order, by name and then by package
+abbrev pub sel_order : Sel → Sel → Ordering
+sel_order a b = ordering_then (slice_cmp nat_cmp a.name b.name) (slice_cmp nat_cmp a.«package» b.«package»)
+
+-- exactly the methods of the method set, in order, each once
+pub record IsMethodSet (T : Table) (t : Term) (ms : List Method) : Type 0 where
+  pub ordered : IsStrictlySortedBy sel_order (map method_sel ms)
+  pub sound : (m : Method) → Has ms m → HasMethod T t m
+  pub complete : (m : Method) → HasMethod T t m → Has ms m

@@ -1,8 +1,8 @@
 -- Types without the tags of their fields.
 -- Public source: Go specification, "Conversions": struct tags are ignored, at every depth.
-use Rattle.std.specs.Prelude.{List, []}
+use Rattle.std.specs.Prelude.{[]}
 use Rattle.go_model.specs.Tables.{Table}
-use Rattle.go_model.specs.declared.types.term.Term.{Term, Term-F, roll-Term, fold-Term}
+use Rattle.go_model.specs.declared.types.term.Term.{Term, roll-Term, fold-Term}
 use Rattle.go_model.specs.declared.types.term.Field.{Field, Field-F, roll-Field, fold-Field}
 use Rattle.go_model.specs.declared.types.term.Method.{Method, roll-Method, fold-Method}
 use Rattle.go_model.specs.declared.types.term.Signature.{Signature, roll-Signature, fold-Signature}

@@ -38,7 +38,7 @@ abbrev pub naming : TokenKind → List ℕ → ℕ → Terminal
 naming kind.Ident text place = Identifier (record { text = text; place = place })
 naming _ text place = Odd
 
--- a token that says a literal, where its kind is this one
+-- a token that says an integer literal, where its kind is that of one
 abbrev pub whole : TokenKind → Literal → ℕ → Terminal
 whole kind.IntLit l place = Basic l place
 whole _ l place = Odd

@@ -1,12 +1,12 @@
 -- Types as terms, a level at a time.
 -- Public source: Go specification, "Types", "Type identity" and, for `error`, "Errors".
-use Rattle.std.specs.Prelude.{◌≡◌, ◌&&◌, ℕ, List, [], ◌∷◌, Bool, true, false, codes}
+use Rattle.std.specs.Prelude.{◌&&◌, ℕ, List, [], ◌∷◌, Bool, false, codes}
 use Rattle.std.specs.Str.{bytes_eq}
 use Rattle.go_model.specs.declared.types.names.TypeName.{TypeName}
 use Rattle.go_model.specs.declared.types.names.Sel.{Sel}
-use Rattle.go_model.specs.declared.types.term.Term.{Term, Term-F, out-Term, roll-Term}
-use Rattle.go_model.specs.declared.types.term.Field.{Field, out-Field}
-use Rattle.go_model.specs.declared.types.term.Method.{Method, out-Method, roll-Method}
+use Rattle.go_model.specs.declared.types.term.Term.{Term, Term-F, roll-Term}
+use Rattle.go_model.specs.declared.types.term.Field.{Field}
+use Rattle.go_model.specs.declared.types.term.Method.{Method, roll-Method}
 use Rattle.go_model.specs.declared.types.term.Signature.{Signature, roll-Signature}
 use Rattle.go_model.specs.declared.types.package.Defined.{Defined}
 use Rattle.go_model.specs.declared.value.Basic.TheVariants as basic

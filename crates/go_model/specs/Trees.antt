@@ -1,7 +1,7 @@
 -- Paths of modules and of folders, and the facts that a tree of Go files keeps.
 -- Public source: Go Modules Reference, "go.mod files: lexical elements" and "Module paths", where an element is made of ASCII letters, digits and `-._~`.
 -- The limits are this project's own.
-use Rattle.std.specs.Prelude.{◌≡◌, ◌≢◌, ◌≤◌, ◌⊎◌, ℕ, Bool, true, false, not, ◌&&◌, ◌||◌, nat_eq, nat_le, List, [], ◌∷◌, length, codes}
+use Rattle.std.specs.Prelude.{◌≡◌, ◌≢◌, ◌≤◌, ◌⊎◌, ℕ, Bool, true, not, ◌&&◌, ◌||◌, nat_eq, nat_le, List, [], length, codes}
 use Rattle.std.specs.List.{list_all, slice_split, starts_with}
 use Rattle.go_model.specs.Lists.{Each}
 use Rattle.go_model.specs.declared.tree.Tree.{Tree}

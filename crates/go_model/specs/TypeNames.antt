@@ -2,8 +2,8 @@
 use Rattle.std.specs.Prelude.{List, [], ◌∷◌, ◌++◌}
 use Rattle.go_model.specs.declared.types.names.TypeName.{TypeName}
 use Rattle.go_model.specs.declared.types.term.Term.{Term, Term-F, fold-Term}
-use Rattle.go_model.specs.declared.types.term.Field.{Field, Field-F, fold-Field}
-use Rattle.go_model.specs.declared.types.term.Method.{Method, Method-F, fold-Method}
+use Rattle.go_model.specs.declared.types.term.Field.{Field-F}
+use Rattle.go_model.specs.declared.types.term.Method.{Method-F}
 use Rattle.go_model.specs.declared.types.term.Signature.{Signature, Signature-F, fold-Signature}
 use Rattle.go_model.specs.Gathered.{gather}
 

@@ -1,19 +1,21 @@
 -- Worlds: typed packages together.
 -- Public source: Go specification, "Packages" and "Declarations and scope".
-use Rattle.std.specs.Prelude.{◌≡◌, ◌≢◌, ℕ, List, [], ◌∷◌, ◌++◌, map, Bool, true, false, Option, Some, None, if◌then◌else◌}
+use Rattle.std.specs.Prelude.{◌≡◌, ◌≢◌, ◌⊎◌, ℕ, List, [], map, Bool, Option, Some, None, if◌then◌else◌}
 use Rattle.go_model.specs.Lists.{Has, Each, Ascending}
+use Rattle.go_model.specs.Gathered.{gather}
 use Rattle.go_model.specs.Tables.{Table}
 use Rattle.go_model.specs.declared.types.names.TypeName.{TypeName}
+use Rattle.go_model.specs.declared.types.names.Sel.{Sel}
 use Rattle.go_model.specs.declared.types.package.Package.{Package}
 use Rattle.go_model.specs.declared.types.package.Object.{Object}
 use Rattle.go_model.specs.declared.types.package.Defined.{Defined}
 use Rattle.go_model.specs.declared.types.package.Entity.{Entity}
 use Rattle.go_model.specs.declared.types.package.Entity.TheVariants as entity
 use Rattle.go_model.specs.declared.types.package.ConstTerm.TheVariants as constant
-use Rattle.go_model.specs.declared.types.package.MethodOf.{MethodOf}
 use Rattle.go_model.specs.declared.types.term.Term.{Term, Term-F, out-Term}
 use Rattle.go_model.specs.declared.types.term.Signature.{Signature}
 use Rattle.go_model.specs.Keys.{first_with, placed}
+use Rattle.go_model.specs.PackageTypes.{package_selectors}
 use Rattle.go_model.specs.TypeNames.{names, signature_names}
 use Rattle.go_model.specs.Underlying.{entry}
 
@@ -70,7 +72,14 @@ pub record IsPackage (T : Table) (p : Package) : Type 0 where
   pub entities : Each (λ o. EntityResolves T o.entity) p.objects
   pub types : Each (IsDefined T) p.defined
 
--- what every world keeps: its packages are ordered by path, each path once, and each name of a type has an entry
+-- a selector is exported, or of a package with one of these paths
+abbrev pub IsOwned : List (List ℕ) → Sel → Type 0
+IsOwned paths s = (s.«package» ≡ []) ⊎ Has paths s.«package»
+
+-- what every world keeps: its packages are ordered by path, each path once, and each name of a type has an entry; each selector is exported or of a package of the world; the paths of the public packages are ordered, each once, and are paths of the world
 pub record IsWorld (w : Packages) : Type 0 where
   pub ordered : Ascending (map path_of w.packages)
   pub packaged : Each (IsPackage (table_of w.packages)) w.packages
+  pub owned : Each (IsOwned (map path_of w.packages)) (gather package_selectors w.packages)
+  pub public_order : Ascending w.publics
+  pub public_paths : Each (Has (map path_of w.packages)) w.publics

@@ -58,7 +58,7 @@ fn compare<K: Keyed>(item: &K, key: &[u8]) -> Ordering
 }
 
 /// The item with a key, in a list that is ordered by it.
-pub fn find_key<'a, K: Keyed>(items: &'a [K], key: &[u8]) -> Option<&'a K>
+pub(crate) fn find_key<'a, K: Keyed>(items: &'a [K], key: &[u8]) -> Option<&'a K>
     requires { Ascending (map K.key items.now) }
     ensures { item_of result ≡ first_with K.key items.now key.now }
 {
@@ -83,7 +83,7 @@ fn goes_before<K: Keyed>(key: &[u8], item: &K) -> bool
 }
 
 /// Where an item with this key stands in a list that is ordered by it.
-pub fn place_for<K: Keyed>(items: &[K], key: &[u8]) -> usize
+pub(crate) fn place_for<K: Keyed>(items: &[K], key: &[u8]) -> usize
     ensures { PlaceFor K.key items.now key.now result }
 {
     for (at, item) in items.iter().enumerate() {

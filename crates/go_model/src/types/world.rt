@@ -15,8 +15,9 @@ use std::alloc::Global;
 use std::marker::Model;
 
 /// Packages after typing, and the paths of those that are public, each ordered by path. Each name
-/// of a defined type that stands in a type of the world is one of a package in it, or `error`; no
-/// underlying type is a name; the names of a package are distinct.
+/// of a defined type that stands in a type of the world is one of a package in it, or `error`, and
+/// each unexported selector is of a package in it; no underlying type is a name; the names of a
+/// package are distinct.
 #[derive(Drop)]
 pub struct World {
     alloc: Global,

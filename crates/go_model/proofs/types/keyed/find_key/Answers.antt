@@ -1,4 +1,4 @@
-use Rattle.std.proofs.Common.{◌≡◌, sym}
+use Rattle.std.proofs.Common.{sym}
 use Rattle.go_model.proofs.Ordered.{narrowed_less, narrowed_greater, narrowed_equal, narrowed_none, below_high, above_low}
 use Rattle.go_model.proofs.types.keyed.find_key.Goals as goal
 

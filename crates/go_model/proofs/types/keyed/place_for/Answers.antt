@@ -1,4 +1,4 @@
-use Rattle.std.proofs.Common.{◌≡◌, sym, ◌∙◌}
+use Rattle.std.proofs.Common.{sym, ◌∙◌}
 use Rattle.go_model.proofs.Ordered.{placed_here, placed_next}
 use Rattle.go_model.proofs.types.keyed.place_for.Goals as goal
 

@@ -1,4 +1,4 @@
-use Rattle.std.proofs.Common.{◌≡◌, ◌∙◌, List, sym, ap, map, subst}
+use Rattle.std.proofs.Common.{◌∙◌, List, sym, ap, map, subst}
 use Rattle.go_model.specs.Lists.{Ascending}
 use Rattle.go_model.specs.declared.types.package.Package.{Package}
 use Rattle.go_model.specs.declared.types.package.Defined.{Defined}
