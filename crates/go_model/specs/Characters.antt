@@ -1,6 +1,6 @@
--- Letters and digits of names, after "Characters", "Letters and digits" and "Identifiers" of the Go
--- specification, with the general categories of the Unicode Standard; and runs of characters in
--- bytes, which need not be UTF-8 behind them.
+-- Letters and digits of names, after "Characters", "Letters and digits", "Identifiers" and "Exported
+-- identifiers" of the Go specification, with the general categories of the Unicode Standard; and runs of
+-- characters in bytes, which need not be UTF-8 behind them.
 use Rattle.std.specs.Prelude.{◌≡◌, ℕ, Bool, true, false, ◌||◌, ◌==◌, List, [], ◌++◌}
 use Rattle.std.specs.Char.{IsScalar, encode_utf8}
 use Rattle.unicode.specs.GeneralCategory.{general_category}
@@ -16,6 +16,11 @@ is_letter_category category.ModifierLetter = true
 is_letter_category category.OtherLetter = true
 is_letter_category _ = false
 
+-- Lu
+abbrev pub is_upper_category : GeneralCategory → Bool
+is_upper_category category.UppercaseLetter = true
+is_upper_category _ = false
+
 -- Nd
 abbrev pub is_digit_category : GeneralCategory → Bool
 is_digit_category category.DecimalNumber = true
@@ -24,6 +29,10 @@ is_digit_category _ = false
 -- a letter: the underscore counts as one
 abbrev pub is_letter : ℕ → Bool
 is_letter c = c == 95 || is_letter_category (general_category c)
+
+-- an upper-case letter, as an exported name begins with
+abbrev pub is_upper : ℕ → Bool
+is_upper c = is_upper_category (general_category c)
 
 -- a character that a name may go on with
 abbrev pub is_name_character : ℕ → Bool

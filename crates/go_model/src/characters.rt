@@ -2,7 +2,7 @@
 ghost use Rattle.std.specs.Prelude.{◌≡◌, ◌<◌, ◌≤◌, ◌++◌, ℕ, length, take, drop, IfSome, IsNone, IsUtf8, IsTrue, ◌↔◌};
 ghost use Rattle.std.specs.Char.{IsScalar, encode_utf8, len_utf8};
 ghost use Rattle.std.specs.Str.{StartsWithNoChar};
-ghost use Rattle.go_model.specs.Characters.{is_letter, BeginsPassing, IsRun};
+ghost use Rattle.go_model.specs.Characters.{is_letter, is_upper, BeginsPassing, IsRun};
 ghost use Rattle.go_model.specs.Alphabets.{has, BeginsWith};
 
 use unicode::properties::GeneralCategory;
@@ -27,6 +27,16 @@ pub fn is_letter(c: char) -> bool
                 | GeneralCategory::ModifierLetter
                 | GeneralCategory::OtherLetter
         )
+}
+
+/// Whether the character is an upper-case letter of Go.
+fn is_upper(c: char) -> bool
+    ensures { result ≡ is_upper c }
+{
+    matches!(
+        GeneralCategory::for_char(c),
+        GeneralCategory::UppercaseLetter
+    )
 }
 
 impl Alphabet {
@@ -81,6 +91,16 @@ pub fn begins_with_letter(bytes: &[u8]) -> bool
 {
     match first_char(bytes) {
         Some(c) => is_letter(c),
+        None => false,
+    }
+}
+
+/// Whether a name is exported: whether it begins with an upper-case letter.
+pub fn is_exported(name: &[u8]) -> bool
+    ensures { IsTrue result ↔ BeginsPassing is_upper name.now }
+{
+    match first_char(name) {
+        Some(c) => is_upper(c),
         None => false,
     }
 }
