@@ -49,6 +49,9 @@ func verdict(source []byte) (string, notes) {
 	}
 	g.file(file)
 	if g.refused {
+		for _, name := range stricter {
+			delete(g.met, name)
+		}
 		return "syntax", g.met
 	}
 	if cut {
@@ -111,7 +114,7 @@ func (g *grammar) offset(at token.Pos) int {
 	return g.files.Position(at).Offset
 }
 
-// before is the kind of the token that ends before the offset, after that which begins at it.
+// at is the place of the first token that begins at the offset or behind it.
 func (g *grammar) at(offset int) int {
 	if g.tokens == nil {
 		g.tokens = (&readable{text: g.text, lexemes: first(lex(g.text))}).tokens()
@@ -155,6 +158,10 @@ func (g *grammar) file(file *ast.File) {
 	}
 	for _, offset := range g.lost {
 		i := g.at(offset)
+		if i+1 < len(g.tokens) && g.tokens[i].kind == token.LBRACK && g.tokens[i+1].kind == token.ELLIPSIS {
+			g.refuse("[...] without a literal")
+			continue
+		}
 		c := &cutter{tokens: g.tokens, asType: map[int]bool{}}
 		if end := c.typeEnd(i); end > i && end <= len(g.tokens) {
 			if x, err := parser.ParseExpr(string(g.text[offset:g.tokens[end-1].end])); err == nil {
@@ -191,7 +198,7 @@ func (g *grammar) spec(word token.Token, spec ast.Spec) {
 		}
 	case *ast.ValueSpec:
 		if word == token.CONST && spec.Type != nil && spec.Values == nil {
-			g.refuse("a constant with a type and no value, which Go refuses too")
+			g.refused = true // as Go does
 		}
 		if spec.Type != nil {
 			g.high(g.typ(spec.Type))
