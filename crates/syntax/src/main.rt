@@ -6,6 +6,7 @@
 
 mod verdict;
 
+use crate::verdict::verdict_of;
 use frames::fault::Fault;
 use frames::source::read_source;
 use std::io;
@@ -19,7 +20,7 @@ fn answer_all(rt: &HostRuntime) -> Result<(), Fault> {
         let Some(source) = read_source(rt.alloc(), &mut input)? else {
             break;
         };
-        let answer = verdict::verdict(rt.alloc(), &source)?;
+        let answer = verdict_of(rt.alloc(), &source)?;
         writeln!(output, "{answer}")?;
     }
     output.flush()?;

@@ -28,7 +28,7 @@ impl fmt::Display for Verdict {
 }
 
 /// Whether the source is tokens, and these are in the grammar.
-pub fn verdict(alloc: Global, source: &[u8]) -> Result<Verdict, Fault>
+pub fn verdict_of(alloc: Global, source: &[u8]) -> Result<Verdict, Fault>
     requires { length source.now ≤ 4194304 }
 {
     let tokens = match scan(alloc, source) {
