@@ -7,6 +7,7 @@ import "go/token"
 type cutter struct {
 	tokens []lexeme
 	asType map[int]bool // the places of `func` that begin a type and no literal
+	plain  bool         // whether a name ends a type, with no type arguments behind it
 }
 
 func (c *cutter) kind(i int) token.Token {
@@ -54,7 +55,7 @@ func (c *cutter) typeEnd(i int) int {
 		if c.kind(i+1) == token.PERIOD && c.kind(i+2) == token.IDENT {
 			i += 2
 		}
-		if c.kind(i+1) == token.LBRACK {
+		if c.kind(i+1) == token.LBRACK && !c.plain {
 			return c.behind(i + 1)
 		}
 		return i + 1
@@ -186,4 +187,43 @@ func withoutBodies(text []byte, tokens []lexeme) ([]byte, bool) {
 		return text, false
 	}
 	return append(kept, text[from:]...), true
+}
+
+// parenthesized is the text with parentheses round each array, slice, map and channel type that ends in a name
+// with a bracket behind it, so that Go reads an index of the type there; nil where there is none.
+func parenthesized(text []byte, tokens []lexeme) []byte {
+	c := &cutter{tokens: tokens, asType: map[int]bool{}, plain: true}
+	opening := map[int]int{}
+	var open []int
+	put := map[int]string{} // by the offset before which it is put
+	for i, one := range tokens {
+		switch one.kind {
+		case token.LBRACK, token.LPAREN, token.LBRACE:
+			open = append(open, i)
+		case token.RBRACK, token.RPAREN, token.RBRACE:
+			if len(open) > 0 {
+				opening[i] = open[len(open)-1]
+				open = open[:len(open)-1]
+			}
+		}
+		if one.kind != token.LBRACK && one.kind != token.MAP && one.kind != token.CHAN || c.isElement(i, opening) {
+			continue
+		}
+		switch c.kind(i - 1) {
+		case token.IDENT, token.RPAREN, token.RBRACK, token.RBRACE, token.STRING:
+			continue
+		}
+		if end := c.typeEnd(i); end > 0 && c.kind(end) == token.LBRACK && c.kind(end-1) == token.IDENT {
+			put[one.start] += "("
+			put[tokens[end-1].end] = ")" + put[tokens[end-1].end]
+		}
+	}
+	if len(put) == 0 {
+		return nil
+	}
+	var made []byte
+	for offset, b := range text {
+		made = append(append(made, put[offset]...), b)
+	}
+	return made
 }

@@ -192,6 +192,11 @@ func (r *readable) tokens() []lexeme {
 	return found
 }
 
+func tokensOf(text []byte) []lexeme {
+	lexemes, _ := lex(text)
+	return (&readable{text: text, lexemes: lexemes}).tokens()
+}
+
 var names = map[token.Token]string{
 	token.IDENT: "Ident", token.INT: "IntLit", token.FLOAT: "FloatLit", token.IMAG: "ImagLit", token.CHAR: "RuneLit",
 	token.STRING: "StrLit", token.ADD: "Add", token.SUB: "Subtract", token.MUL: "Multiply", token.QUO: "Divide",

@@ -29,21 +29,19 @@ func verdict(source []byte) (string, notes) {
 	if r.bad != nil {
 		return fmt.Sprintf("bad-token %d", r.original(r.bad.place)), r.met
 	}
-	tokens := r.tokens()
-	text, cut := withoutBodies(r.text, tokens)
-	g := &grammar{files: token.NewFileSet(), text: text, met: r.met}
-	file, err := parser.ParseFile(g.files, "", text, mode)
-	wrong := false
-	if list, isList := err.(scanner.ErrorList); isList {
-		for _, one := range list {
-			if !g.allows(one) {
-				wrong = true
+	text, cut := withoutBodies(r.text, r.tokens())
+	g, file := parse(text, r.met)
+	if file == nil {
+		if other := parenthesized(text, tokensOf(text)); other != nil {
+			met := notes{"an index behind a type is type arguments to Go": true}
+			for name := range r.met {
+				met[name] = true
 			}
+			g, file = parse(other, met)
+			cut = false // Go refuses the whole for another reason
 		}
-	} else if err != nil {
-		wrong = true
 	}
-	if wrong || file == nil {
+	if file == nil {
 		// where Go refuses for a reason that the gate shares no difference matters
 		return "syntax", notes{}
 	}
@@ -60,6 +58,25 @@ func verdict(source []byte) (string, notes) {
 		}
 	}
 	return "ok", g.met
+}
+
+// parse gives Go's tree, and none where Go refuses for a reason that the gate shares.
+func parse(text []byte, met notes) (*grammar, *ast.File) {
+	g := &grammar{files: token.NewFileSet(), text: text, met: met}
+	file, err := parser.ParseFile(g.files, "", text, mode)
+	if err == nil {
+		return g, file
+	}
+	list, isList := err.(scanner.ErrorList)
+	if !isList {
+		return g, nil
+	}
+	for _, one := range list {
+		if !g.allows(one) {
+			return g, nil
+		}
+	}
+	return g, file
 }
 
 func (g *grammar) onlyStricter(err error) bool {
@@ -117,7 +134,7 @@ func (g *grammar) offset(at token.Pos) int {
 // at is the place of the first token that begins at the offset or behind it.
 func (g *grammar) at(offset int) int {
 	if g.tokens == nil {
-		g.tokens = (&readable{text: g.text, lexemes: first(lex(g.text))}).tokens()
+		g.tokens = tokensOf(g.text)
 	}
 	for low, high := 0, len(g.tokens); ; {
 		if low >= high {
@@ -130,8 +147,6 @@ func (g *grammar) at(offset int) int {
 		}
 	}
 }
-
-func first(lexemes []lexeme, _ []fault) []lexeme { return lexemes }
 
 func (g *grammar) high(height int) {
 	if height > mostHeight {
