@@ -177,6 +177,10 @@ func (g *grammar) file(file *ast.File) {
 			g.refuse("[...] without a literal")
 			continue
 		}
+		if i+1 < len(g.tokens) && g.tokens[i].kind == token.ARROW && g.tokens[i+1].kind == token.CHAN {
+			g.refuse("<- before chan as an operand")
+			continue
+		}
 		c := &cutter{tokens: g.tokens, asType: map[int]bool{}}
 		if end := c.typeEnd(i); end > i && end <= len(g.tokens) {
 			if x, err := parser.ParseExpr(string(g.text[offset:g.tokens[end-1].end])); err == nil {
@@ -198,7 +202,7 @@ func (g *grammar) receiver(list *ast.FieldList) {
 			g.refuse("a receiver with ...")
 			continue
 		}
-		g.high(1 + g.typ(field.Type))
+		g.high(g.typ(field.Type))
 	}
 	if count != 1 {
 		g.refuse("a receiver that isn't one parameter")
