@@ -1,5 +1,6 @@
 //! What is told of a source.
-ghost use Rattle.std.specs.Prelude.{◌≤◌, length};
+ghost use Rattle.std.specs.Prelude.{◌≤◌, length, IfOk};
+ghost use Rattle.syntax.specs.Verdicts.{IsVerdict};
 
 use frames::fault::Fault;
 use go_lex::error::LexError;
@@ -30,6 +31,7 @@ impl fmt::Display for Verdict {
 /// Whether the source is tokens, and these are in the grammar.
 pub fn verdict_of(alloc: Global, source: &[u8]) -> Result<Verdict, Fault>
     requires { length source.now ≤ 4194304 }
+    ensures { IfOk result (IsVerdict source.now) }
 {
     let tokens = match scan(alloc, source) {
         Ok(tokens) => tokens,
