@@ -1,4 +1,5 @@
 """What the scripts of this folder share: running a command and measuring it."""
+import collections
 import os
 import subprocess
 import sys
@@ -7,21 +8,32 @@ import time
 
 TOP = os.path.dirname(os.path.dirname(os.path.abspath(__file__)))
 
+Run = collections.namedtuple("Run", "seconds processor peak status output")
+
+
+def run_once(command, given=None):
+    """One run: its time, its processor time, its peak memory in bytes, its status (below 0 for a signal) and
+    its output. GIVEN is the file of its input."""
+    with tempfile.TemporaryFile() as out, open(given or os.devnull, "rb") as source:
+        start = time.monotonic()
+        child = subprocess.Popen(command, stdin=source, stdout=out, stderr=subprocess.DEVNULL)
+        _, status, usage = os.wait4(child.pid, 0)
+        taken = time.monotonic() - start
+        child.returncode = os.waitstatus_to_exitcode(status)
+        out.seek(0)
+        return Run(taken, usage.ru_utime + usage.ru_stime, usage.ru_maxrss * 1024, child.returncode, out.read())
+
+
+def best_of(command, runs, given=None):
+    """The least times and the peak memory of some runs, which have to succeed."""
+    done = [run_once(command, given) for _ in range(runs)]
+    for one in done:
+        if one.status not in (0, 4):
+            sys.exit("%s: status %d" % (" ".join(command), one.status))
+    return Run(min(one.seconds for one in done), min(one.processor for one in done), max(one.peak for one in done), 0, done[-1].output)
+
 
 def measure(command, runs):
     """The least time, the peak memory in bytes, and the output of some runs."""
-    best, peak, output = None, 0, b""
-    for _ in range(runs):
-        with tempfile.TemporaryFile() as out:
-            start = time.monotonic()
-            child = subprocess.Popen(command, stdout=out, stderr=subprocess.DEVNULL)
-            _, status, usage = os.wait4(child.pid, 0)
-            taken = time.monotonic() - start
-            child.returncode = os.waitstatus_to_exitcode(status)
-            out.seek(0)
-            output = out.read()
-        if child.returncode not in (0, 4):
-            sys.exit("%s: status %d" % (" ".join(command), child.returncode))
-        best = taken if best is None else min(best, taken)
-        peak = max(peak, usage.ru_maxrss * 1024)
-    return best, peak, output
+    best = best_of(command, runs)
+    return best.seconds, best.peak, best.output

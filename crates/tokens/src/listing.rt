@@ -1,33 +1,42 @@
-//! The lines that are printed.
+//! The lines that are printed of a source.
+ghost use Rattle.std.specs.Prelude.{◌≤◌, length};
+
+use frames::fault::Fault;
 use go_lex::error::LexError;
 use go_lex::scan::scan;
 use go_model::token::Token;
-use std::alloc::{AllocError, Global};
+use std::alloc::Global;
+use std::io::{BufWriter, Write};
 
-/// The most bytes that a file may have.
-const LIMIT: usize = 4_194_304;
-
-fn line(alloc: Global, token: &Token) -> Result<String, AllocError> {
+fn write_token<W: Write + Drop>(output: &mut BufWriter<W>, token: &Token) -> Result<(), Fault> {
     let end = if token.inserted { " inserted" } else { "" };
-    format!(in alloc; "{:?} {} {}{end}\n", token.kind, token.start, token.end)
+    writeln!(
+        output,
+        "{:?} {} {}{end}",
+        token.kind, token.start, token.end
+    )?;
+    Ok(())
 }
 
-fn lines(alloc: Global, tokens: &[Token]) -> Result<String, AllocError> {
-    let mut text = String::new(alloc);
-    for token in tokens {
-        text.push_str(line(alloc, token)?.as_str())?;
-    }
-    Ok(text)
-}
-
-/// The tokens a line each, or why there are none.
-pub fn listing(alloc: Global, bytes: &[u8]) -> Result<String, AllocError> {
-    if bytes.len() > LIMIT {
-        return format!(in alloc; "too large\n");
-    }
-    match scan(alloc, bytes) {
-        Ok(tokens) => lines(alloc, tokens.items()),
-        Err(LexError::BadToken(place)) => format!(in alloc; "bad {place}\n"),
-        Err(LexError::NoMemory) => format!(in alloc; "out of memory\n"),
+/// Writes the tokens a line each, or the place at which none stands.
+pub fn write_listing<W: Write + Drop>(
+    alloc: Global,
+    output: &mut BufWriter<W>,
+    source: &[u8],
+) -> Result<(), Fault>
+    requires { length source.now ≤ 4194304 }
+{
+    match scan(alloc, source) {
+        Ok(tokens) => {
+            for token in tokens.items() {
+                write_token(output, token)?;
+            }
+            Ok(())
+        }
+        Err(LexError::BadToken(place)) => {
+            writeln!(output, "bad {place}")?;
+            Ok(())
+        }
+        Err(LexError::NoMemory) => Err(Fault::NoMemory),
     }
 }

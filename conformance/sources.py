@@ -1,0 +1,122 @@
+"""What the scripts share that compare many Go sources in one run: the files, spoiled copies, and frames."""
+import os
+import re
+import subprocess
+import tempfile
+
+HERE = os.path.dirname(os.path.abspath(__file__))
+TOP = os.path.dirname(HERE)
+ODD = [b"_", b"0", b"8", b"x", b"e", b".", b"i", b"'", b'"', b"`", b"\\", b"\n", b"\r", b"\0", b"\xff", b"\xef\xbb\xbf", b"/*", b"*/",
+       b"//", b"\xc3\xa9", b"p-", b"<-", b"...", b"~", b"08", b"(", b")", b"[", b"]", b"{", b"}", b",", b";", b"=", b":="]
+# Near enough to Go's tokens for choosing places.
+TOKEN = re.compile(rb'//[^\n]*|/\*.*?\*/|"(?:\\.|[^"\\\n])*"|`[^`]*`|\'(?:\\.|[^\'\\\n])*\'|[A-Za-z_\x80-\xff][\w\x80-\xff]*|[0-9][\w.]*'
+                   rb'|<<=|>>=|&\^=|\.\.\.|&&|\|\||<-|\+\+|--|[-+*/%&|^=!<>:]=|<<|>>|&\^|[^\s]|\n', re.S)
+
+
+def go_files(go, folders):
+    """The Go files of the folders, or of the sources and tests of the command's own tree."""
+    if not folders:
+        root = subprocess.run([go, "env", "GOROOT"], capture_output=True, text=True, check=True).stdout.strip()
+        folders = [os.path.join(root, name) for name in ("src", "test")]
+    found = set()
+    for folder in folders:
+        for place, _, names in os.walk(os.path.realpath(folder)):
+            found |= {os.path.join(place, name) for name in names if name.endswith(".go")}
+    return sorted(path for path in found if os.path.isfile(path))
+
+
+def build_oracle(go, folder):
+    """The program of the folder oracle, built into this folder."""
+    built = os.path.join(folder, "oracle")
+    settings = dict(os.environ, GO111MODULE="off", GOFLAGS="", GOCACHE=os.path.join(folder, "cache"))
+    parts = sorted(name for name in os.listdir(os.path.join(HERE, "oracle")) if name.endswith(".go"))
+    subprocess.run([go, "build", "-o", built] + parts, check=True, env=settings, cwd=os.path.join(HERE, "oracle"))
+    return built
+
+
+def spoiled_bytes(draw, data):
+    """One to three places with bytes dropped, doubled, swapped or put in."""
+    data = bytearray(data)
+    for _ in range(draw.randrange(1, 4)):
+        at = draw.randrange(len(data) + 1)
+        most = min(len(data), at + draw.randrange(1, 4))
+        choice = draw.randrange(4)
+        if choice == 0:
+            del data[at:most]
+        elif choice == 1:
+            data[at:at] = data[at:most]
+        elif choice == 2 and at + 1 < len(data):
+            data[at], data[at + 1] = data[at + 1], data[at]
+        else:
+            data[at:at] = draw.choice(ODD)
+    return bytes(data)
+
+
+def outer_tokens(data):
+    """The places of the tokens, near enough, that stand outside the bodies of a file in Go's layout."""
+    spans, start = [], 0
+    for body in re.finditer(rb"^func [^\n]*\{\n(?:.*?\n)?\}", data, re.S | re.M):
+        head = data.index(b"\n", body.start())
+        spans.append((start, head))
+        start = body.end()
+    spans.append((start, len(data)))
+    return [found.span() for low, high in spans for found in TOKEN.finditer(data, low, high)]
+
+
+def spoiled_tokens(draw, data, places):
+    """One or two tokens dropped, doubled, swapped with the next, or replaced by another token of the file."""
+    for at, end in sorted({draw.choice(places) for _ in range(draw.choice([1, 1, 2]))}, reverse=True):
+        choice = draw.randrange(5)
+        text = data[at:end]
+        if choice == 0:
+            data = data[:at] + data[end:]
+        elif choice == 1:
+            data = data[:end] + b" " + text + data[end:]
+        elif choice == 2:
+            after = TOKEN.search(data, end)
+            if after:
+                data = data[:at] + after.group() + data[end:after.start()] + text + data[after.end():]
+        elif choice == 3:
+            other = places[draw.randrange(len(places))]
+            data = data[:at] + data[other[0]:other[1]] + data[end:] if other[1] <= len(data) else data
+        else:
+            data = data[:at] + draw.choice([b"(", b")", b"[", b"]", b"{", b"}", b",", b";", b"=", b":", b"...", b"*", b"<-", b"chan ", b"func",
+                                            b"func()", b"struct{", b"interface{", b"[...]", b"[]", b"map[", b"~", b"|", b".", b"type ",
+                                            b"const ", b"var ", b"(int)", b"[int]", b"1", b'"a"', b"_ "]) + data[at:]
+    return data
+
+
+class Frames:
+    """Sources as frames in a temporary file."""
+
+    def __init__(self):
+        self.file = tempfile.TemporaryFile()
+        self.count = 0
+
+    def add(self, data):
+        self.file.write(b"%d\n" % len(data) + data)
+        self.count += 1
+
+    def source(self, number):
+        """The source of this number, from 0."""
+        self.file.seek(0)
+        for _ in range(number):
+            self.file.seek(int(self.file.readline()), os.SEEK_CUR)
+        return self.file.read(int(self.file.readline()))
+
+    def ask(self, commands):
+        """The outputs of the commands, which run side by side."""
+        self.file.flush()
+        runs = []
+        for command in commands:
+            out = tempfile.TemporaryFile()
+            given = open("/proc/self/fd/%d" % self.file.fileno(), "rb")
+            runs.append((command, subprocess.Popen(command, stdin=given, stdout=out), out))
+            given.close()
+        answers = []
+        for command, child, out in runs:
+            if child.wait() != 0:
+                raise SystemExit("%s: status %d" % (" ".join(command), child.returncode))
+            out.seek(0)
+            answers.append(out.read())
+        return answers
