@@ -343,6 +343,9 @@ func (g *grammar) form(t ast.Expr, tail bool) int {
 	case *ast.FuncType:
 		return 1 + g.signature(t, tail)
 	case *ast.StructType:
+		if len(t.Fields.List) == 0 {
+			return 0
+		}
 		height := 0
 		for _, field := range t.Fields.List {
 			if len(field.Names) > 0 {
@@ -359,6 +362,9 @@ func (g *grammar) form(t ast.Expr, tail bool) int {
 		}
 		return 1 + height
 	case *ast.InterfaceType:
+		if len(t.Methods.List) == 0 {
+			return 0
+		}
 		height := 0
 		for _, field := range t.Methods.List {
 			if len(field.Names) == 0 {
@@ -401,7 +407,7 @@ func (g *grammar) expr(x ast.Expr) int {
 		return g.composite(x)
 	case *ast.ParenExpr:
 		if isReceiving(x.X) {
-			return 2 + g.tail(x.X.(*ast.ChanType).Value)
+			return 1 + g.tail(x.X.(*ast.ChanType).Value)
 		}
 		return 1 + g.expr(x.X)
 	case *ast.SelectorExpr:
@@ -424,7 +430,7 @@ func (g *grammar) expr(x ast.Expr) int {
 		height := 0
 		for i, argument := range x.Args {
 			if i == 0 && isReceiving(argument) {
-				height = 1 + g.tail(argument.(*ast.ChanType).Value)
+				height = g.tail(argument.(*ast.ChanType).Value)
 				continue
 			}
 			height = most(height, g.expr(argument))
