@@ -1,5 +1,5 @@
 -- Two tables that agree on a set of names which is closed under the table give the same answers.
-use Rattle.std.proofs.Common.{◌≡◌, ◌<◌, ◌≤◌, ℕ, zero, suc, Bool, true, false, ◌||◌, ◌⊎◌, inl, inr, List, [], ◌∷◌, ◌++◌, length, map, refl, sym, ap, ◌∙◌, subst, Option, Some, None, if◌then◌else◌}
+use Rattle.std.proofs.Common.{◌≡◌, ◌≤◌, ℕ, zero, suc, Bool, true, false, ◌||◌, ◌&&◌, inl, inr, List, [], ◌∷◌, ◌++◌, length, map, refl, sym, ap, ◌∙◌, subst, Option, Some, None, if◌then◌else◌}
 use Rattle.go_model.specs.Lists.{Has}
 use Rattle.go_model.specs.Gathered.{gather}
 use Rattle.go_model.specs.Tables.{Table}
@@ -14,10 +14,14 @@ use Rattle.go_model.specs.declared.types.found.Found.TheVariants as found
 use Rattle.go_model.specs.declared.types.term.Signature.{Signature}
 use Rattle.go_model.specs.declared.types.term.Term.{Term, Term-F, out-Term, roll-Term, roll-out-Term, fold-roll-Term}
 use Rattle.go_model.specs.declared.types.term.Field.{Field, out-Field, fold-Field, fold_out-Field}
-use Rattle.go_model.specs.declared.types.term.Method.{Method, out-Method}
-use Rattle.go_model.specs.Selectors.{Spot, Ending, field_ending, declared_ending, method_ending, step, steps, endings, ends, start, start_layer, start_pointer, start_named, is_defined_pointer, is_defined_layer, is_pointer, base_of, base_layer, NoneBelow, IsOnly, Finds}
-use Rattle.go_model.specs.MethodSets.{InSet, HasMethod, HasMethods, Implements}
+use Rattle.go_model.specs.declared.types.term.Method.{out-Method}
+use Rattle.go_model.specs.Selectors.{Spot, Ending, field_ending, declared_ending, method_ending, step, steps, endings, ends, start, start_layer, start_pointer, start_named, is_defined_pointer, is_defined_layer, is_pointer, base_of, base_layer, IsOnly, Finds}
+use Rattle.go_model.specs.MethodSets.{InSet, Implements}
 use Rattle.go_model.specs.Comparison.{LeadsToIncomparable, at_slice, at_map, at_func, in_array, in_struct, Comparable}
+use Rattle.go_model.specs.Imports.{is_imported_struct, is_imported_open, imported_struct, imported_interface}
+use Rattle.go_model.specs.Tags.{untagged}
+use Rattle.go_model.specs.Assignability.{Assignable, assign_identical, assign_underlying, assign_interface, assign_channel, AreChannels}
+use Rattle.go_model.specs.Conversions.{Convertible, convert_assignable, convert_underlying, convert_pointer, convert_basic, UnderlyingConverts, is_characters, has_basic, is_character, is_string, both_basic, basics_convert}
 use Rattle.go_types.specs.Regions.{Within, AgreeOn, IsClosed}
 use Rattle.go_types.proofs.Lists.{gather_of, has-left, has-right}
 
@@ -32,6 +36,9 @@ name_stands n = subst (λ (w : Names). Has w n) (sym (fold-roll-Term Names Names
 
 base_names : (e : Term) (n : TypeName) → Has (names e) n → Has (names (roll-Term (Term-F.Pointer e))) n
 base_names e n h = subst (λ (w : Names). Has w n) (sym (fold-roll-Term Names Names Names Names name_step field_names method_names parameter_names (Term-F.Pointer e))) h
+
+slice_names : (e : Term) (n : TypeName) → Has (names e) n → Has (names (roll-Term (Term-F.Slice e))) n
+slice_names e n h = subst (λ (w : Names). Has w n) (sym (fold-roll-Term Names Names Names Names name_step field_names method_names parameter_names (Term-F.Slice e))) h
 
 element_names : (k : ℕ) (e : Term) (n : TypeName) → Has (names e) n → Has (names (roll-Term (Term-F.Array k e))) n
 element_names k e n h = subst (λ (w : Names). Has w n) (sym (fold-roll-Term Names Names Names Names name_step field_names method_names parameter_names (Term-F.Array k e))) h
@@ -104,7 +111,7 @@ module _ (P : TypeName → Bool) where
     module _ (closed : IsClosed P A) where
       entry_within : (n : TypeName) (o : Option Defined) → P n ≡ true → entry A n ≡ o → Within P (roll-Term (Term-F.Named n)) → Within P (roll-Term (under_entry n o))
       entry_within n None h e w = w
-      entry_within n (Some d) h e w = subst (Within P) (sym (roll-out-Term d.underlying)) (closed n d h e)
+      entry_within n (Some d) h e w = subst (Within P) (sym (roll-out-Term d.underlying)) (closed n d h e).underneath
 
       under_within : (t : Term) (l : Layer) → under A t ≡ l → Within P t → Within P (roll-Term l)
       under_within t l u w = subst (λ (k : Layer). Within P (roll-Term k)) u (by (out-Term t) refl)
@@ -242,6 +249,65 @@ module _ (P : TypeName → Bool) where
       leads_back t w (at_func e) = at_func (under_same t w ∙ e)
       leads_back t w (in_array {e = x} {n = k} e l) = in_array (under_same t w ∙ e) (leads_back x (λ n h. under_within t (Term-F.Array k x) (under_same t w ∙ e) w n (element_names k x n h)) l)
       leads_back t w (in_struct {fs = fs} f e h l) = in_struct f (under_same t w ∙ e) h (leads_back (out-Field f).term (field_within t fs f (under_same t w ∙ e) h w) l)
+
+      struct_over : (t : Term) → Within P t → is_imported_struct A t ≡ is_imported_struct B t
+      struct_over t w = ap (imported_struct (out-Term t)) (under_same t w)
+
+      open_over : (t : Term) → Within P t → is_imported_open A t ≡ is_imported_open B t
+      open_over t w = ap (λ l. imported_struct (out-Term t) l || imported_interface (out-Term t) l) (under_same t w)
+
+      pub assignable_over : (profile : Bool) (t u : Term) → Within P t → Within P u → Assignable A profile t u → Assignable B profile t u
+      assignable_over profile t u w v (assign_identical e) = assign_identical e
+      assignable_over profile t u w v (assign_underlying a) = assign_underlying (record {
+        same = sym (under_same t w) ∙ a.same ∙ under_same u v;
+        unnamed = a.unnamed;
+        permitted = sym (ap (λ b. profile && (b || is_imported_struct A u)) (struct_over t w) ∙ ap (λ b. profile && (is_imported_struct B t || b)) (struct_over u v)) ∙ a.permitted;
+      })
+      assignable_over profile t u w v (assign_interface a) = assign_interface (implements_over t u w v a)
+      assignable_over profile t u w v (assign_channel a) = assign_channel (record {
+        channels = subst (λ (l : Layer). AreChannels (under B t) l) (under_same u v) (subst (λ (l : Layer). AreChannels l (under A u)) (under_same t w) a.channels);
+        unnamed = a.unnamed;
+      })
+
+      underlying_over : (profile : Bool) (t u : Term) → Within P t → Within P u → UnderlyingConverts A profile t u → UnderlyingConverts B profile t u
+      underlying_over profile t u w v a = record {
+        same = sym (ap (λ l. untagged (roll-Term l)) (under_same t w)) ∙ a.same ∙ ap (λ l. untagged (roll-Term l)) (under_same u v);
+        permitted = sym (ap (λ b. profile && (b || is_imported_open A u)) (open_over t w) ∙ ap (λ b. profile && (is_imported_open B t || b)) (open_over u v)) ∙ a.permitted;
+      }
+
+      characters_over : (t : Term) → Within P t → is_characters A (under A t) ≡ is_characters B (under B t)
+      characters_over t w = by (under A t) refl ∙ ap (is_characters B) (under_same t w)
+        where
+          by : (l : Layer) → under A t ≡ l → is_characters A l ≡ is_characters B l
+          by (Term-F.Plain b) e = refl
+          by (Term-F.Named n) e = refl
+          by (Term-F.Pointer b) e = refl
+          by (Term-F.Slice b) e = ap (has_basic is_character) (under_same b (λ n h. under_within t (Term-F.Slice b) e w n (slice_names b n h)))
+          by (Term-F.Array k b) e = refl
+          by (Term-F.Map k b) e = refl
+          by (Term-F.Chan d b) e = refl
+          by (Term-F.Func g) e = refl
+          by (Term-F.Struct fs) e = refl
+          by (Term-F.Interface ms) e = refl
+
+      basics_over : (t u : Term) → Within P t → Within P u → basics_convert A t u ≡ basics_convert B t u
+      basics_over t u w v =
+          ap (λ l. both_basic l (under A u) || (has_basic is_string l && is_characters A (under A u)) || (is_characters A (under A t) && has_basic is_string (under A u))) (under_same t w)
+          ∙ ap (λ l. both_basic (under B t) l || (has_basic is_string (under B t) && is_characters A (under A u)) || (is_characters A (under A t) && has_basic is_string l)) (under_same u v)
+          ∙ ap (λ b. both_basic (under B t) (under B u) || (has_basic is_string (under B t) && b) || (is_characters A (under A t) && has_basic is_string (under B u))) (characters_over u v)
+          ∙ ap (λ b. both_basic (under B t) (under B u) || (has_basic is_string (under B t) && is_characters B (under B u)) || (b && has_basic is_string (under B u))) (characters_over t w)
+
+      pub convertible_over : (profile : Bool) (t u : Term) → Within P t → Within P u → Convertible A profile t u → Convertible B profile t u
+      convertible_over profile t u w v (convert_assignable a) = convert_assignable (assignable_over profile t u w v a)
+      convertible_over profile t u w v (convert_underlying a) = convert_underlying (underlying_over profile t u w v a)
+      convertible_over profile t u w v (convert_pointer a) = convert_pointer (record {
+        base = a.base;
+        other = a.other;
+        from_is = a.from_is;
+        to_is = a.to_is;
+        converts = underlying_over profile a.base a.other (λ n h. rolled t (Term-F.Pointer a.base) a.from_is w n (base_names a.base n h)) (λ n h. rolled u (Term-F.Pointer a.other) a.to_is v n (base_names a.other n h)) a.converts;
+      })
+      convertible_over profile t u w v (convert_basic a) = convert_basic (sym (basics_over t u w v) ∙ a)
 
       pub comparable_over : (t : Term) → Within P t → Comparable A t → Comparable B t
       comparable_over t w c l = c (leads_back t w l)

@@ -1,5 +1,5 @@
 -- A relation by cases, once each case was tried.
-use Rattle.std.proofs.Common.{◌≡◌, ◌↔◌, IsTrue, Bool, true, false, refl, sym, ap, ◌∙◌, subst}
+use Rattle.std.proofs.Common.{◌≡◌, ◌↔◌, IsTrue, Bool, true, false, sym, ◌∙◌, subst}
 use mathlib.Core.Bool.{true≢false}
 use Rattle.go_model.specs.Tables.{Table}
 use Rattle.go_model.specs.declared.types.term.Term.{Term}

@@ -1,5 +1,5 @@
 -- The methods of an interface, one after another.
-use Rattle.std.proofs.Common.{◌≡◌, ◌<◌, ◌+◌, ℕ, zero, suc, Bool, true, false, ◌⊎◌, inl, inr, List, [], ◌∷◌, ◌++◌, length, take, get_or, refl, sym, ap, ◌∙◌, subst, arith}
+use Rattle.std.proofs.Common.{◌≡◌, ◌<◌, ◌+◌, ℕ, Bool, true, false, inl, inr, List, length, take, get_or, subst}
 use Rattle.go_model.specs.Lists.{Has}
 use Rattle.go_model.specs.Tables.{Table}
 use Rattle.go_model.specs.declared.types.term.Term.{Term}

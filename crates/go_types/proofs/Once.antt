@@ -1,5 +1,5 @@
 -- A selector finds one thing in a type.
-use Rattle.std.proofs.Common.{◌≡◌, ◌≤◌, ◌<◌, ◌+◌, ℕ, zero, suc, Bool, true, false, ◌⊎◌, inl, inr, List, [], ◌∷◌, length, refl, sym, ap, ◌∙◌, subst, arith}
+use Rattle.std.proofs.Common.{◌≡◌, ◌≤◌, ◌<◌, ℕ, zero, suc, Bool, true, false, ◌⊎◌, inl, inr, List, [], ◌∷◌, length, refl, sym, ap, ◌∙◌, subst, arith}
 use mathlib.Core.Bool.{true≢false}
 use Rattle.go_model.specs.Tables.{Table}
 use Rattle.go_model.specs.declared.types.names.Sel.{Sel}
@@ -9,7 +9,7 @@ use Rattle.go_model.specs.declared.types.found.Found.{Found}
 use Rattle.go_model.specs.declared.types.found.Found.TheVariants as found
 use Rattle.go_model.specs.declared.types.found.FieldFound.{FieldFound}
 use Rattle.go_model.specs.declared.types.found.MethodFound.{MethodFound}
-use Rattle.go_model.specs.Selectors.{Spot, Ending, Target, field, method, ends, start, NoneBelow, IsOnly, is_defined_pointer, told_depth, Finds}
+use Rattle.go_model.specs.Selectors.{Ending, field, method, ends, start, NoneBelow, IsOnly, told_depth, Finds}
 use Rattle.go_model.specs.MethodSets.{Reaches, InSet}
 use Rattle.go_types.specs.Answers.{Decides, IsCalled}
 

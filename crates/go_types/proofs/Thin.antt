@@ -1,11 +1,11 @@
 -- A layer is thinned.
-use Rattle.std.proofs.Common.{◌≡◌, ℕ, zero, suc, min, ◌+◌, ◌*◌, ◌<◌, ◌≤◌, List, [], ◌∷◌, ◌++◌, length, drop, get_or, refl, sym, ap, ◌∙◌, subst, ◌⊎◌, inl, inr, arith, length-append, Bool, true, false}
+use Rattle.std.proofs.Common.{◌≡◌, ℕ, zero, suc, min, ◌+◌, ◌*◌, ◌<◌, ◌≤◌, List, [], ◌∷◌, ◌++◌, length, drop, get_or, sym, ap, ◌∙◌, subst, inl, inr, arith, length-append, Bool, true, false}
 use Rattle.go_model.specs.Lists.{Has}
 use Rattle.go_model.specs.Gathered.{gather}
 use Rattle.go_model.specs.Selectors.{Spot, Ending}
-use Rattle.go_types.specs.Search.{Adds, spot_of, Twice, Knows, Drops, Keeps, Thinned, Meets, Recalls}
+use Rattle.go_types.specs.Search.{spot_of, Twice, Knows, Drops, Keeps, Thinned, Meets, Recalls}
 use Rattle.go_types.specs.declared.met.Key.{Key}
-use Rattle.go_types.proofs.Lists.{has-left, has-last, has-back, drop_next, drop_all, twice_last, twice_left, gather-count, twice_gives}
+use Rattle.go_types.proofs.Lists.{has-left, has-last, has-back, drop_next, twice_last, twice_left, gather-count, twice_gives}
 
 -- a spot without a name is kept
 pub kept_more : (once twice : List Key) (seen kept : List Spot) (at : Spot) → Knows once twice seen kept → Knows once twice seen (kept ++ at ∷ [])

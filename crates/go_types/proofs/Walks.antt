@@ -1,5 +1,5 @@
 -- A walk over the parts of a type decides whether it is comparable.
-use Rattle.std.proofs.Common.{◌≡◌, ◌≤◌, ◌<◌, ◌+◌, ℕ, zero, suc, Bool, true, false, ◌⊎◌, inl, inr, List, [], ◌∷◌, ◌++◌, length, take, get_or, refl, sym, ap, ◌∙◌, subst, arith, length-append, append_assoc}
+use Rattle.std.proofs.Common.{◌≡◌, ◌≤◌, ◌<◌, ◌+◌, ℕ, zero, suc, Bool, true, false, inl, inr, List, [], ◌∷◌, ◌++◌, length, take, get_or, refl, sym, ap, ◌∙◌, subst, arith, length-append, append_assoc}
 use Rattle.std.proofs.lemmas.List.{take_more}
 use Rattle.go_model.specs.Lists.{Has}
 use Rattle.go_model.specs.Tables.{Table}
@@ -9,8 +9,8 @@ use Rattle.go_model.specs.declared.types.term.Field.{Field, out-Field}
 use Rattle.go_model.specs.Terms.{Layer}
 use Rattle.go_model.specs.Underlying.{under}
 use Rattle.go_model.specs.Comparison.{LeadsToIncomparable, at_slice, at_map, at_func, in_array, in_struct}
-use Rattle.go_types.specs.Parts.{Known, Pushed, IsFieldTerm, HasFieldTerms, MeetsTerm, Pushes, PushesFields, ByParts, Looked}
-use Rattle.go_types.proofs.Lists.{has-left, has-right, has-split, has-last, has-back}
+use Rattle.go_types.specs.Parts.{Known, Pushed, IsFieldTerm, MeetsTerm, Pushes, PushesFields, ByParts, Looked}
+use Rattle.go_types.proofs.Lists.{has-left, has-split, has-last, has-back}
 
 append_nil : {A : Type 0} (xs : List A) → xs ++ [] ≡ xs
 append_nil [] = refl

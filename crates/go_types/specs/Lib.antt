@@ -1,6 +1,6 @@
 pub mod Answers
-pub mod Candidates
 pub mod Endings
 pub mod Parts
 pub mod Regions
 pub mod Search
+pub mod Slots

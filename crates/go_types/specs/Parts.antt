@@ -1,5 +1,5 @@
 -- A worklist over the parts of types.
-use Rattle.std.specs.Prelude.{◌≡◌, ◌⊎◌, ◌<◌, ◌≤◌, ℕ, List, [], ◌∷◌, ◌++◌, length, Bool, true, false, Option, Some, None}
+use Rattle.std.specs.Prelude.{◌≡◌, ◌⊎◌, ◌<◌, ◌≤◌, ℕ, List, ◌++◌, length, Bool, true, false, Option, Some, None}
 use denote.Ref.{Bor}
 use lib.ListN.{get_or}
 use Rattle.go_model.specs.Lists.{Has}

@@ -1,5 +1,5 @@
 -- A search by layers: what is kept of a layer, and what is known of the types that were met.
-use Rattle.std.specs.Prelude.{◌≡◌, ◌⊎◌, ◌≤◌, ℕ, min, Bool, true, false, Option, Some, None, List, [], ◌∷◌, ◌++◌, length}
+use Rattle.std.specs.Prelude.{◌≡◌, ◌⊎◌, min, Bool, true, false, Option, Some, None, List, [], ◌∷◌, ◌++◌, length}
 use Rattle.go_model.specs.Lists.{Has}
 use Rattle.go_model.specs.declared.types.term.Term.{Term-F, roll-Term}
 use Rattle.go_model.specs.Gathered.{gather}

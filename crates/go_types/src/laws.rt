@@ -1,12 +1,18 @@
 //! Laws of the relations on types, for the layers above.
-ghost use Rattle.std.specs.Prelude.{◌≡◌, Bool, true, false};
+ghost use Rattle.std.specs.Prelude.{◌≡◌, ◌≢◌, ℕ, List, [], map, Bool, true, false};
+ghost use Rattle.go_model.specs.Lists.{Has, Once};
+ghost use Rattle.go_model.specs.Gathered.{gather};
 ghost use Rattle.go_model.specs.Tables.{Table};
 ghost use Rattle.go_model.specs.declared.types.names.Sel.{Sel};
-ghost use Rattle.go_model.specs.declared.types.term.Term.{Term};
+ghost use Rattle.go_model.specs.declared.types.term.Term.{Term, Term-F, out-Term};
+ghost use Rattle.go_model.specs.declared.types.term.Method.{Method};
+ghost use Rattle.go_model.specs.Underlying.{under, declared_methods};
+ghost use Rattle.go_model.specs.Worlds.{Packages, IsWorld, path_of};
+ghost use Rattle.go_model.specs.PackageTypes.{package_names, package_selectors};
 ghost use Rattle.go_model.specs.declared.types.term.Signature.{Signature};
 ghost use Rattle.go_model.specs.declared.types.found.Found.{Found};
 ghost use Rattle.go_model.specs.Selectors.{Finds};
-ghost use Rattle.go_model.specs.MethodSets.{InSet, Implements};
+ghost use Rattle.go_model.specs.MethodSets.{InSet, Implements, method_sel};
 ghost use Rattle.go_model.specs.Comparison.{Comparable};
 ghost use Rattle.go_types.specs.Regions.{Within, AgreeOn, IsClosed};
 ghost use Rattle.go_model.specs.declared.types.names.TypeName.{TypeName};
@@ -32,7 +38,22 @@ pub fn agreeing_tables()
     ensures find { (P : TypeName → Bool) (A B : Table) → AgreeOn P A B → IsClosed P A → (s : Sel) (t : Term) (r : Found) → Within P t → Finds A s t r → Finds B s t r }
     ensures method_set { (P : TypeName → Bool) (A B : Table) → AgreeOn P A B → IsClosed P A → (t : Term) (s : Sel) (g : Signature) → Within P t → InSet A t s g → InSet B t s g }
     ensures implements { (P : TypeName → Bool) (A B : Table) → AgreeOn P A B → IsClosed P A → (t interface : Term) → Within P t → Within P interface → Implements A t interface → Implements B t interface }
+    ensures assignable { (P : TypeName → Bool) (A B : Table) → AgreeOn P A B → IsClosed P A → (profile : Bool) (from to : Term) → Within P from → Within P to → Assignable A profile from to → Assignable B profile from to }
+    ensures convertible { (P : TypeName → Bool) (A B : Table) → AgreeOn P A B → IsClosed P A → (profile : Bool) (from to : Term) → Within P from → Within P to → Convertible A profile from to → Convertible B profile from to }
     ensures comparable { (P : TypeName → Bool) (A B : Table) → AgreeOn P A B → IsClosed P A → (t : Term) → Within P t → Comparable A t → Comparable B t }
     ensures back { (P : TypeName → Bool) (A B : Table) → AgreeOn P A B → AgreeOn P B A }
     ensures closed { (P : TypeName → Bool) (A B : Table) → AgreeOn P A B → IsClosed P A → IsClosed P B }
+{}
+
+/// Two types with the same interface underneath implement each other, where no selector stands twice
+/// in it and no method is declared for the type that implements.
+pub fn same_interfaces()
+    ensures { (T : Table) (t interface : Term) (ms : List Method) → under T t ≡ Term-F.Interface ms → under T interface ≡ Term-F.Interface ms → Once (map method_sel ms) → declared_methods T (out-Term t) ≡ [] → Implements T t interface }
+{}
+
+/// Where no package of a world has a path, as none of a module has the client's, no type of the world
+/// names a type of that path and none has a selector of it.
+pub fn absent_path()
+    ensures names { (w : Packages) (path : List ℕ) → IsWorld w → path ≢ [] → (Has (map path_of w.packages) path → ⊥) → (n : TypeName) → Has (gather package_names w.packages) n → n.path ≢ path }
+    ensures selectors { (w : Packages) (path : List ℕ) → IsWorld w → path ≢ [] → (Has (map path_of w.packages) path → ⊥) → (s : Sel) → Has (gather package_selectors w.packages) s → s.«package» ≢ path }
 {}

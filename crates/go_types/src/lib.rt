@@ -17,6 +17,8 @@ pub mod method_set;
 mod part;
 mod parts;
 mod place;
+mod slot;
+mod slots;
 mod steps;
 #[cfg(test)]
 mod tests;

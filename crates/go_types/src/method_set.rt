@@ -1,91 +1,23 @@
 //! Method sets.
-ghost use Rattle.std.specs.Prelude.{◌≡◌, ◌∷◌, [], true, map, IfOk, OnOk};
-ghost use Rattle.go_model.specs.Lists.{Has};
-ghost use Rattle.go_model.specs.Gathered.{gather};
-ghost use Rattle.go_model.specs.MethodSets.{InSet};
+ghost use Rattle.std.specs.Prelude.{◌≡◌, [], true, IfOk, OnOk};
+ghost use Rattle.go_model.specs.MethodSets.{IsMethodSet};
 ghost use Rattle.go_model.specs.Worlds.{table_of};
-ghost use Rattle.go_model.specs.declared.types.names.Sel.{Sel as Selector};
-ghost use Rattle.go_model.specs.declared.types.term.Signature.{Signature as Called};
-ghost use Rattle.go_types.specs.Candidates.{Gains, declared_sel, method_sel, place_sels, IsCalledAs, AddsCalled, IsMethodSet};
+ghost use Rattle.go_types.specs.Slots.{Tells, AddsSlot, Lists};
 
-use crate::find::{next_layer, search};
+use crate::find::next_layer;
 use crate::lookup::{Lookup, error_type};
 use crate::met::Met;
 use crate::place::Place;
+use crate::slot::Slot;
+use crate::slots::note_layer;
 use go_model::list::List;
 use go_model::memory::NoMemory;
-use go_model::types::found::Found;
 use go_model::types::names::Sel;
-use go_model::types::package::MethodOf;
 use go_model::types::table::TypeTable;
 use go_model::types::term::{Method, Term};
 use go_model::types::world::World;
 use std::alloc::Global;
-use std::collections::BTreeSet;
-
-fn insert(sels: &mut BTreeSet<Sel>, sel: Sel) -> Result<(), NoMemory>
-    ensures { OnOk result (Gains sels.old.keys sels.new.keys (sel ∷ [])) }
-{
-    sels.insert(sel)?;
-    Ok(())
-}
-
-fn add_sel(alloc: Global, sels: &mut BTreeSet<Sel>, sel: &Sel) -> Result<(), NoMemory>
-    ensures { OnOk result (Gains sels.old.keys sels.new.keys (sel.now ∷ [])) }
-{
-    let copied = sel.copy(alloc)?;
-    insert(sels, copied)?;
-    Ok(())
-}
-
-fn add_declared(
-    alloc: Global,
-    sels: &mut BTreeSet<Sel>,
-    methods: &[MethodOf],
-) -> Result<(), NoMemory>
-    ensures { OnOk result (Gains sels.old.keys sels.new.keys (map declared_sel methods.now)) }
-{
-    for method in methods {
-        add_sel(alloc, sels, &method.sel)?;
-    }
-    Ok(())
-}
-
-fn add_methods(alloc: Global, sels: &mut BTreeSet<Sel>, methods: &[Method]) -> Result<(), NoMemory>
-    ensures { OnOk result (Gains sels.old.keys sels.new.keys (map method_sel methods.now)) }
-{
-    for method in methods {
-        add_sel(alloc, sels, &method.sel)?;
-    }
-    Ok(())
-}
-
-fn add_place<'a, T: TypeTable>(
-    alloc: Global,
-    types: &Lookup<'a, T>,
-    sels: &mut BTreeSet<Sel>,
-    place: &Place<'a>,
-) -> Result<(), NoMemory>
-    ensures { OnOk result (Gains sels.old.keys sels.new.keys (place_sels (T.lookup types.now.table.now) place.now)) }
-{
-    add_declared(alloc, sels, types.declared(place.term()))?;
-    add_methods(alloc, sels, types.methods(place.term()))?;
-    Ok(())
-}
-
-fn add_layer<'a, T: TypeTable>(
-    alloc: Global,
-    types: &Lookup<'a, T>,
-    sels: &mut BTreeSet<Sel>,
-    layer: &Vec<Place<'a>>,
-) -> Result<(), NoMemory>
-    ensures { OnOk result (Gains sels.old.keys sels.new.keys (gather (place_sels (T.lookup types.now.table.now)) layer.now.items)) }
-{
-    for place in layer {
-        add_place(alloc, types, sels, place)?;
-    }
-    Ok(())
-}
+use std::collections::BTreeMap;
 
 fn is_done(layer: &Vec<Place<'_>>) -> bool
     ensures { result ≡ true → layer.now.items ≡ [] }
@@ -93,60 +25,62 @@ fn is_done(layer: &Vec<Place<'_>>) -> bool
     layer.is_empty()
 }
 
-// The selectors of all methods that paths meet.
-fn candidates<'a, T: TypeTable>(
+// What is known of each selector once all paths are walked.
+fn tally<'a, T: TypeTable>(
     alloc: Global,
     types: &Lookup<'a, T>,
     term: &'a Term,
-) -> Result<BTreeSet<Sel>, NoMemory>
-    ensures { IfOk result (λ sels. (s : Selector) (g : Called) → InSet (T.lookup types.now.table.now) term.now s g → Has sels.keys s) }
+) -> Result<BTreeMap<Sel, Slot<'a>>, NoMemory>
+    ensures { IfOk result (Tells (T.lookup types.now.table.now) term.now) }
 {
-    let mut sels = BTreeSet::new(alloc);
+    let mut slots = BTreeMap::new(alloc);
     let mut met = Met::new(alloc);
     let mut layer = Vec::new(alloc);
     layer.push(types.start(term))?;
-    for _depth in 0..u64::MAX {
+    for depth in 0..u64::MAX {
         if is_done(&layer) {
-            return Ok(sels);
+            return Ok(slots);
         }
-        add_layer(alloc, types, &mut sels, &layer)?;
+        note_layer(alloc, types, &mut slots, depth, &layer)?;
         layer = next_layer(alloc, types, &mut met, &layer)?;
     }
     Err(NoMemory)
 }
 
-// The method that was found, where it is one that is callable on the type itself.
-fn called(found: Found, sel: Sel) -> Option<Method>
-    ensures { IsCalledAs found sel result }
+fn add_slot(
+    alloc: Global,
+    sel: Sel,
+    slot: &Slot<'_>,
+    methods: &mut List<Method>,
+) -> Result<(), NoMemory>
+    ensures { OnOk result (AddsSlot sel slot.now.called methods.old methods.new) }
 {
-    match found {
-        Found::MethodAt(at) => {
-            if at.pointer_receiver && !at.through_pointer {
-                return None;
-            }
-            Some(Method {
+    match slot.called() {
+        None => Ok(()),
+        Some(signature) => {
+            let copied = signature.copy(alloc)?;
+            methods.push(Method {
                 sel,
-                signature: at.signature,
-            })
+                signature: copied,
+            })?;
+            Ok(())
         }
-        _ => None,
     }
 }
 
-fn add_called<'a, T: TypeTable>(
-    alloc: Global,
-    types: &Lookup<'a, T>,
-    term: &'a Term,
-    sel: Sel,
-    methods: &mut List<Method>,
-) -> Result<(), NoMemory>
-    ensures { OnOk result (AddsCalled (T.lookup types.now.table.now) term.now sel methods.old methods.new) }
+// The methods that are told.
+fn listed(alloc: Global, mut slots: BTreeMap<Sel, Slot<'_>>) -> Result<List<Method>, NoMemory>
+    ensures { IfOk result (Lists slots.entry) }
 {
-    let found = search(alloc, types, term, &sel)?;
-    if let Some(method) = called(found, sel) {
-        methods.push(method)?;
+    let _count = slots.len();
+    let mut methods = List::new(alloc);
+    for _ in 0..u64::MAX {
+        match slots.pop_first() {
+            None => return Ok(methods),
+            Some((sel, slot)) => add_slot(alloc, sel, &slot, &mut methods)?,
+        }
     }
-    Ok(())
+    Err(NoMemory)
 }
 
 fn collect<'a, T: TypeTable>(
@@ -156,16 +90,12 @@ fn collect<'a, T: TypeTable>(
 ) -> Result<List<Method>, NoMemory>
     ensures { IfOk result (IsMethodSet (T.lookup types.now.table.now) term.now) }
 {
-    let mut sels = candidates(alloc, types, term)?;
-    let _count = sels.len();
-    let mut methods = List::new(alloc);
-    for _ in 0..u64::MAX {
-        match sels.pop_first() {
-            None => return Ok(methods),
-            Some(sel) => add_called(alloc, types, term, sel, &mut methods)?,
-        }
+    if types.is_defined_pointer(term) {
+        return Ok(List::new(alloc));
     }
-    Err(NoMemory)
+    let slots = tally(alloc, types, term)?;
+    let methods = listed(alloc, slots)?;
+    Ok(methods)
 }
 
 /// The method set of a type, ordered by selector, where a table of types tells the names in it.

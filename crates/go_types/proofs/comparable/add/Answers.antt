@@ -1,4 +1,4 @@
-use Rattle.std.proofs.Common.{◌≡◌, subst, sym, List}
+use Rattle.std.proofs.Common.{subst, sym, List}
 use Rattle.go_types.specs.Search.{Adds}
 use Rattle.go_model.specs.declared.types.names.TypeName.{TypeName}
 use Rattle.go_types.proofs.Keys.{adds-insert}

@@ -1,4 +1,4 @@
-use Rattle.std.proofs.Common.{◌≡◌, sym, ◌∙◌}
+use Rattle.std.proofs.Common.{sym, ◌∙◌}
 use Rattle.go_types.proofs.Keys.{has_key, name_same}
 use Rattle.go_types.proofs.comparable.has.Goals as goal
 

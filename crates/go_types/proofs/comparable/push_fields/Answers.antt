@@ -1,5 +1,4 @@
 use Rattle.std.proofs.Common.{take}
-use Rattle.std.proofs.lemmas.List.{take_more}
 use Rattle.go_types.proofs.Walks.{field_more, taken_next}
 use Rattle.go_types.proofs.comparable.push_fields.Goals as goal
 

@@ -1,5 +1,4 @@
-use Rattle.std.proofs.Common.{◌≡◌, Bool, true, false, sym, subst, length}
-use Rattle.go_types.specs.Parts.{Looked}
+use Rattle.std.proofs.Common.{true, false}
 use Rattle.go_types.proofs.Walks.{next_walk, walked, part_leads, looked_so}
 use Rattle.go_types.proofs.comparable.walk.Goals as goal
 

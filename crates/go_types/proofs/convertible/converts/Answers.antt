@@ -1,4 +1,4 @@
-use Rattle.std.proofs.Common.{◌≡◌, sym, ◌∙◌}
+use Rattle.std.proofs.Common.{sym, ◌∙◌}
 use Rattle.go_types.proofs.Alternatives.{refused, converted}
 use Rattle.go_types.proofs.convertible.converts.Goals as goal
 

@@ -1,6 +1,5 @@
-use Rattle.std.proofs.Common.{◌≡◌, ap}
-use Rattle.go_model.specs.Selectors.{Ending}
-use Rattle.go_types.specs.Endings.{target_of, ending_of}
+use Rattle.std.proofs.Common.{ap}
+use Rattle.go_types.specs.Endings.{target_of}
 use Rattle.go_types.proofs.find.found_one.Goals as goal
 
 pub returns-then-defined : goal.returns-then-defined

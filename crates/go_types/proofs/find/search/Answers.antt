@@ -1,4 +1,4 @@
-use Rattle.std.proofs.Common.{◌≡◌, sym, ◌∙◌}
+use Rattle.std.proofs.Common.{sym, ◌∙◌}
 use Rattle.go_model.specs.Selectors.{start}
 use Rattle.go_types.specs.Endings.{endings_of}
 use Rattle.go_types.proofs.Searching.{judged_at, next_search, silent}

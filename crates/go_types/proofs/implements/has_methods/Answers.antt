@@ -1,4 +1,3 @@
-use Rattle.std.proofs.Common.{◌≡◌, subst}
 use Rattle.go_types.proofs.MethodLists.{lacks, has_next}
 use Rattle.go_types.proofs.implements.has_methods.Goals as goal
 

@@ -1,4 +1,4 @@
-use Rattle.go_types.proofs.Agree.{finds_over, set_over, implements_over, comparable_over, agree_back, closed_back}
+use Rattle.go_types.proofs.Agree.{finds_over, set_over, implements_over, assignable_over, convertible_over, comparable_over, agree_back, closed_back}
 use Rattle.go_types.proofs.laws.agreeing_tables.Goals as goal
 
 pub returns-clause-find : goal.returns-clause-find
@@ -9,6 +9,12 @@ returns-clause-method_set c = λ P A B same closed t s g w i. set_over P A B sam
 
 pub returns-clause-implements : goal.returns-clause-implements
 returns-clause-implements c = λ P A B same closed t interface w v i. implements_over P A B same closed t interface w v i
+
+pub returns-clause-assignable : goal.returns-clause-assignable
+returns-clause-assignable c = λ P A B same closed profile t u w v a. assignable_over P A B same closed profile t u w v a
+
+pub returns-clause-convertible : goal.returns-clause-convertible
+returns-clause-convertible c = λ P A B same closed profile t u w v a. convertible_over P A B same closed profile t u w v a
 
 pub returns-clause-comparable : goal.returns-clause-comparable
 returns-clause-comparable c = λ P A B same closed t w k. comparable_over P A B same closed t w k

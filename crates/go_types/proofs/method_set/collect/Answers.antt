@@ -1,8 +1,10 @@
-use Rattle.go_types.proofs.Candidates.{first_collected, next_collected}
+use Rattle.std.proofs.Common.{◌∙◌, sym}
+use Rattle.go_types.proofs.Listing.{none_counts}
+use Rattle.go_types.proofs.Tallies.{set_listed}
 use Rattle.go_types.proofs.method_set.collect.Goals as goal
 
-pub loop-init : goal.loop-init
-loop-init g c = first_collected (g.T.TypeTable.lookup c.args.types.now.table.now) c.args.term.now c.in_ok-sels.sels.keys c.new-methods.result c.new-methods.ensures c.len-count.ensures.ordered c.in_ok-sels.ensures
+pub returns-then-is_defined_pointer : goal.returns-then-is_defined_pointer
+returns-then-is_defined_pointer g c = none_counts (g.T.TypeTable.lookup c.args.types.now.table.now) c.args.term.now c.new.result c.new.ensures (sym c.is_defined_pointer.ensures ∙ c.if-is_defined_pointer.true)
 
-pub loop-preserved : goal.loop-preserved
-loop-preserved g c = next_collected (g.T.TypeTable.lookup c.args.types.now.table.now) c.args.term.now c.loop.sels.keys c.pop_first.new.self.keys c.loop.methods c.add_called.new.methods c.in-Some.sel c.in-Some.ensures.removal c.loop.invariant c.in_ok-add_called-in-Some.ensures
+pub returns : goal.returns
+returns g c = set_listed (g.T.TypeTable.lookup c.args.types.now.table.now) c.args.term.now c.in_ok-slots.slots c.in_ok-methods.methods (sym c.is_defined_pointer.ensures ∙ c.if-is_defined_pointer.false) c.in_ok-slots.ensures c.in_ok-methods.ensures

@@ -1,4 +1,4 @@
-use Rattle.std.proofs.Common.{◌≡◌, sym, ◌∙◌, subst}
+use Rattle.std.proofs.Common.{subst}
 use Rattle.go_types.specs.Search.{IsKeyOf}
 use Rattle.go_types.proofs.Thin.{recalled, kept_more}
 use Rattle.go_types.proofs.met.Met.recalls.Goals as goal
