@@ -8,13 +8,13 @@ import time
 TOP = os.path.dirname(os.path.dirname(os.path.abspath(__file__)))
 
 
-def measure(command, runs):
-    """The least time, the peak memory in bytes, and the output of some runs."""
+def measure(command, runs, source=os.devnull):
+    """The least time, the peak memory in bytes, and the output of some runs on an input file."""
     best, peak, output = None, 0, b""
     for _ in range(runs):
-        with tempfile.TemporaryFile() as out:
+        with tempfile.TemporaryFile() as out, open(source, "rb") as given:
             start = time.monotonic()
-            child = subprocess.Popen(command, stdout=out, stderr=subprocess.DEVNULL)
+            child = subprocess.Popen(command, stdin=given, stdout=out, stderr=subprocess.DEVNULL)
             _, status, usage = os.wait4(child.pid, 0)
             taken = time.monotonic() - start
             child.returncode = os.waitstatus_to_exitcode(status)
