@@ -30,7 +30,7 @@ use crate::answer::answer;
 use crate::read::Refusal;
 use crate::table::Table;
 use std::io;
-use std::io::{BufRead, BufReader, BufWriter, Write};
+use std::io::{BufRead, BufReader, BufWriter, ErrorKind, Write};
 use std::process::ExitCode;
 
 // Answers all lines, or gives the number of the first wrong one.
@@ -41,8 +41,12 @@ fn run(rt: &HostRuntime) -> anyhow::Result<Option<u64>> {
     let mut number = 0u64;
     for line in BufReader::new(alloc, rt.reader())?.lines(alloc) {
         number = number.saturating_add(1);
-        let text = line?;
-        match answer(alloc, &mut table, text.as_str()) {
+        let told = match line {
+            Ok(text) => answer(alloc, &mut table, text.as_str()),
+            Err(error) if error.kind() == ErrorKind::InvalidData => Err(Refusal::WrongLine),
+            Err(error) => return Err(error.into()),
+        };
+        match told {
             Ok(bytes) => out.write_all(bytes.as_slice())?,
             Err(Refusal::WrongLine) => {
                 out.flush()?;
