@@ -68,16 +68,25 @@ fn method(alloc: Global, found: &MethodFound) -> Result<Vec<u8>, Refusal> {
     Ok(out)
 }
 
-fn find_answer(alloc: Global, table: &Table, text: &str) -> Result<Vec<u8>, Refusal> {
-    let (selector, rest) = split(text)?;
-    let (selector, term) = (sel(alloc, selector)?, one(alloc, rest)?);
-    let found = find_in(alloc, table, &term, &selector)?;
-    match &found {
+fn found(alloc: Global, found: &Found) -> Result<Vec<u8>, Refusal> {
+    match found {
         Found::FieldAt(found) => field(alloc, found),
         Found::MethodAt(found) => method(alloc, found),
         Found::Ambiguous => Ok(Vec::from_slice(alloc, b"ambiguous")?),
         Found::Nothing => Ok(Vec::from_slice(alloc, b"nothing")?),
     }
+}
+
+fn search(alloc: Global, table: &Table, term: &Term, word: &str) -> Result<Found, Refusal> {
+    let selector = sel(alloc, word)?;
+    Ok(find_in(alloc, table, term, &selector)?)
+}
+
+fn find_answer(alloc: Global, table: &Table, text: &str) -> Result<Vec<u8>, Refusal> {
+    let (word, rest) = split(text)?;
+    let term = one(alloc, rest)?;
+    let answer = search(alloc, table, &term, word)?;
+    found(alloc, &answer)
 }
 
 fn set_answer(alloc: Global, table: &Table, text: &str) -> Result<Vec<u8>, Refusal> {
