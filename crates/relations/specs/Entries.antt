@@ -1,5 +1,4 @@
 -- What a map of defined types holds for a name.
-use Rattle.std.specs.Prelude.{Option}
 use Rattle.std.specs.BTreeMap.{BTreeMap, get}
 use Rattle.go_model.specs.Tables.{Table}
 use Rattle.go_model.specs.declared.types.names.TypeName.{TypeName}
