@@ -33,7 +33,7 @@ def best_of(command, runs, given=None):
     return Run(min(one.seconds for one in done), min(one.processor for one in done), max(one.peak for one in done), 0, done[-1].output)
 
 
-def measure(command, runs):
-    """The least time, the peak memory in bytes, and the output of some runs."""
-    best = best_of(command, runs)
+def measure(command, runs, given=None):
+    """The least time, the peak memory in bytes, and the output of some runs. GIVEN is the file of their input."""
+    best = best_of(command, runs, given)
     return best.seconds, best.peak, best.output

@@ -1,0 +1,181 @@
+//! The answer to a line.
+use crate::read::{Refusal, Stack, sel, type_name};
+use crate::show::{push_number, push_set, push_signature, push_term};
+use crate::table::Table;
+use go_model::text::Text;
+use go_model::types::found::{FieldFound, Found, MethodFound};
+use go_model::types::package::Defined;
+use go_model::types::term::Term;
+use go_types::assignable::assignable_in;
+use go_types::comparable::comparable_in;
+use go_types::convertible::convertible_in;
+use go_types::find::find_in;
+use go_types::identical::identical;
+use go_types::implements::implements_in;
+use go_types::method_set::method_set_in;
+use std::alloc::Global;
+
+fn split(text: &str) -> Result<(&str, &str), Refusal> {
+    match text.split_once(' ') {
+        Some(parts) => Ok(parts),
+        None => Err(Refusal::WrongLine),
+    }
+}
+
+fn one(alloc: Global, text: &str) -> Result<Term, Refusal> {
+    let mut stack = Stack::of(alloc, text)?;
+    let term = stack.term()?;
+    stack.end()?;
+    Ok(term)
+}
+
+fn two(alloc: Global, text: &str) -> Result<(Term, Term), Refusal> {
+    let mut stack = Stack::of(alloc, text)?;
+    let first = stack.term()?;
+    let second = stack.term()?;
+    stack.end()?;
+    Ok((first, second))
+}
+
+fn truth(alloc: Global, truth: bool) -> Result<Vec<u8>, Refusal> {
+    let word = if truth { "true" } else { "false" };
+    Ok(Vec::from_slice(alloc, word.as_bytes())?)
+}
+
+fn way(through: bool) -> &'static str {
+    if through { " through " } else { " direct " }
+}
+
+fn field(alloc: Global, found: &FieldFound) -> Result<Vec<u8>, Refusal> {
+    let mut out = Vec::from_slice(alloc, b"field ")?;
+    push_number(alloc, &mut out, u64::from(found.depth))?;
+    out.extend_from_slice(way(found.through_pointer).as_bytes())?;
+    push_term(alloc, &mut out, &found.term)?;
+    Ok(out)
+}
+
+fn method(alloc: Global, found: &MethodFound) -> Result<Vec<u8>, Refusal> {
+    let receiver = if found.pointer_receiver {
+        "on-pointer "
+    } else {
+        "on-value "
+    };
+    let mut out = Vec::from_slice(alloc, b"method ")?;
+    push_number(alloc, &mut out, u64::from(found.depth))?;
+    out.extend_from_slice(way(found.through_pointer).as_bytes())?;
+    out.extend_from_slice(receiver.as_bytes())?;
+    push_signature(alloc, &mut out, &found.signature)?;
+    Ok(out)
+}
+
+fn found(alloc: Global, found: &Found) -> Result<Vec<u8>, Refusal> {
+    match found {
+        Found::FieldAt(found) => field(alloc, found),
+        Found::MethodAt(found) => method(alloc, found),
+        Found::Ambiguous => Ok(Vec::from_slice(alloc, b"ambiguous")?),
+        Found::Nothing => Ok(Vec::from_slice(alloc, b"nothing")?),
+    }
+}
+
+fn search(alloc: Global, table: &Table, term: &Term, word: &str) -> Result<Found, Refusal> {
+    let selector = sel(alloc, word)?;
+    Ok(find_in(alloc, table, term, &selector)?)
+}
+
+fn find_answer(alloc: Global, table: &Table, text: &str) -> Result<Vec<u8>, Refusal> {
+    let (word, rest) = split(text)?;
+    let term = one(alloc, rest)?;
+    let answer = search(alloc, table, &term, word)?;
+    found(alloc, &answer)
+}
+
+fn set_answer(alloc: Global, table: &Table, text: &str) -> Result<Vec<u8>, Refusal> {
+    let term = one(alloc, text)?;
+    let methods = method_set_in(alloc, table, &term)?;
+    let mut out = Vec::new(alloc);
+    push_set(alloc, &mut out, methods.items())?;
+    Ok(out)
+}
+
+fn comparable_answer(alloc: Global, table: &Table, text: &str) -> Result<Vec<u8>, Refusal> {
+    let term = one(alloc, text)?;
+    let answer = comparable_in(alloc, table, &term)?;
+    truth(alloc, answer)
+}
+
+fn identical_answer(alloc: Global, text: &str) -> Result<Vec<u8>, Refusal> {
+    let (left, right) = two(alloc, text)?;
+    truth(alloc, identical(&left, &right))
+}
+
+fn implements_answer(alloc: Global, table: &Table, text: &str) -> Result<Vec<u8>, Refusal> {
+    let (term, interface) = two(alloc, text)?;
+    let answer = implements_in(alloc, table, &term, &interface)?;
+    truth(alloc, answer)
+}
+
+fn flag(word: &str) -> Result<bool, Refusal> {
+    match word {
+        "plain" => Ok(false),
+        "profile" => Ok(true),
+        _ => Err(Refusal::WrongLine),
+    }
+}
+
+fn assignable_answer(alloc: Global, table: &Table, text: &str) -> Result<Vec<u8>, Refusal> {
+    let (word, rest) = split(text)?;
+    let (from, to) = two(alloc, rest)?;
+    let answer = assignable_in(alloc, table, &from, &to, flag(word)?)?;
+    truth(alloc, answer)
+}
+
+fn convertible_answer(alloc: Global, table: &Table, text: &str) -> Result<Vec<u8>, Refusal> {
+    let (word, rest) = split(text)?;
+    let (from, to) = two(alloc, rest)?;
+    let answer = convertible_in(alloc, table, &from, &to, flag(word)?)?;
+    truth(alloc, answer)
+}
+
+fn add_type(alloc: Global, table: &mut Table, text: &str) -> Result<(), Refusal> {
+    let (word, rest) = split(text)?;
+    let name = type_name(alloc, word)?;
+    let mut stack = Stack::of(alloc, rest)?;
+    let underlying = stack.term()?;
+    if let Term::Named(_) = &underlying {
+        return Err(Refusal::WrongLine);
+    }
+    let methods = stack.declared(alloc)?;
+    stack.end()?;
+    let defined = Defined {
+        name: Text::of(alloc, name.name.bytes())?,
+        underlying,
+        methods,
+    };
+    table.add(name, defined)
+}
+
+fn told(alloc: Global, table: &Table, question: &str, text: &str) -> Result<Vec<u8>, Refusal> {
+    match question {
+        "identical" => identical_answer(alloc, text),
+        "find" => find_answer(alloc, table, text),
+        "method_set" => set_answer(alloc, table, text),
+        "implements" => implements_answer(alloc, table, text),
+        "comparable" => comparable_answer(alloc, table, text),
+        "assignable" => assignable_answer(alloc, table, text),
+        "convertible" => convertible_answer(alloc, table, text),
+        _ => Err(Refusal::WrongLine),
+    }
+}
+
+/// The answer to a line, with its line's end; nothing where the line defines a type, which the table then
+/// has.
+pub fn answer(alloc: Global, table: &mut Table, line: &str) -> Result<Vec<u8>, Refusal> {
+    let (question, text) = split(line)?;
+    if question == "type" {
+        add_type(alloc, table, text)?;
+        return Ok(Vec::new(alloc));
+    }
+    let mut out = told(alloc, table, question, text)?;
+    out.push(b'\n')?;
+    Ok(out)
+}

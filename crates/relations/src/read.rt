@@ -1,0 +1,299 @@
+//! Terms in prefix notation, read from the last word to the first.
+use crate::basic::basic;
+use go_model::boxed::Box;
+use go_model::list::List;
+use go_model::memory::NoMemory;
+use go_model::text::Text;
+use go_model::types::names::{Sel, TypeName};
+use go_model::types::package::MethodOf;
+use go_model::types::term::{Direction, Field, Method, Signature, Term};
+use hex::FromHexError;
+use std::alloc::{AllocError, AllocFailed, Global};
+
+/// Why a line has no answer.
+#[derive(Debug, Drop)]
+pub enum Refusal {
+    WrongLine,
+    NoMemory,
+}
+
+impl From<NoMemory> for Refusal {
+    fn from(_: NoMemory) -> Refusal {
+        Refusal::NoMemory
+    }
+}
+
+impl From<AllocError> for Refusal {
+    fn from(_: AllocError) -> Refusal {
+        Refusal::NoMemory
+    }
+}
+
+impl<T: Drop> From<AllocFailed<T>> for Refusal {
+    fn from(_: AllocFailed<T>) -> Refusal {
+        Refusal::NoMemory
+    }
+}
+
+fn number(digits: &str) -> Result<u64, Refusal> {
+    match digits.parse::<u64>() {
+        Ok(number) => Ok(number),
+        Err(_) => Err(Refusal::WrongLine),
+    }
+}
+
+fn text(alloc: Global, word: &str) -> Result<Text, Refusal> {
+    Ok(Text::of(alloc, word.as_bytes())?)
+}
+
+/// The selector that a word is.
+pub fn sel(alloc: Global, word: &str) -> Result<Sel, Refusal> {
+    let (package, name) = match word.rsplit_once('.') {
+        Some(parts) => parts,
+        None => ("", word),
+    };
+    Ok(Sel {
+        name: text(alloc, name)?,
+        package: text(alloc, package)?,
+    })
+}
+
+/// The name that a word is.
+pub fn type_name(alloc: Global, word: &str) -> Result<TypeName, Refusal> {
+    let (path, name) = match word.rsplit_once('.') {
+        Some(parts) => parts,
+        None => return Err(Refusal::WrongLine),
+    };
+    Ok(TypeName {
+        path: text(alloc, path)?,
+        name: text(alloc, name)?,
+    })
+}
+
+fn error_name(alloc: Global) -> Result<TypeName, Refusal> {
+    Ok(TypeName {
+        path: text(alloc, "")?,
+        name: text(alloc, "error")?,
+    })
+}
+
+fn tag(alloc: Global, digits: &str) -> Result<Text, Refusal> {
+    match hex::decode(alloc, digits) {
+        Ok(bytes) => Ok(Text::from_vec(bytes)),
+        Err(FromHexError::OutOfMemory) => Err(Refusal::NoMemory),
+        Err(_) => Err(Refusal::WrongLine),
+    }
+}
+
+/// What the words on the right are, the leftmost last.
+#[derive(Drop)]
+pub struct Stack {
+    terms: Vec<Term>,
+    fields: Vec<Field>,
+    methods: Vec<Method>,
+    declared: Vec<MethodOf>,
+}
+
+impl Stack {
+    /// What the words of a text are.
+    pub fn of(alloc: Global, text: &str) -> Result<Stack, Refusal> {
+        let mut stack = Stack {
+            terms: Vec::new(alloc),
+            fields: Vec::new(alloc),
+            methods: Vec::new(alloc),
+            declared: Vec::new(alloc),
+        };
+        for word in text.rsplit(' ') {
+            stack.read(alloc, word)?;
+        }
+        Ok(stack)
+    }
+
+    /// The leftmost term.
+    pub fn term(&mut self) -> Result<Term, Refusal> {
+        match self.terms.pop() {
+            Some(term) => Ok(term),
+            None => Err(Refusal::WrongLine),
+        }
+    }
+
+    /// The declared methods.
+    pub fn declared(&mut self, alloc: Global) -> Result<List<MethodOf>, Refusal> {
+        let mut methods = List::new(alloc);
+        for _ in 0..self.declared.len() {
+            if let Some(method) = self.declared.pop() {
+                methods.push(method)?;
+            }
+        }
+        Ok(methods)
+    }
+
+    /// Refuses what nothing has taken.
+    pub fn end(self) -> Result<(), Refusal> {
+        if self.terms.is_empty()
+            && self.fields.is_empty()
+            && self.methods.is_empty()
+            && self.declared.is_empty()
+        {
+            return Ok(());
+        }
+        Err(Refusal::WrongLine)
+    }
+
+    fn boxed(&mut self, alloc: Global) -> Result<Box<Term>, Refusal> {
+        let term = self.term()?;
+        Ok(Box::new(alloc, term)?)
+    }
+
+    fn called(&mut self) -> Result<Signature, Refusal> {
+        match self.term()? {
+            Term::Func(signature) => Ok(signature),
+            _ => Err(Refusal::WrongLine),
+        }
+    }
+
+    fn take_terms(&mut self, alloc: Global, count: u64) -> Result<List<Term>, Refusal> {
+        let mut terms = List::new(alloc);
+        for _ in 0..count {
+            let term = self.term()?;
+            terms.push(term)?;
+        }
+        Ok(terms)
+    }
+
+    fn take_fields(&mut self, alloc: Global, count: u64) -> Result<List<Field>, Refusal> {
+        let mut fields = List::new(alloc);
+        for _ in 0..count {
+            match self.fields.pop() {
+                Some(field) => fields.push(field)?,
+                None => return Err(Refusal::WrongLine),
+            }
+        }
+        Ok(fields)
+    }
+
+    fn take_methods(&mut self, alloc: Global, count: u64) -> Result<List<Method>, Refusal> {
+        let mut methods = List::new(alloc);
+        for _ in 0..count {
+            match self.methods.pop() {
+                Some(method) => methods.push(method)?,
+                None => return Err(Refusal::WrongLine),
+            }
+        }
+        Ok(methods)
+    }
+
+    fn signature(
+        &mut self,
+        alloc: Global,
+        variadic: bool,
+        counts: &str,
+    ) -> Result<Signature, Refusal> {
+        let (params, results) = match counts.split_once(':') {
+            Some(parts) => parts,
+            None => return Err(Refusal::WrongLine),
+        };
+        let params = self.take_terms(alloc, number(params)?)?;
+        let results = self.take_terms(alloc, number(results)?)?;
+        Ok(Signature {
+            params,
+            variadic,
+            results,
+        })
+    }
+
+    fn add_field(&mut self, alloc: Global, embedded: bool, parts: &str) -> Result<(), Refusal> {
+        let (selector, digits) = match parts.split_once(':') {
+            Some(parts) => parts,
+            None => return Err(Refusal::WrongLine),
+        };
+        let term = self.term()?;
+        self.fields.push(Field {
+            sel: sel(alloc, selector)?,
+            embedded,
+            term,
+            tag: tag(alloc, digits)?,
+        })?;
+        Ok(())
+    }
+
+    fn add_method(&mut self, alloc: Global, selector: &str) -> Result<(), Refusal> {
+        let signature = self.called()?;
+        self.methods.push(Method {
+            sel: sel(alloc, selector)?,
+            signature,
+        })?;
+        Ok(())
+    }
+
+    fn add_declared(
+        &mut self,
+        alloc: Global,
+        pointer: bool,
+        selector: &str,
+    ) -> Result<(), Refusal> {
+        let signature = self.called()?;
+        self.declared.push(MethodOf {
+            sel: sel(alloc, selector)?,
+            pointer,
+            signature,
+        })?;
+        Ok(())
+    }
+
+    // A type whose word has no parts.
+    fn plain(&mut self, alloc: Global, word: &str) -> Result<Term, Refusal> {
+        if let Some(known) = basic(word) {
+            return Ok(Term::Plain(known));
+        }
+        match word {
+            "error" => Ok(Term::Named(error_name(alloc)?)),
+            "pointer" => Ok(Term::Pointer(self.boxed(alloc)?)),
+            "slice" => Ok(Term::Slice(self.boxed(alloc)?)),
+            "chan" => Ok(Term::Chan(Direction::Both, self.boxed(alloc)?)),
+            "send" => Ok(Term::Chan(Direction::SendOnly, self.boxed(alloc)?)),
+            "receive" => Ok(Term::Chan(Direction::ReceiveOnly, self.boxed(alloc)?)),
+            "map" => {
+                let key = self.boxed(alloc)?;
+                let element = self.boxed(alloc)?;
+                Ok(Term::Map(key, element))
+            }
+            _ => Ok(Term::Named(type_name(alloc, word)?)),
+        }
+    }
+
+    // A type whose word has parts.
+    fn counted(&mut self, alloc: Global, kind: &str, parts: &str) -> Result<Term, Refusal> {
+        match kind {
+            "array" => Ok(Term::Array(number(parts)?, self.boxed(alloc)?)),
+            "struct" => Ok(Term::Struct(self.take_fields(alloc, number(parts)?)?)),
+            "interface" => Ok(Term::Interface(self.take_methods(alloc, number(parts)?)?)),
+            "func" => Ok(Term::Func(self.signature(alloc, false, parts)?)),
+            "variadic" => Ok(Term::Func(self.signature(alloc, true, parts)?)),
+            _ => Err(Refusal::WrongLine),
+        }
+    }
+
+    fn read(&mut self, alloc: Global, word: &str) -> Result<(), Refusal> {
+        let (kind, parts) = match word.split_once(':') {
+            Some(parts) => parts,
+            None => {
+                let term = self.plain(alloc, word)?;
+                self.terms.push(term)?;
+                return Ok(());
+            }
+        };
+        match kind {
+            "field" => self.add_field(alloc, false, parts),
+            "embedded" => self.add_field(alloc, true, parts),
+            "method" => self.add_method(alloc, parts),
+            "on-value" => self.add_declared(alloc, false, parts),
+            "on-pointer" => self.add_declared(alloc, true, parts),
+            _ => {
+                let term = self.counted(alloc, kind, parts)?;
+                self.terms.push(term)?;
+                Ok(())
+            }
+        }
+    }
+}
