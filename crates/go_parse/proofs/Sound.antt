@@ -17,7 +17,8 @@ use Rattle.go_model.specs.declared.token.TokenKind.{TokenKind}
 use Rattle.go_model.specs.declared.token.TokenKind.TheVariants as kind
 use Rattle.go_model.specs.Outline.{IsFile, file as a_file, IsDecls, decls_none, decls_more, IsDecl, decl_const, IsConstSpec, const_spec as a_const_spec, IsExpr, expr_literal, integer_narrow, integer_wide, IsNotBlank, constant, file_of}
 use Rattle.go_model.specs.Terminals.{Terminal, Sign, Identifier, Basic, Odd, Extent}
-use Rattle.go_parse.specs.Reading.{Found, Reader, Next, Stop, Fail, More, bind, after, turn, loop, run, put, step_of, begins, expect, name, integer}
+use Rattle.go_model.specs.Symbols.{begins}
+use Rattle.go_parse.specs.Reading.{Found, Reader, Next, Stop, Fail, More, bind, after, turn, loop, run, put, step_of, expect, name, integer}
 use Rattle.go_parse.specs.Parsing.{const_spec, const_decl, decl, decls, package_name, package_clause, file}
 
 -- a front of the terminals is derived, and the rest is left

@@ -10,7 +10,8 @@ use Rattle.go_model.specs.declared.syntax.name.Name.{Name}
 use Rattle.go_model.specs.declared.token.TokenKind.TheVariants as kind
 use Rattle.go_model.specs.Outline.{constant, file_of}
 use Rattle.go_model.specs.Terminals.{Terminal}
-use Rattle.go_parse.specs.Reading.{Reader, Next, Stop, bind, after, run, step_of, begins, expect, name, integer}
+use Rattle.go_model.specs.Symbols.{begins}
+use Rattle.go_parse.specs.Reading.{Reader, Next, Stop, bind, after, run, step_of, expect, name, integer}
 
 unfoldable pub const_spec : Reader ConstSpec
 const_spec ts = bind (name ts) (λ n u. bind (expect kind.Assign u) (λ _ v. bind (integer v) (λ l w. Some (constant n (expr.Literal l), w))))

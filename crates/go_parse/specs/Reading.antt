@@ -1,14 +1,12 @@
--- What a reading by recursive descent finds: the first step is a tree of a front of the terminals, and
--- what is left after it.
-use Rattle.std.specs.Prelude.{ℕ, zero, suc, Bool, false, if◌then◌else◌, List, [], ◌∷◌, ◌++◌, length, drop, Option, Some, None}
-use denote.Enum.Bare.{sameb}
-use Rattle.go_model.specs.contracts.token.TokenKind.{the_type}
+-- What a reading by recursive descent finds: a tree of a front of the terminals, and what is left after it.
+use Rattle.std.specs.Prelude.{ℕ, zero, suc, Bool, true, false, not, if◌then◌else◌, List, [], ◌∷◌, ◌++◌, length, drop, Option, Some, None}
 use Rattle.go_model.specs.declared.syntax.expression.Literal.{Literal}
 use Rattle.go_model.specs.declared.syntax.expression.Literal.TheVariants as literal
 use Rattle.go_model.specs.declared.syntax.name.Name.{Name}
 use Rattle.go_model.specs.declared.token.TokenKind.{TokenKind}
 use Rattle.go_model.specs.declared.token.TokenKind.TheVariants as kind
-use Rattle.go_model.specs.Terminals.{Terminal, Sign, Identifier, Basic}
+use Rattle.go_model.specs.Symbols.{begins, closes}
+use Rattle.go_model.specs.Terminals.{Terminal, Identifier, Basic}
 
 -- what is found, and what is left
 abbrev pub Found : Type 0 → Type 0
@@ -53,15 +51,6 @@ put acc (More a ts) = More (acc ++ a ∷ []) ts
 abbrev pub step_of : {A : Type 0} → (List Terminal → Next A) → List A → List Terminal → Next (List A)
 step_of item acc ts = put acc (item ts)
 
--- the keyword or operator that a terminal is
-abbrev pub sign_of : Terminal → Option TokenKind
-sign_of (Sign k at) = Some k
-sign_of _ = None
-
-abbrev pub sign_at : List Terminal → Option TokenKind
-sign_at [] = None
-sign_at (t ∷ ts) = sign_of t
-
 abbrev pub silent_sign : TokenKind → Option TokenKind
 silent_sign kind.Ident = None
 silent_sign kind.IntLit = None
@@ -71,19 +60,24 @@ silent_sign kind.RuneLit = None
 silent_sign kind.StrLit = None
 silent_sign k = Some k
 
-abbrev pub same_kind : TokenKind → TokenKind → Bool
-same_kind = sameb the_type
-
-abbrev pub is_sign : TokenKind → Option TokenKind → Bool
-is_sign k None = false
-is_sign k (Some j) = same_kind j k
-
--- whether this keyword or operator is next
-abbrev pub begins : TokenKind → List Terminal → Bool
-begins k ts = is_sign k (sign_at ts)
-
 unfoldable pub expect : TokenKind → Reader (Unit {0})
 expect k ts = if begins k ts then Some (tt, drop 1 ts) else None
+
+-- this tree, once the bracket is taken
+unfoldable pub close : {A : Type 0} → TokenKind → A → Reader A
+close k a ts = if begins k ts then Some (a, drop 1 ts) else None
+
+-- past a keyword or an operator that may be missing
+abbrev pub past : TokenKind → List Terminal → List Terminal
+past k ts = if begins k ts then drop 1 ts else ts
+
+-- whether a comma is next that another item follows
+abbrev pub goes_on : List Terminal → Bool
+goes_on ts = if begins kind.Comma ts then not (closes (drop 1 ts)) else false
+
+-- the end of an item of a list in brackets
+unfoldable pub ended : {A : Type 0} → A → Reader A
+ended a ts = if begins kind.Semicolon ts then Some (a, drop 1 ts) else if closes ts then Some (a, ts) else None
 
 abbrev pub found_at : {A : Type 0} → Option A → List Terminal → Found A
 found_at None ts = None
@@ -97,6 +91,20 @@ name_of _ = None
 abbrev pub name : Reader Name
 name [] = None
 name (t ∷ ts) = found_at (name_of t) ts
+
+abbrev pub begins_name : List Terminal → Bool
+begins_name (Identifier n ∷ ts) = true
+begins_name _ = false
+
+-- the literal that is next
+abbrev pub literal_at : List Terminal → Option Literal
+literal_at (Basic l place ∷ ts) = Some l
+literal_at _ = None
+
+-- the text and the place of the string literal that is next
+abbrev pub string_at : List Terminal → Option (List ℕ × ℕ)
+string_at (Basic (literal.Str text) place ∷ ts) = Some (text, place)
+string_at _ = None
 
 -- the integer literal that a terminal is
 abbrev pub integer_of : Terminal → Option Literal

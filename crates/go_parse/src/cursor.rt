@@ -1,6 +1,7 @@
 //! The tokens that are left.
 ghost use Rattle.std.specs.Prelude.{◌≡◌, IfOk, drop, length};
 ghost use Rattle.go_model.specs.Terminals.{terminal, terminals};
+ghost use Rattle.go_model.specs.Symbols as symbols;
 ghost use Rattle.go_parse.specs.Reading as reading;
 ghost use Rattle.go_parse.specs.Reads.{Reads};
 
@@ -30,7 +31,7 @@ impl<'a> Model for Cursor<'a> {
 
 /// The keyword or operator that a token is.
 fn sign_of(token: &Token) -> Option<TokenKind>
-    ensures { result ≡ reading.sign_of (terminal token.now) }
+    ensures { result ≡ symbols.sign_of (terminal token.now) }
 {
     match token.value {
         TokenValue::Nothing => silent(token.kind),
@@ -100,7 +101,7 @@ impl<'a> Cursor<'a> {
 
     /// The keyword or operator that the next token is.
     pub fn sign(&self) -> Option<TokenKind>
-        ensures { result ≡ reading.sign_at (terminals self.now) }
+        ensures { result ≡ symbols.sign_at (terminals self.now) }
     {
         match self.rest.first() {
             None => None,
@@ -119,7 +120,7 @@ impl<'a> Cursor<'a> {
 
     /// Whether this keyword or operator is next.
     pub fn begins(&self, kind: TokenKind) -> bool
-        ensures { result ≡ reading.begins kind (terminals self.now) }
+        ensures { result ≡ symbols.begins kind (terminals self.now) }
     {
         match self.sign() {
             None => false,

@@ -1,6 +1,7 @@
 //! The outline of a file.
 ghost use Rattle.std.specs.Prelude.{◌≡◌, ◌≢◌, ◌∷◌, List, [], IfOk, IsErr, IsErrOf};
 ghost use Rattle.go_model.specs.Outline.{IsOutline};
+ghost use Rattle.go_model.specs.SourceFiles.{HasOutline};
 ghost use Rattle.go_model.specs.Terminals.{terminals};
 ghost use Rattle.go_model.specs.declared.syntax.declaration.File.{File};
 ghost use Rattle.go_model.specs.declared.token.Token.{Token};
@@ -13,6 +14,8 @@ use go_model::list::List;
 use go_model::memory::NoMemory;
 use go_model::syntax::declaration::{ConstSpec, Decl, File};
 use go_model::syntax::expression::Expr;
+use go_model::syntax::held::declaration::{HeldConstSpecs, HeldDecls};
+use go_model::syntax::held::expression::HeldExprs;
 use go_model::syntax::name::Name;
 use go_model::token::{Token, TokenKind};
 use std::alloc::Global;
@@ -33,11 +36,12 @@ fn const_spec(alloc: Global, tokens: &mut Cursor<'_>) -> Result<ConstSpec, Parse
 {
     let names = one(alloc, tokens.name(alloc)?)?;
     tokens.expect(TokenKind::Assign)?;
-    let values = one(alloc, Expr::Literal(tokens.integer()?))?;
+    let mut values = HeldExprs::new(alloc);
+    values.push(Expr::Literal(tokens.integer()?))?;
     Ok(ConstSpec {
         names,
         type_: None,
-        values,
+        values: values.take(),
     })
 }
 
@@ -46,24 +50,25 @@ fn const_spec(alloc: Global, tokens: &mut Cursor<'_>) -> Result<ConstSpec, Parse
 fn const_decl(alloc: Global, tokens: &mut Cursor<'_>) -> Result<Decl, ParseError>
     ensures { Reads (parsing.const_decl (terminals tokens.old)) result tokens.new }
 {
-    let specs = one(alloc, const_spec(alloc, tokens)?)?;
+    let mut specs = HeldConstSpecs::new(alloc);
+    specs.push(const_spec(alloc, tokens)?)?;
     tokens.expect(TokenKind::Semicolon)?;
-    Ok(Decl::ConstGroup(specs))
+    Ok(Decl::ConstGroup(specs.take()))
 }
 
 /// The declarations from here on.
 fn decls(alloc: Global, tokens: &mut Cursor<'_>) -> Result<List<Decl>, ParseError>
     ensures { Reads (parsing.decls (terminals tokens.old)) result tokens.new }
 {
-    let mut items = List::new(alloc);
+    let mut items = HeldDecls::new(alloc);
     for _turn in 0..tokens.len() {
         if !tokens.begins(TokenKind::ConstWord) {
-            return Ok(items);
+            return Ok(items.take());
         }
         tokens.advance();
         items.push(const_decl(alloc, tokens)?)?;
     }
-    Ok(items)
+    Ok(items.take())
 }
 
 /// The name of a package, which isn't `_`.
@@ -131,6 +136,11 @@ pub fn parse_outline(alloc: Global, tokens: &[Token]) -> Result<File, ParseError
 /// Tokens have at most one outline.
 pub fn one_tree()
     ensures same { (tokens : List Token) (f g : File) → IsOutline tokens f → IsOutline tokens g → f ≡ g }
+{}
+
+/// The same of outlines in all of the grammar, which the parser is to read next.
+pub fn one_whole_outline()
+    ensures same { (tokens : List Token) (f g : File) → HasOutline tokens f → HasOutline tokens g → f ≡ g }
 {}
 
 #[cfg(test)]

@@ -7,7 +7,8 @@ use Rattle.go_model.specs.declared.token.TokenKind.TheVariants as kind
 use Rattle.go_model.specs.Terminals.{Terminal, terminals}
 use Rattle.go_parse.specs.declared.error.ParseError.{ParseError}
 use Rattle.go_parse.specs.declared.error.ParseError.TheVariants.{Syntax, NoMemory}
-use Rattle.go_parse.specs.Reading.{Found, Stop, Fail, More, run, loop, put, after, step_of, begins}
+use Rattle.go_model.specs.Symbols.{begins}
+use Rattle.go_parse.specs.Reading.{Found, Stop, Fail, More, run, loop, put, after, step_of}
 use Rattle.go_parse.specs.Parsing.{const_decl, decl, decls}
 use Rattle.go_parse.specs.Reads.{Reads}
 use Rattle.go_parse.proofs.Turns.{one_more, no_more, turn_stops, turn_fails, turn_goes_on}
@@ -44,6 +45,7 @@ returns-then-not-begins c =
     let ts : List Terminal = terminals c.loop-turn.tokens in
     one_more (λ n. loop (step_of decl) n c.loop-turn.items ts) c.len-turn-end.result c.loop-turn._turn c.loop-turn-test.true c.loop-turn.invariant
     ∙ turn_stops (step_of decl) _ c.loop-turn.items ts (stops c.loop-turn.items ts (sym c.begins.ensures ∙ c.if-not-begins.true))
+    ∙ ap (λ (l : List Decl). Some (l, ts)) (sym c.take.ensures)
 
 pub returns-in_err-const_decl : goal.returns-in_err-const_decl
 returns-in_err-const_decl c =
@@ -71,3 +73,4 @@ pub returns : goal.returns
 unfolding loop
 returns c =
     no_more (λ n. loop (step_of decl) n c.loop-turn.items (terminals c.loop-turn.tokens)) c.len-turn-end.result c.loop-turn._turn c.loop-turn-test.false c.loop-turn.invariant
+    ∙ ap (λ (l : List Decl). Some (l, terminals c.loop-turn.tokens)) (sym c.take-2.ensures)
