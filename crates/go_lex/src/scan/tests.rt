@@ -30,10 +30,6 @@ fn places_tokens_and_inserted_semicolons(rt: HostRuntime) -> Result<(), Fail> {
             "Ident 0 1; Semicolon 1 1 inserted; Ident 12 13; Semicolon 13 13 inserted",
         ),
         (
-            b"a /* x\n */ b".as_slice(),
-            "Ident 0 1; Semicolon 1 1 inserted; Ident 11 12; Semicolon 12 12 inserted",
-        ),
-        (
             b"a\n\n\n/* \n */ // d\nb".as_slice(),
             "Ident 0 1; Semicolon 1 1 inserted; Ident 17 18; Semicolon 18 18 inserted",
         ),
@@ -126,6 +122,16 @@ fn places_tokens_and_inserted_semicolons(rt: HostRuntime) -> Result<(), Fail> {
             "{text:?}"
         );
     }
+    Ok(())
+}
+
+#[test]
+fn ends_a_line_before_a_comment_of_two_lines(rt: HostRuntime) -> Result<(), Fail> {
+    let tokens = scan(rt.alloc(), b"a /* x\n */ b")?;
+    assert_eq!(rt;
+        shown(rt.alloc(), tokens.items())?.as_str(),
+        "Ident 0 1; Semicolon 1 1 inserted; Ident 11 12; Semicolon 12 12 inserted"
+    );
     Ok(())
 }
 
