@@ -14,8 +14,6 @@ use go_model::list::List;
 use go_model::memory::NoMemory;
 use go_model::syntax::declaration::{ConstSpec, Decl, File};
 use go_model::syntax::expression::Expr;
-use go_model::syntax::held::declaration::{HeldConstSpecs, HeldDecls};
-use go_model::syntax::held::expression::HeldExprs;
 use go_model::syntax::name::Name;
 use go_model::token::{Token, TokenKind};
 use std::alloc::Global;
@@ -36,12 +34,11 @@ fn const_spec(alloc: Global, tokens: &mut Cursor<'_>) -> Result<ConstSpec, Parse
 {
     let names = one(alloc, tokens.name(alloc)?)?;
     tokens.expect(TokenKind::Assign)?;
-    let mut values = HeldExprs::new(alloc);
-    values.push(Expr::Literal(tokens.integer()?))?;
+    let values = one(alloc, Expr::Literal(tokens.integer()?))?;
     Ok(ConstSpec {
         names,
         type_: None,
-        values: values.take(),
+        values,
     })
 }
 
@@ -50,25 +47,24 @@ fn const_spec(alloc: Global, tokens: &mut Cursor<'_>) -> Result<ConstSpec, Parse
 fn const_decl(alloc: Global, tokens: &mut Cursor<'_>) -> Result<Decl, ParseError>
     ensures { Reads (parsing.const_decl (terminals tokens.old)) result tokens.new }
 {
-    let mut specs = HeldConstSpecs::new(alloc);
-    specs.push(const_spec(alloc, tokens)?)?;
+    let specs = one(alloc, const_spec(alloc, tokens)?)?;
     tokens.expect(TokenKind::Semicolon)?;
-    Ok(Decl::ConstGroup(specs.take()))
+    Ok(Decl::ConstGroup(specs))
 }
 
 /// The declarations from here on.
 fn decls(alloc: Global, tokens: &mut Cursor<'_>) -> Result<List<Decl>, ParseError>
     ensures { Reads (parsing.decls (terminals tokens.old)) result tokens.new }
 {
-    let mut items = HeldDecls::new(alloc);
+    let mut items = List::new(alloc);
     for _turn in 0..tokens.len() {
         if !tokens.begins(TokenKind::ConstWord) {
-            return Ok(items.take());
+            return Ok(items);
         }
         tokens.advance();
         items.push(const_decl(alloc, tokens)?)?;
     }
-    Ok(items.take())
+    Ok(items)
 }
 
 /// The name of a package, which isn't `_`.

@@ -45,7 +45,6 @@ returns-then-not-begins c =
     let ts : List Terminal = terminals c.loop-turn.tokens in
     one_more (λ n. loop (step_of decl) n c.loop-turn.items ts) c.len-turn-end.result c.loop-turn._turn c.loop-turn-test.true c.loop-turn.invariant
     ∙ turn_stops (step_of decl) _ c.loop-turn.items ts (stops c.loop-turn.items ts (sym c.begins.ensures ∙ c.if-not-begins.true))
-    ∙ ap (λ (l : List Decl). Some (l, ts)) (sym c.take.ensures)
 
 pub returns-in_err-const_decl : goal.returns-in_err-const_decl
 returns-in_err-const_decl c =
@@ -73,4 +72,3 @@ pub returns : goal.returns
 unfolding loop
 returns c =
     no_more (λ n. loop (step_of decl) n c.loop-turn.items (terminals c.loop-turn.tokens)) c.len-turn-end.result c.loop-turn._turn c.loop-turn-test.false c.loop-turn.invariant
-    ∙ ap (λ (l : List Decl). Some (l, terminals c.loop-turn.tokens)) (sym c.take-2.ensures)
