@@ -12,34 +12,9 @@ import (
 	"go/ast"
 	"go/parser"
 	"go/token"
-	"io"
 	"os"
 	"strconv"
-	"strings"
 )
-
-func frames(each func([]byte) bool) {
-	in := bufio.NewReaderSize(os.Stdin, 1<<16)
-	for {
-		line, err := in.ReadString('\n')
-		if err == io.EOF && line == "" {
-			return
-		}
-		length, bad := strconv.Atoi(strings.TrimSuffix(line, "\n"))
-		if err != nil || bad != nil {
-			fmt.Fprintln(os.Stderr, "not a frame")
-			os.Exit(2)
-		}
-		source := make([]byte, length)
-		if _, err := io.ReadFull(in, source); err != nil {
-			fmt.Fprintln(os.Stderr, "not a frame")
-			os.Exit(2)
-		}
-		if !each(source) {
-			return
-		}
-	}
-}
 
 // declarations is the text of a source behind its imports.
 func declarations(source []byte) []byte {

@@ -13,34 +13,10 @@ package main
 import (
 	"bufio"
 	"fmt"
-	"io"
 	"os"
 	"sort"
-	"strconv"
 	"strings"
 )
-
-// frames calls the function with each source on the input.
-func frames(each func([]byte)) {
-	in := bufio.NewReaderSize(os.Stdin, 1<<20)
-	for {
-		line, err := in.ReadString('\n')
-		if err == io.EOF && line == "" {
-			return
-		}
-		length, bad := strconv.Atoi(strings.TrimSuffix(line, "\n"))
-		if err != nil || bad != nil {
-			fmt.Fprintln(os.Stderr, "oracle: not a frame")
-			os.Exit(2)
-		}
-		source := make([]byte, length)
-		if _, err := io.ReadFull(in, source); err != nil {
-			fmt.Fprintln(os.Stderr, "oracle: not a frame")
-			os.Exit(2)
-		}
-		each(source)
-	}
-}
 
 // notes are the named differences met in a source.
 type notes map[string]bool
@@ -59,11 +35,15 @@ func main() {
 	defer out.Flush()
 	switch strings.Join(os.Args[1:], " ") {
 	case "tokens":
-		frames(func(source []byte) { listTokens(out, source) })
+		frames(func(source []byte) bool {
+			listTokens(out, source)
+			return true
+		})
 	case "syntax":
-		frames(func(source []byte) {
+		frames(func(source []byte) bool {
 			answer, met := verdict(source)
 			fmt.Fprintf(out, "%s\t%s\n", answer, strings.Join(met.sorted(), "; "))
+			return true
 		})
 	default:
 		fmt.Fprintln(os.Stderr, "oracle: tokens or syntax")
