@@ -56,11 +56,15 @@ impl<T> List<T> {
 }
 
 impl<T: Drop> List<T> {
-    /// Appends an item. An item that found no room is given up.
+    /// Appends an item. An item that found no room is given up. A list of one item has room for no
+    /// more, so that a tree of many short lists stays small.
     pub fn push(&mut self, item: T) -> Result<(), NoMemory>
         ensures ok { OnOk result (self.new ≡ self.old ++ item ∷ []) }
         ensures err { OnErr result (self.new ≡ self.old) }
     {
+        if self.items.is_empty() {
+            self.items.reserve_exact(1)?;
+        }
         self.items.push(item)?;
         Ok(())
     }
