@@ -182,6 +182,46 @@ impl HeldTypeSpecs {
     }
 }
 
+/// A declaration at package level in the making.
+pub struct HeldDecl {
+    tree: Decl,
+}
+
+impl Drop for HeldDecl {
+    fn drop(self) {
+        let HeldDecl { tree: _ } = self;
+    }
+}
+
+impl Model for HeldDecl {
+    ghost use Rattle.go_model.specs.declared.syntax.declaration.Decl.{Decl};
+    ghost use Rattle.go_model.specs.contracts.syntax.declaration.Decl as t;
+    ghost use Rattle.std.specs.Coded.{codes};
+
+    ghost Value = { Decl };
+
+    ghost coded = { Prim.hlevel (codes, t.the_row.coded) };
+
+    ghost view = { λ h. h.tree };
+}
+
+impl HeldDecl {
+    /// Holds this tree.
+    pub fn new(tree: Decl) -> HeldDecl
+        ensures { result ≡ tree }
+    {
+        HeldDecl { tree }
+    }
+
+    /// The tree, moved out.
+    pub fn take(self) -> Decl
+        ensures { result ≡ self }
+    {
+        let HeldDecl { tree } = self;
+        tree
+    }
+}
+
 /// Declarations at package level in the making.
 pub struct HeldDecls {
     trees: List<Decl>,

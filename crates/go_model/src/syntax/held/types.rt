@@ -1,5 +1,5 @@
 //! Types and their parts in the making.
-ghost use Rattle.std.specs.Prelude.{◌≡◌, ◌++◌, ◌∷◌, [], IfOk, OnErr, OnOk, length};
+ghost use Rattle.std.specs.Prelude.{◌≡◌, ◌++◌, ◌∷◌, [], IfOk, OnErr, OnOk, length, slice_get};
 ghost use Rattle.go_model.specs.declared.syntax.types.«Type».TheVariants.{Array, Map};
 
 use crate::boxed::Box;
@@ -138,6 +138,14 @@ impl HeldParameters {
         self.trees.items()
     }
 
+    /// The first tree, moved out. The others are given up.
+    pub fn first(self) -> Option<ParameterDecl>
+        ensures { result ≡ slice_get self 0 }
+    {
+        let HeldParameters { trees } = self;
+        trees.into_vec().into_iter().next()
+    }
+
     /// Appends a tree. One that found no room is given up.
     pub fn push(&mut self, tree: ParameterDecl) -> Result<(), NoMemory>
         ensures ok { OnOk result (self.new ≡ self.old ++ tree ∷ []) }
@@ -152,6 +160,47 @@ impl HeldParameters {
     {
         let HeldParameters { trees } = self;
         trees
+    }
+}
+
+/// A receiver in the making, where there is one.
+pub struct HeldReceiver {
+    tree: Option<ParameterDecl>,
+}
+
+impl Drop for HeldReceiver {
+    fn drop(self) {
+        let HeldReceiver { tree: _ } = self;
+    }
+}
+
+impl Model for HeldReceiver {
+    ghost use Rattle.go_model.specs.declared.syntax.types.ParameterDecl.{ParameterDecl};
+    ghost use Rattle.go_model.specs.contracts.syntax.types.ParameterDecl as t;
+    ghost use Rattle.std.specs.Coded.{codes, coded_option};
+    ghost use Rattle.std.specs.Prelude.{Option};
+
+    ghost Value = { Option ParameterDecl };
+
+    ghost coded = { coded_option (Prim.hlevel (codes, t.the_row.coded)) };
+
+    ghost view = { λ h. h.tree };
+}
+
+impl HeldReceiver {
+    /// Holds this tree.
+    pub fn new(tree: Option<ParameterDecl>) -> HeldReceiver
+        ensures { result ≡ tree }
+    {
+        HeldReceiver { tree }
+    }
+
+    /// The tree, moved out.
+    pub fn take(self) -> Option<ParameterDecl>
+        ensures { result ≡ self }
+    {
+        let HeldReceiver { tree } = self;
+        tree
     }
 }
 
