@@ -22,10 +22,10 @@ pub mod Lists
 pub mod MethodSets
 pub mod Numbers
 pub mod Operators
-pub mod Outline
 pub mod PackageTypes
 pub mod Platforms
 pub mod Quotes
+pub mod References
 pub mod Selectors
 pub mod SourceFiles
 pub mod Statements

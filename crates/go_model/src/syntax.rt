@@ -7,5 +7,6 @@ pub mod expression;
 pub mod held;
 pub mod name;
 pub mod operator;
+pub mod references;
 pub mod statement;
 pub mod types;
