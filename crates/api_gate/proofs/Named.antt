@@ -1,27 +1,14 @@
 -- Names that are tested one by one.
-use Rattle.std.proofs.Common.{◌≡◌, ℕ, zero, suc, ◌+◌, ◌<◌, Bool, true, false, List, [], ◌∷◌, ◌++◌, length, take, drop, get_or, map, refl, sym, ap, ◌∙◌, subst, ◌⊎◌, inl, inr, ◌↔◌, arith}
+use Rattle.std.proofs.Common.{◌≡◌, ℕ, zero, suc, ◌+◌, ◌<◌, Bool, true, false, List, [], ◌∷◌, ◌++◌, length, take, drop, get_or, map, refl, sym, ap, ◌∙◌, subst, ◌⊎◌, inl, inr, arith}
 use mathlib.Core.Bool.{true≢false}
-use Rattle.go_model.specs.Lists.{Has, Once, Each}
+use Rattle.go_model.specs.Lists.{Has, Once}
 use Rattle.api_gate.specs.declared.constants.Constant.{Constant}
 use Rattle.api_gate.specs.declared.reading.FileSource.{FileSource}
-use Rattle.api_gate.specs.Constants.{begins_upper, AreExported}
 use Rattle.api_gate.specs.Growing.{Grows}
 use Rattle.api_gate.specs.NamesReading.{Adds, Fresh, TellsOnce}
 use Rattle.api_gate.specs.Sources.{AreOfOnePackage, Declared, declared, declared_in}
 use Rattle.api_gate.proofs.Drops.{next_drop, past_all}
 use Rattle.api_gate.proofs.Grown.{OfSome, grows_next, grows_none, has_taken, has_here}
-
-pub exported_next : (cs : List Constant) (i : ℕ) (c : Constant) → i < length cs → c ≡ get_or cs i c → AreExported (drop i cs) ↔ ((begins_upper c.name ≡ true) × AreExported (drop (i + 1) cs))
-exported_next cs i c h e = (subst AreExported (next_drop cs i c h e), subst AreExported (sym (next_drop cs i c h e)))
-
-pub exported_all : (cs : List Constant) (i : ℕ) → length cs ≡ i → AreExported (drop i cs)
-exported_all cs i h = subst AreExported (sym (past_all i cs h)) tt
-
-pub each_next : {A : Type 0} (P : A → Type 0) (xs : List A) (i : ℕ) (x : A) → i < length xs → x ≡ get_or xs i x → Each P (drop i xs) ↔ (P x × Each P (drop (i + 1) xs))
-each_next P xs i x h e = (subst (Each P) (next_drop xs i x h e), subst (Each P) (sym (next_drop xs i x h e)))
-
-pub each_all : {A : Type 0} (P : A → Type 0) (xs : List A) (i : ℕ) → length xs ≡ i → Each P (drop i xs)
-each_all P xs i h = subst (Each P) (sym (past_all i xs h)) tt
 
 pub has_of_take : {A : Type 0} (xs : List A) (i : ℕ) (x : A) → Has (take i xs) x → Has xs x
 has_of_take [] zero x h = h

@@ -1,20 +1,17 @@
 -- What a source declares is one.
 use Rattle.std.specs.Prelude.{IfOk, IfErr}
-use Rattle.std.proofs.Common.{◌≡◌, ℕ, List, Option, Some, sym, ◌∙◌, subst, Result, Ok, Err}
+use Rattle.std.proofs.Common.{◌≡◌, ℕ, List, sym, ◌∙◌, subst, Result, Ok, Err}
 use Rattle.go_model.specs.declared.syntax.declaration.File.{File}
 use Rattle.go_model.specs.declared.token.Token.{Token}
-use Rattle.go_model.specs.Lexemes.{IsBadPlace}
-use Rattle.go_model.specs.Outline.{IsOutline}
+use Rattle.go_model.specs.SourceFiles.{HasOutline}
 use Rattle.go_model.specs.Tokens.{IsTokens}
-use Rattle.api_gate.specs.declared.constants.Constant.{Constant}
 use Rattle.api_gate.specs.declared.source.Source.{Source}
 use Rattle.api_gate.specs.declared.source.SourceError.{SourceError}
 use Rattle.api_gate.specs.declared.source.SourceError.TheVariants as source
-use Rattle.api_gate.specs.FilesReading.{FormCause, SourceCause}
-use Rattle.api_gate.specs.Sources.{Declares, IsParsed, IsSource}
-
-same_list : (a b : List Constant) → ◌≡◌ {A = Option (List Constant)} (Some a) (Some b) → a ≡ b
-same_list a b e = cc
+use Rattle.api_gate.specs.FilesReading.{FormCause, OutlineCause, SourceCause, SyntaxCause}
+use Rattle.api_gate.specs.Outlines.{IsNotInGrammar, IsOutlineOf}
+use Rattle.api_gate.specs.Sources.{Declares, IsSource}
+use Rattle.api_gate.proofs.Gathered.{same_list}
 
 same_record : (a b : Source) → a.package_name ≡ b.package_name → a.constants ≡ b.constants → a ≡ b
 same_record a b p q i = record { package_name = p i; constants = q i }
@@ -22,28 +19,43 @@ same_record a b p q i = record { package_name = p i; constants = q i }
 declared_once : (f : File) (a b : Source) → Declares f a → Declares f b → a ≡ b
 declared_once f a b p q = same_record a b (p.package_name ∙ sym q.package_name) (same_list a.constants b.constants (p.constants ∙ sym q.constants))
 
--- a fact that doesn't speak of the answer
-pub if_ok : {A E : Type 0} {P : Type 0} (r : Result A E) → P → IfOk r (λ _. P)
-if_ok (Ok a) p = p
-if_ok (Err e) p = tt
+-- the outline of tokens that were read is that of the bytes
+pub of_tokens : (bytes : List ℕ) (tokens : List Token) (r : Result File SourceError) → IsTokens bytes tokens → IfOk r (HasOutline tokens) → IfOk r (IsOutlineOf bytes)
+of_tokens bytes tokens (Ok f) is h = (tokens, is, h)
+of_tokens bytes tokens (Err e) is h = tt
 
--- why tokens declare nothing is why the bytes do
-pub form_cause : (bytes : List ℕ) (tokens : List Token) (r : Result Source SourceError) → ((place : ℕ) → IsBadPlace bytes place → ⊥) → ((s : Source) → IsSource bytes s → IsParsed tokens s)
-    → IfErr r (FormCause ((s : Source) → IsParsed tokens s → ⊥)) → IfErr r (SourceCause bytes)
-form_cause bytes tokens (Ok s) good parsed h = tt
-form_cause bytes tokens (Err (source.BadToken place)) good parsed h = absurd h
-form_cause bytes tokens (Err source.NotYet) good parsed h = (good, λ s is. h s (parsed s is))
-form_cause bytes tokens (Err source.NoMemory) good parsed h = tt
+pub no_tokens : (bytes : List ℕ) (tokens : List Token) (r : Result File SourceError) → IsTokens bytes tokens → IfErr r (SyntaxCause tokens) → IfErr r (OutlineCause bytes)
+no_tokens bytes tokens (Ok f) is h = tt
+no_tokens bytes tokens (Err (source.BadToken place)) is h = absurd h
+no_tokens bytes tokens (Err source.Syntax) is h = (tokens, is, h)
+no_tokens bytes tokens (Err source.NotYet) is h = absurd h
+no_tokens bytes tokens (Err source.NoMemory) is h = tt
 
--- the tokens are the ones that were read
-pub parsed_of : (one : (bytes : List ℕ) (first second : List Token) → IsTokens bytes first → IsTokens bytes second → first ≡ second)
-    → (bytes : List ℕ) (tokens items : List Token) → IsTokens bytes tokens → items ≡ tokens → (s : Source) → IsSource bytes s → IsParsed items s
-parsed_of one bytes tokens items t i s source = subst (λ (ts : List Token). IsParsed ts s) (one bytes source.0 tokens source.1 t ∙ sym i) source.2
+-- why bytes have no outline is why they declare nothing
+pub no_outline : (bytes : List ℕ) (e : SourceError) → OutlineCause bytes e → SourceCause bytes e
+no_outline bytes (source.BadToken place) h = h
+no_outline bytes source.Syntax h = h
+no_outline bytes source.NotYet h = absurd h
+no_outline bytes source.NoMemory h = h
 
-pub same_source : (one : (bytes : List ℕ) (first second : List Token) → IsTokens bytes first → IsTokens bytes second → first ≡ second)
-    → (same : (tokens : List Token) (f g : File) → IsOutline tokens f → IsOutline tokens g → f ≡ g)
-    → (bytes : List ℕ) (a b : Source) → IsSource bytes a → IsSource bytes b → a ≡ b
-same_source one same bytes a b p q =
-    let r : IsParsed q.0 a = subst (λ (ts : List Token). IsParsed ts a) (one bytes p.0 q.0 p.1 q.1) p.2 in
-    let outline : r.0 ≡ q.2.0 = same q.0 r.0 q.2.0 r.1 q.2.1 in
-    declared_once q.2.0 a b (subst (λ (f : File). Declares f a) outline r.2) q.2.2
+-- what an outline declares is what its bytes declare
+pub of_outline : (bytes : List ℕ) (f : File) (r : Result Source SourceError) → IsOutlineOf bytes f → IfOk r (Declares f) → IfOk r (IsSource bytes)
+of_outline bytes f (Ok s) is h = (f, is, h)
+of_outline bytes f (Err e) is h = tt
+
+pub no_source : (bytes : List ℕ) (f : File) (r : Result Source SourceError) → IsOutlineOf bytes f → IfErr r (FormCause f) → IfErr r (SourceCause bytes)
+no_source bytes f (Ok s) is h = tt
+no_source bytes f (Err (source.BadToken place)) is h = absurd h
+no_source bytes f (Err source.Syntax) is h = absurd h
+no_source bytes f (Err source.NotYet) is h = (f, is, h)
+no_source bytes f (Err source.NoMemory) is h = tt
+
+module _ (one : (bytes : List ℕ) (first second : List Token) → IsTokens bytes first → IsTokens bytes second → first ≡ second) where
+  pub same_outline : ((tokens : List Token) (f g : File) → HasOutline tokens f → HasOutline tokens g → f ≡ g) → (bytes : List ℕ) (f g : File) → IsOutlineOf bytes f → IsOutlineOf bytes g → f ≡ g
+  same_outline same bytes f g a b = same b.0 f g (subst (λ (ts : List Token). HasOutline ts f) (one bytes a.0 b.0 a.1 b.1) a.2) b.2
+
+  pub in_grammar : (bytes : List ℕ) (f : File) → IsOutlineOf bytes f → IsNotInGrammar bytes → ⊥
+  in_grammar bytes f a n = n.2 f (subst (λ (ts : List Token). HasOutline ts f) (one bytes a.0 n.0 a.1 n.1) a.2)
+
+pub same_source : ((bytes : List ℕ) (f g : File) → IsOutlineOf bytes f → IsOutlineOf bytes g → f ≡ g) → (bytes : List ℕ) (a b : Source) → IsSource bytes a → IsSource bytes b → a ≡ b
+same_source one bytes a b p q = declared_once q.0 a b (subst (λ (f : File). Declares f a) (one bytes p.0 q.0 p.1 q.1) p.2) q.2

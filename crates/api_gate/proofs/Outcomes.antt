@@ -19,6 +19,7 @@ use Rattle.api_gate.specs.declared.reading.FileSource.{FileSource}
 use Rattle.api_gate.specs.declared.words.Request.{Request}
 use Rattle.api_gate.specs.Faults.{IsFaulty, IsFirstFaulty, IsSound}
 use Rattle.api_gate.specs.Features.{IsReport}
+use Rattle.api_gate.specs.Outlines.{IsNotInGrammar}
 use Rattle.api_gate.specs.Refusals.{file_line, new_side}
 use Rattle.api_gate.specs.Runs.{Outcome, IsOutcome, ends_words, ends_asked, IsTreeRefusal, by_file, by_form, IsTreeReport, EndsWith, unloaded, refused_tree, reported_tree, reported, refused}
 use Rattle.api_gate.specs.Sources.{AreSources}
@@ -38,13 +39,21 @@ HeaderOrCause = (bytes : List ℕ) (header : Header) (error : TagError) → IsOw
 abbrev pub OnePlace : Type 0
 OnePlace = (bytes : List ℕ) (one two : ℕ) → IsBadPlace bytes one → IsBadPlace bytes two → one ≡ two
 
-module _ (one : OneCause) (either : HeaderOrCause) (place : OnePlace) where
+abbrev pub PlaceOrSyntax : Type 0
+PlaceOrSyntax = (bytes : List ℕ) (place : ℕ) → IsBadPlace bytes place → IsNotInGrammar bytes → ⊥
+
+module _ (one : OneCause) (either : HeaderOrCause) (place : OnePlace) (kinds : PlaceOrSyntax) where
   -- a file has one fault
   same_fault : (p : Platform) (file : TreeFile) (d e : FileFault) → IsFaulty p file d → IsFaulty p file e → d ≡ e
   same_fault p file (fault.BadHeader c) (fault.BadHeader d) a b = ap fault.BadHeader (one file.bytes c d a.own b.own a.cause b.cause)
   same_fault p file (fault.BadHeader c) (fault.BadToken n) a b = absurd (either file.bytes b.0.0 c a.own a.cause b.0.1)
+  same_fault p file (fault.BadHeader c) fault.Syntax a b = absurd (either file.bytes b.0.0 c a.own a.cause b.0.1)
   same_fault p file (fault.BadToken n) (fault.BadHeader c) a b = absurd (either file.bytes a.0.0 c b.own b.cause a.0.1)
   same_fault p file (fault.BadToken n) (fault.BadToken m) a b = ap fault.BadToken (place file.bytes n m a.1 b.1)
+  same_fault p file (fault.BadToken n) fault.Syntax a b = absurd (kinds file.bytes n a.1 b.1)
+  same_fault p file fault.Syntax (fault.BadHeader c) a b = absurd (either file.bytes a.0.0 c b.own b.cause a.0.1)
+  same_fault p file fault.Syntax (fault.BadToken n) a b = absurd (kinds file.bytes n b.1 a.1)
+  same_fault p file fault.Syntax fault.Syntax a b = refl
 
   -- the first faulty file and its fault are one
   same_faulty : (p : Platform) (files : List TreeFile) (f g : TreeFile) (d e : FileFault) → IsFirstFaulty p files f d → IsFirstFaulty p files g e → (f ≡ g) × (d ≡ e)
@@ -57,12 +66,12 @@ module _ (one : OneCause) (either : HeaderOrCause) (place : OnePlace) where
 
 module _ (one_request : (words : List (List ℕ)) (r s : Request) → IsRequest words r → IsRequest words s → r ≡ s)
     (one_answer : (m : Contents) (root : List ℕ) (r s : Result Tree LoadError) → LoadsModule m root r → LoadsModule m root s → Agree r s)
-    (one_cause : OneCause) (either : HeaderOrCause) (one_place : OnePlace)
+    (one_cause : OneCause) (either : HeaderOrCause) (one_place : OnePlace) (kinds : PlaceOrSyntax)
     (one_sources : (p : Platform) (files : List TreeFile) (a b : List FileSource) → AreSources p files a → AreSources p files b → a ≡ b)
     (one_report : (path : List ℕ) (sources : List FileSource) (a b : List ℕ) → IsReport path sources a → IsReport path sources b → a ≡ b) where
   same_refusal : (p : Platform) (t : Tree) (a b : List ℕ) → IsTreeRefusal p t a → IsTreeRefusal p t b → a ≡ b
   same_refusal p t a b (by_file f d i x) (by_file g e j y) =
-      let s : (f ≡ g) × (d ≡ e) = same_faulty one_cause either one_place p t.files f g d e i j in
+      let s : (f ≡ g) × (d ≡ e) = same_faulty one_cause either one_place kinds p t.files f g d e i j in
       x ∙ ap (λ (h : TreeFile). file_line new_side p h d) s.0 ∙ ap (λ (c : FileFault). file_line new_side p g c) s.1 ∙ sym y
   same_refusal p t a b (by_file f d i x) (by_form sound none y) = absurd (none_faulty p t.files f d sound i)
   same_refusal p t a b (by_form sound none x) (by_file f d i y) = absurd (none_faulty p t.files f d sound i)

@@ -4,6 +4,7 @@ use Rattle.std.proofs.Common.{◌≡◌, ℕ, ◌+◌, ◌<◌, ◌≤◌, Bool,
 use mathlib.Core.Bool.{true≢false}
 use Rattle.go_model.specs.declared.build.Header.{Header}
 use Rattle.go_model.specs.declared.platform.Platform.{Platform}
+use Rattle.go_model.specs.declared.syntax.declaration.File.{File}
 use Rattle.go_model.specs.declared.tree.TreeFile.{TreeFile}
 use Rattle.go_model.specs.BuildValues.{is_chosen}
 use Rattle.go_model.specs.Headers.{IsHeader}
@@ -22,7 +23,8 @@ use Rattle.api_gate.specs.Faults.{HasBadHeader, IsChosen, IsFirstFaulty, IsSound
 use Rattle.api_gate.specs.declared.source.SourceError.{SourceError}
 use Rattle.api_gate.specs.declared.source.SourceError.TheVariants as source
 use Rattle.api_gate.specs.FilesReading.{Added, FileCause, Gives, ReadCause, SourceCause, Tells}
-use Rattle.api_gate.specs.Sources.{AreSources, IsFileSource, IsSource, no_file, left_out, chosen}
+use Rattle.api_gate.specs.Outlines.{IsNotInGrammar, IsOutlineOf}
+use Rattle.api_gate.specs.Sources.{AreSources, Declares, IsFileSource, IsSource, no_file, left_out, chosen}
 use Rattle.api_gate.proofs.Drops.{next_drop, past_all, append_nothing}
 
 -- the answer for a file whose header was read
@@ -33,14 +35,20 @@ module _ (one : (bytes : List ℕ) (a b : Header) → IsHeader bytes a → IsHea
     left = λ f c. true≢false (sym c.2 ∙ ap (λ (h : Header). is_chosen p file.name h.constraint) (one file.bytes c.0 header c.1 is) ∙ sym e ∙ f);
   }
 
--- a file whose header isn't refused, and which is left out or has no bad place, is sound
+-- a file whose header isn't refused, and which is left out or has an outline, is sound
 pub sound_left : (p : Platform) (file : TreeFile) → ((e : TagError) → HasBadHeader p file e → ⊥) → (IsChosen p file → ⊥) → IsSound p file
 sound_left p file good left (fault.BadHeader e) h = good e h
 sound_left p file good left (fault.BadToken place) h = left h.0
+sound_left p file good left fault.Syntax h = left h.0
 
-pub sound_read : (p : Platform) (file : TreeFile) → ((e : TagError) → HasBadHeader p file e → ⊥) → ((place : ℕ) → IsBadPlace file.bytes place → ⊥) → IsSound p file
+-- the bytes have a token at each place, and are of the grammar
+abbrev pub IsOfGrammar : List ℕ → Type 0
+IsOfGrammar bytes = ((place : ℕ) → IsBadPlace bytes place → ⊥) × (IsNotInGrammar bytes → ⊥)
+
+pub sound_read : (p : Platform) (file : TreeFile) → ((e : TagError) → HasBadHeader p file e → ⊥) → IsOfGrammar file.bytes → IsSound p file
 sound_read p file good none (fault.BadHeader e) h = good e h
-sound_read p file good none (fault.BadToken place) h = none place h.1
+sound_read p file good none (fault.BadToken place) h = none.0 place h.1
+sound_read p file good none fault.Syntax h = none.1 h.1
 
 pub bad_within : (file : TreeFile) (place : ℕ) → IsBadPlace file.bytes place → place ≤ length file.bytes
 bad_within file place b = omega (arith, b.offset)
@@ -48,10 +56,25 @@ bad_within file place b = omega (arith, b.offset)
 pub bad_of : {bytes other : List ℕ} → bytes ≡ other → (place : ℕ) → IsBadPlace bytes place → IsBadPlace other place
 bad_of e place b = subst (λ (bs : List ℕ). IsBadPlace bs place) e b
 
-pub not_yet_parts : {bytes : List ℕ} {e : SourceError} → e ≡ source.NotYet → SourceCause bytes e → ((place : ℕ) → IsBadPlace bytes place → ⊥) × ((s : Source) → IsSource bytes s → ⊥)
-not_yet_parts {bytes = bytes} e c = subst (SourceCause bytes) e c
+module _ (one : (bytes : List ℕ) (f g : File) → IsOutlineOf bytes f → IsOutlineOf bytes g → f ≡ g)
+    (in_grammar : (bytes : List ℕ) (f : File) → IsOutlineOf bytes f → IsNotInGrammar bytes → ⊥)
+    (good : (bytes : List ℕ) (f : File) (place : ℕ) → IsOutlineOf bytes f → IsBadPlace bytes place → ⊥) where
+  of_grammar : (bytes : List ℕ) (f : File) → IsOutlineOf bytes f → IsOfGrammar bytes
+  of_grammar bytes f o = (λ place b. good bytes f place o b, λ n. in_grammar bytes f o n)
 
-pub sound_told : (p : Platform) (file : TreeFile) (r : Result FileAnswer ReadError) → ((e : TagError) → HasBadHeader p file e → ⊥) → IfOk r (λ _. (place : ℕ) → IsBadPlace file.bytes place → ⊥) → IfOk r (λ _. IsSound p file)
+  -- bytes that aren't read yet are of the grammar, and so are those that are read
+  pub grammar_not_yet : {bytes other : List ℕ} {e : SourceError} → bytes ≡ other → e ≡ source.NotYet → SourceCause bytes e → IsOfGrammar other
+  grammar_not_yet {bytes = bytes} b e c = let n : SourceCause bytes source.NotYet = subst (SourceCause bytes) e c in subst IsOfGrammar b (of_grammar bytes n.0 n.1)
+
+  pub grammar_read : {bytes other : List ℕ} (s : Source) → bytes ≡ other → IsSource bytes s → IsOfGrammar other
+  grammar_read {bytes = bytes} s b is = subst IsOfGrammar b (of_grammar bytes is.0 is.1)
+
+  pub not_yet : {bytes other : List ℕ} {e : SourceError} → bytes ≡ other → e ≡ source.NotYet → SourceCause bytes e → (s : Source) → IsSource other s → ⊥
+  not_yet {bytes = bytes} {other = other} {e = error} b e c s is =
+      let n : SourceCause other source.NotYet = subst (SourceCause other) e (subst (λ (bs : List ℕ). SourceCause bs error) b c) in
+      n.2 s (subst (λ (f : File). Declares f s) (one other is.0 n.0 is.1 n.1) is.2)
+
+pub sound_told : (p : Platform) (file : TreeFile) (r : Result FileAnswer ReadError) → ((e : TagError) → HasBadHeader p file e → ⊥) → IfOk r (λ _. IsOfGrammar file.bytes) → IfOk r (λ _. IsSound p file)
 sound_told p file (Ok a) good none = sound_read p file good none
 sound_told p file (Err e) good none = tt
 

@@ -1,8 +1,8 @@
--- The constants that the declarations of a file give, where each declares one constant by one
--- literal of a whole number.
--- Source: Go specification, "Constant declarations", in the first form of this project.
-use Rattle.std.specs.Prelude.{ℕ, ℤ, Bool, false, ◌&&◌, nat_le, Option, Some, None, List, [], ◌∷◌}
-use Rattle.go_model.specs.Lists.{Passes}
+-- The constants that the declarations of a file give, where each declares as many names as literals of
+-- whole numbers.
+-- Source: Go specification, "Constant declarations", "Blank identifier", "Package initialization" and
+-- "Program execution"; that no other constants are read yet is this project's own.
+use Rattle.std.specs.Prelude.{ℤ, ℕ, Bool, not, ◌||◌, if◌then◌else◌, bytes_eq, codes, Option, Some, None, List, [], ◌∷◌, ◌++◌}
 use Rattle.go_model.specs.declared.syntax.declaration.Decl.{Decl}
 use Rattle.go_model.specs.declared.syntax.declaration.Decl.TheVariants as decl
 use Rattle.go_model.specs.declared.syntax.declaration.ConstSpec.{ConstSpec}
@@ -11,6 +11,7 @@ use Rattle.go_model.specs.declared.syntax.expression.Expr.TheVariants as expr
 use Rattle.go_model.specs.declared.syntax.expression.Literal.{Literal}
 use Rattle.go_model.specs.declared.syntax.expression.Literal.TheVariants as literal
 use Rattle.go_model.specs.declared.syntax.name.Name.{Name}
+use Rattle.go_model.specs.Characters.{is_upper, BeginsPassing}
 use Rattle.api_gate.specs.declared.constants.Constant.{Constant}
 
 abbrev pub whole_number : Literal → Option ℤ
@@ -22,40 +23,50 @@ abbrev pub value_of : Expr → Option ℤ
 value_of (expr.Literal l) = whole_number l
 value_of e = None
 
+-- a name of a constant: `_` declares none, and `init` and `main` are left to functions
+abbrev pub is_plain : List ℕ → Bool
+is_plain name = not (bytes_eq name (codes "_") || bytes_eq name (codes "init") || bytes_eq name (codes "main"))
+
 abbrev pub named : Name → Option ℤ → Option Constant
 named name None = None
-named name (Some value) = Some (record { name = name.text; value = value })
-
-abbrev pub constant_by : List Name → List Expr → Option Constant
-constant_by (name ∷ []) (value ∷ []) = named name (value_of value)
-constant_by names values = None
-
--- one constant without a type
-abbrev pub untyped : {A : Type 0} → Option A → Option Constant → Option Constant
-untyped None c = c
-untyped (Some t) c = None
-
-abbrev pub constant_of_spec : ConstSpec → Option Constant
-constant_of_spec spec = untyped spec.type_ (constant_by spec.names spec.values)
-
--- the one constant of a declaration
-abbrev pub constant_of : Decl → Option Constant
-constant_of (decl.ConstGroup (spec ∷ [])) = constant_of_spec spec
-constant_of d = None
+named name (Some value) = if is_plain name.text then Some (record { name = name.text; value = value }) else None
 
 abbrev pub then_first : Option Constant → Option (List Constant) → Option (List Constant)
 then_first (Some c) (Some cs) = Some (c ∷ cs)
 then_first c cs = None
 
--- the constants of all declarations in their order
+-- one constant for each name, by the value at its place
+abbrev pub constants_by : List Name → List Expr → Option (List Constant)
+constants_by [] [] = Some []
+constants_by (name ∷ names) (value ∷ values) = then_first (named name (value_of value)) (constants_by names values)
+constants_by names values = None
+
+-- constants without a type
+abbrev pub untyped : {A : Type 0} → Option A → Option (List Constant) → Option (List Constant)
+untyped None cs = cs
+untyped (Some t) cs = None
+
+abbrev pub constants_of_spec : ConstSpec → Option (List Constant)
+constants_of_spec spec = untyped spec.type_ (constants_by spec.names spec.values)
+
+abbrev pub then_all : Option (List Constant) → Option (List Constant) → Option (List Constant)
+then_all (Some before) (Some after) = Some (before ++ after)
+then_all before after = None
+
+-- the constants that each item gives, in order
+abbrev pub constants_of_each : {A : Type 0} → (A → Option (List Constant)) → List A → Option (List Constant)
+constants_of_each f [] = Some []
+constants_of_each f (x ∷ xs) = then_all (f x) (constants_of_each f xs)
+
+-- the constants of a declaration, which is a group of them
+abbrev pub constants_of_decl : Decl → Option (List Constant)
+constants_of_decl (decl.ConstGroup specs) = constants_of_each constants_of_spec specs
+constants_of_decl d = None
+
+-- the constants of all declarations
 abbrev pub constants_of : List Decl → Option (List Constant)
-constants_of [] = Some []
-constants_of (d ∷ ds) = then_first (constant_of d) (constants_of ds)
+constants_of decls = constants_of_each constants_of_decl decls
 
-abbrev pub begins_upper : List ℕ → Bool
-begins_upper [] = false
-begins_upper (b ∷ bs) = nat_le 65 b && nat_le b 90
-
--- each name begins with an upper-case letter
-abbrev pub AreExported : List Constant → Type 0
-AreExported cs = Passes (λ c. begins_upper c.name) cs
+-- the name begins with an upper-case letter
+abbrev pub IsExported : Constant → Type 0
+IsExported c = BeginsPassing is_upper c.name

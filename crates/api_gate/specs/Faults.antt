@@ -1,6 +1,7 @@
 -- Which files of a tree a platform chooses, and the first one that is refused.
--- Source: "Build constraints" of Go's package go/build and the Go specification, "Lexical elements";
--- that only the headers of files whose names the platform allows are read is this project's own.
+-- Source: "Build constraints" of Go's package go/build and the Go specification, "Lexical elements" and
+-- "Source file organization"; that only the headers of files whose names the platform allows are read is
+-- this project's own.
 use Rattle.std.specs.Prelude.{◌≡◌, ◌⊎◌, true, None, List, [], ◌∷◌}
 use Rattle.go_model.specs.declared.build.Header.{Header}
 use Rattle.go_model.specs.declared.platform.Platform.{Platform}
@@ -12,6 +13,7 @@ use Rattle.go_tags.specs.HeaderCauses.{HasCause, IsOwnCause}
 use Rattle.go_tags.specs.declared.error.TagError.{TagError}
 use Rattle.api_gate.specs.declared.refusals.FileFault.{FileFault}
 use Rattle.api_gate.specs.declared.refusals.FileFault.TheVariants as fault
+use Rattle.api_gate.specs.Outlines.{IsNotInGrammar}
 
 -- the platform chooses the file, by its name and the build expression of its header
 abbrev pub IsChosen : Platform → TreeFile → Type 0
@@ -23,10 +25,12 @@ pub record HasBadHeader (p : Platform) (file : TreeFile) (error : TagError) : Ty
   pub own : IsOwnCause error
   pub cause : HasCause file.bytes error
 
--- the file's header is refused, or the file is chosen and at a place in it stands no token
+-- the file's header is refused; or the file is chosen, and at a place in it stands no token, or it has
+-- tokens and no outline
 abbrev pub IsFaulty : Platform → TreeFile → FileFault → Type 0
 IsFaulty p file (fault.BadHeader error) = HasBadHeader p file error
 IsFaulty p file (fault.BadToken place) = IsChosen p file × IsBadPlace file.bytes place
+IsFaulty p file fault.Syntax = IsChosen p file × IsNotInGrammar file.bytes
 
 -- the file isn't refused
 abbrev pub IsSound : Platform → TreeFile → Type 0

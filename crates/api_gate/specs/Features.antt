@@ -1,4 +1,4 @@
--- The feature lines of constants of whole numbers, and the report that holds each of them once.
+-- The feature lines of exported constants of whole numbers, and the report that holds each of them once.
 -- Source: the lines that Go's cmd/api writes to its files api/go1.txt and later; which packages are
 -- public is this project's own, after "Internal packages" of the Go command's documentation.
 use Rattle.std.specs.Prelude.{◌≡◌, ◌≢◌, ◌⊎◌, ℕ, Bool, true, not, nat_eq, bytes_eq, List, [], ◌∷◌, ◌++◌, codes}
@@ -11,6 +11,7 @@ use Rattle.go_load.specs.Names.{place}
 use Rattle.go_model.specs.Lists.{Has}
 use Rattle.api_gate.specs.declared.constants.Constant.{Constant}
 use Rattle.api_gate.specs.declared.reading.FileSource.{FileSource}
+use Rattle.api_gate.specs.Constants.{IsExported}
 
 -- a byte ends an element of a path
 abbrev pub is_slash : ℕ → Bool
@@ -32,11 +33,11 @@ value_line path c = codes "pkg " ++ path ++ codes ", const " ++ c.name ++ (codes
 abbrev pub kind_line : List ℕ → Constant → List ℕ
 kind_line path c = codes "pkg " ++ path ++ codes ", const " ++ c.name ++ codes " ideal-int"
 
--- a constant's two lines
+-- one of the two lines of an exported constant; another constant has none
 abbrev pub IsLineOf : List ℕ → Constant → List ℕ → Type 0
-IsLineOf path c line = (value_line path c ≡ line) ⊎ (kind_line path c ≡ line)
+IsLineOf path c line = IsExported c × ((value_line path c ≡ line) ⊎ (kind_line path c ≡ line))
 
--- a line of a constant that a file of a public package declares
+-- a line of an exported constant that a file of a public package declares
 abbrev pub IsFeatureOf : List ℕ → FileSource → List ℕ → Type 0
 IsFeatureOf module_path s line = IsPublic module_path s × (c : Constant) × Has s.source.constants c × IsLineOf (place module_path s.folder) c line
 

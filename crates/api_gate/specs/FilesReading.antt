@@ -1,6 +1,8 @@
 -- What the functions that read the files of a tree answer.
 use Rattle.std.specs.Prelude.{◌≡◌, ℕ, Bool, true, false, Option, Some, None, List, [], ◌∷◌, ◌++◌}
 use Rattle.go_model.specs.declared.platform.Platform.{Platform}
+use Rattle.go_model.specs.declared.syntax.declaration.File.{File}
+use Rattle.go_model.specs.declared.token.Token.{Token}
 use Rattle.go_model.specs.declared.tree.TreeFile.{TreeFile}
 use Rattle.go_model.specs.Lexemes.{IsBadPlace}
 use Rattle.api_gate.specs.declared.reading.FileAnswer.{FileAnswer}
@@ -13,25 +15,44 @@ use Rattle.api_gate.specs.declared.source.Source.{Source}
 use Rattle.api_gate.specs.declared.source.SourceError.{SourceError}
 use Rattle.api_gate.specs.declared.source.SourceError.TheVariants as source
 use Rattle.api_gate.specs.Faults.{IsChosen, IsFaulty, IsFirstFaulty}
+use Rattle.api_gate.specs.Outlines.{HasNoOutline, IsNotInGrammar, IsOutlineOf}
 use Rattle.api_gate.specs.Refusals.{file_line, new_side}
-use Rattle.api_gate.specs.Sources.{AreSources, IsFileSource, IsSource}
+use Rattle.api_gate.specs.Sources.{AreSources, Declares, IsFileSource}
 
 -- whether the platform chooses the file
 pub record Tells (p : Platform) (file : TreeFile) (flag : Bool) : Type 0 where
   pub chosen : flag ≡ true → IsChosen p file
   pub left : flag ≡ false → IsChosen p file → ⊥
 
+-- the outline has an import, or a declaration that isn't read yet
+abbrev pub DeclaresMore : File → Type 0
+DeclaresMore f = (s : Source) → Declares f s → ⊥
+
 -- why bytes declare nothing: want of memory may come at any time
 abbrev pub SourceCause : List ℕ → SourceError → Type 0
 SourceCause bytes (source.BadToken place) = IsBadPlace bytes place
-SourceCause bytes source.NotYet = ((place : ℕ) → IsBadPlace bytes place → ⊥) × ((s : Source) → IsSource bytes s → ⊥)
+SourceCause bytes source.Syntax = IsNotInGrammar bytes
+SourceCause bytes source.NotYet = (f : File) × IsOutlineOf bytes f × DeclaresMore f
 SourceCause bytes source.NoMemory = Unit {0}
 
--- why tokens or a tree declare nothing
-abbrev pub FormCause : Type 0 → SourceError → Type 0
-FormCause none (source.BadToken place) = ⊥
-FormCause none source.NotYet = none
-FormCause none source.NoMemory = Unit {0}
+-- why bytes have no outline
+abbrev pub OutlineCause : List ℕ → SourceError → Type 0
+OutlineCause bytes source.NotYet = ⊥
+OutlineCause bytes e = SourceCause bytes e
+
+-- why tokens have no outline
+abbrev pub SyntaxCause : List Token → SourceError → Type 0
+SyntaxCause tokens (source.BadToken place) = ⊥
+SyntaxCause tokens source.Syntax = HasNoOutline tokens
+SyntaxCause tokens source.NotYet = ⊥
+SyntaxCause tokens source.NoMemory = Unit {0}
+
+-- why an outline declares nothing
+abbrev pub FormCause : File → SourceError → Type 0
+FormCause f (source.BadToken place) = ⊥
+FormCause f source.Syntax = ⊥
+FormCause f source.NotYet = DeclaresMore f
+FormCause f source.NoMemory = Unit {0}
 
 -- what a file that isn't refused gives
 abbrev pub Gives : Platform → TreeFile → FileAnswer → Type 0
@@ -44,7 +65,7 @@ abbrev pub FileCause : Platform → TreeFile → ReadError → Type 0
 FileCause p file (error.Refused line) = (f : FileFault) × IsFaulty p file f × (line ≡ file_line new_side p file f)
 FileCause p file error.NoMemory = Unit {0}
 
--- what the files of a tree declare, or that one of them isn't of the form that is read today
+-- what the chosen files of a tree declare, or that one of them isn't read yet
 abbrev pub ReadAs : Platform → List TreeFile → Option (List FileSource) → Type 0
 ReadAs p files (Some sources) = AreSources p files sources
 ReadAs p files None = (sources : List FileSource) → AreSources p files sources → ⊥

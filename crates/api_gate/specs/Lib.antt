@@ -1,4 +1,5 @@
 pub mod Constants
+pub mod ConstantsReading
 pub mod Delivery
 pub mod Faults
 pub mod Features
@@ -7,6 +8,7 @@ pub mod FilesReading
 pub mod Growing
 pub mod NamesReading
 pub mod Outcome
+pub mod Outlines
 pub mod Refusals
 pub mod RefusalsReading
 pub mod Runs

@@ -71,11 +71,12 @@ line_at bytes offset = 1 + length (filter is_newline (take offset bytes))
 abbrev pub column_at : List ℕ → ℕ → ℕ
 column_at bytes offset = 1 + length (last_line (take offset bytes))
 
--- `PATH: WHY` or `PATH:LINE:COLUMN: not a token`
+-- `PATH: WHY`, or `PATH:LINE:COLUMN: not a token`
 abbrev pub file_text : TreeFile → FileFault → List ℕ
 file_text file (fault.BadHeader error) = file_path file ++ codes ": " ++ tag_text error
 file_text file (fault.BadToken place) =
     file_path file ++ codes ":" ++ signed_decimal (pos (line_at file.bytes place)) ++ codes ":" ++ signed_decimal (pos (column_at file.bytes place)) ++ codes ": not a token"
+file_text file fault.Syntax = file_path file ++ codes ": not in the grammar of this profile"
 
 -- a file of the tree at this side is refused on a platform
 abbrev pub file_line : List ℕ → Platform → TreeFile → FileFault → List ℕ

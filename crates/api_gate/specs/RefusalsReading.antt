@@ -8,3 +8,4 @@ use Rattle.api_gate.specs.declared.refusals.FileFault.TheVariants as fault
 abbrev pub IsWithin : TreeFile → FileFault → Type 0
 IsWithin file (fault.BadHeader error) = Unit {0}
 IsWithin file (fault.BadToken place) = place ≤ length file.bytes
+IsWithin file fault.Syntax = Unit {0}

@@ -1,33 +1,27 @@
--- What a source file declares, by its tokens and its syntax, and what the chosen files of a tree declare.
--- Source: Go specification, "Source file organization", "Packages" and "Constant declarations". What
--- is read today is the first form: no import, and constants each declared by one literal of a whole number.
+-- What a source file declares, by its outline, and what the chosen files of a tree declare.
+-- Source: Go specification, "Source file organization", "Packages" and "Declarations and scope"; that
+-- imports aren't read yet is this project's own.
 use Rattle.std.specs.Prelude.{◌≡◌, ℕ, List, [], ◌∷◌, ◌++◌, Some, map}
 use Rattle.go_model.specs.declared.platform.Platform.{Platform}
 use Rattle.go_model.specs.declared.syntax.declaration.File.{File}
-use Rattle.go_model.specs.declared.token.Token.{Token}
 use Rattle.go_model.specs.declared.tree.TreeFile.{TreeFile}
-use Rattle.go_model.specs.Lists.{Has, Each, Once}
-use Rattle.go_model.specs.Outline.{IsOutline}
-use Rattle.go_model.specs.Tokens.{IsTokens}
+use Rattle.go_model.specs.Lists.{Has, Once}
 use Rattle.api_gate.specs.declared.constants.Constant.{Constant}
 use Rattle.api_gate.specs.declared.source.Source.{Source}
 use Rattle.api_gate.specs.declared.reading.FileSource.{FileSource}
 use Rattle.api_gate.specs.Faults.{IsChosen}
-use Rattle.api_gate.specs.Constants.{constants_of, AreExported}
+use Rattle.api_gate.specs.Constants.{constants_of}
+use Rattle.api_gate.specs.Outlines.{IsOutlineOf}
 
--- the syntax tree has no import, has this package name and declares these constants
+-- the outline has no import, has this package name and declares these constants
 pub record Declares (outline : File) (source : Source) : Type 0 where
   pub no_import : outline.imports ≡ []
   pub package_name : source.package_name ≡ outline.«package».text
   pub constants : Some source.constants ≡ constants_of outline.decls
 
--- the tokens have a tree, and it declares these
-abbrev pub IsParsed : List Token → Source → Type 0
-IsParsed tokens source = (outline : File) × IsOutline tokens outline × Declares outline source
-
--- the bytes have tokens with such a tree
+-- the bytes have an outline that declares this
 abbrev pub IsSource : List ℕ → Source → Type 0
-IsSource bytes source = (tokens : List Token) × IsTokens bytes tokens × IsParsed tokens source
+IsSource bytes source = (outline : File) × IsOutlineOf bytes outline × Declares outline source
 
 -- the file declares this
 pub record IsFileSource (file : TreeFile) (s : FileSource) : Type 0 where
@@ -57,8 +51,7 @@ declared (s ∷ sources) = declared_in s ++ declared sources
 abbrev pub AreOfOnePackage : List FileSource → Type 0
 AreOfOnePackage sources = (s t : FileSource) → Has sources s → Has sources t → s.folder ≡ t.folder → s.source.package_name ≡ t.source.package_name
 
--- each name is exported and is declared once in its folder, and the files of one folder have one package name
+-- the files of one folder have one package name, and each name is declared once in its folder
 pub record ArePackages (sources : List FileSource) : Type 0 where
-  pub exported : Each (λ (s : FileSource). AreExported s.source.constants) sources
   pub one_name : AreOfOnePackage sources
   pub once : Once (declared sources)

@@ -1,4 +1,4 @@
-//! Feature lines of constants, and the report that holds each once in the order of bytes.
+//! Feature lines of exported constants, and the report that holds each once in the order of bytes.
 ghost use Rattle.std.specs.Prelude.{◌≡◌, ◌≢◌, ◌⊎◌, IfOk, OnOk, Decides, List, [], ◌++◌, ◌∷◌, true, codes, ℕ};
 ghost use Rattle.std.specs.Fmt.{signed_decimal};
 ghost use Rattle.std.specs.List.{list_all, slice_split};
@@ -10,6 +10,7 @@ ghost use Rattle.api_gate.specs.FeaturesReading.{IsLineOfSome};
 use crate::constants::Constant;
 use crate::reading::FileSource;
 use go_load::names::place;
+use go_model::characters::is_exported;
 use go_model::memory::NoMemory;
 use go_model::text::Text;
 use itoa::Buffer;
@@ -60,6 +61,9 @@ fn add_constant(
 ) -> Result<(), NoMemory>
     ensures { OnOk result (Grows (IsLineOf path.now constant.now) lines.old.keys lines.new.keys) }
 {
+    if !is_exported(constant.name.bytes()) {
+        return Ok(());
+    }
     insert(lines, value_line(alloc, path, constant)?)?;
     insert(lines, kind_line(alloc, path, constant)?)
 }

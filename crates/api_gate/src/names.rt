@@ -1,52 +1,16 @@
 //! The names that the files of a tree declare, and those of their packages.
 ghost use Rattle.std.specs.Prelude.{◌≡◌, List, IfOk, true, false};
-ghost use Rattle.go_model.specs.Lists.{Each, Has, Once};
+ghost use Rattle.go_model.specs.Lists.{Has, Once};
 ghost use Rattle.api_gate.specs.declared.reading.FileSource.{FileSource};
-ghost use Rattle.api_gate.specs.Constants.{AreExported, begins_upper};
 ghost use Rattle.api_gate.specs.Growing.{Grows};
 ghost use Rattle.api_gate.specs.NamesReading.{Adds, TellsOnce};
 ghost use Rattle.api_gate.specs.Sources.{AreOfOnePackage, ArePackages, declared, declared_in};
 
-use crate::constants::Constant;
 use crate::reading::FileSource;
 use go_model::memory::NoMemory;
 use go_model::text::Text;
 use std::alloc::Global;
 use std::collections::BTreeSet;
-
-fn begins_upper(name: &[u8]) -> bool
-    ensures { result ≡ begins_upper name.now }
-{
-    match name.first() {
-        None => false,
-        Some(first) => first.is_ascii_uppercase(),
-    }
-}
-
-// Whether each name begins with an upper-case letter.
-fn are_exported(constants: &[Constant]) -> bool
-    ensures yes { result ≡ true → AreExported constants.now }
-    ensures no { result ≡ false → AreExported constants.now → ⊥ }
-{
-    for constant in constants {
-        if !begins_upper(constant.name.bytes()) {
-            return false;
-        }
-    }
-    true
-}
-
-fn are_all_exported(sources: &[FileSource]) -> bool
-    ensures yes { result ≡ true → Each (λ (s : FileSource). AreExported s.source.constants) sources.now }
-    ensures no { result ≡ false → Each (λ (s : FileSource). AreExported s.source.constants) sources.now → ⊥ }
-{
-    for file in sources {
-        if !are_exported(file.source.constants.items()) {
-            return false;
-        }
-    }
-    true
-}
 
 fn add_folder(folders: &mut BTreeSet<Text>, folder: Text) -> Result<bool, NoMemory>
     ensures { IfOk result (Adds folders.old.keys folder folders.new.keys) }
@@ -116,13 +80,10 @@ fn are_declared_once(alloc: Global, sources: &[FileSource]) -> Result<bool, NoMe
 }
 
 /// Whether the files of each folder are of one package, and each name is declared once in its
-/// package and is exported.
+/// package.
 pub fn are_packages(alloc: Global, sources: &[FileSource]) -> Result<bool, NoMemory>
     ensures { IfOk result (λ fit. (fit ≡ true → ArePackages sources.now) × (fit ≡ false → ArePackages sources.now → ⊥)) }
 {
-    if !are_all_exported(sources) {
-        return Ok(false);
-    }
     if !are_of_one_package(alloc, sources)? {
         return Ok(false);
     }

@@ -7,6 +7,7 @@ ghost use Rattle.go_model.specs.declared.tree.TreeFile.{TreeFile};
 ghost use Rattle.go_tags.specs.HeaderCauses.{IsOwnCause};
 ghost use Rattle.go_tags.specs.declared.error.TagError.{TagError};
 ghost use Rattle.go_model.specs.Lexemes.{IsBadPlace};
+ghost use Rattle.api_gate.specs.Outlines.{IsNotInGrammar};
 ghost use Rattle.api_gate.specs.Faults.{HasBadHeader, IsChosen, IsFaulty, IsSound};
 ghost use Rattle.api_gate.specs.FilesReading.{Added, FileCause, Gives, ReadAs, ReadCause, Tells};
 ghost use Rattle.api_gate.specs.RefusalsReading.{IsWithin};
@@ -14,7 +15,7 @@ ghost use Rattle.api_gate.specs.Sources.{AreSources};
 ghost use Rattle.api_gate.specs.declared.reading.FileSource.{FileSource};
 
 use crate::refusals::{FileFault, NEW_SIDE, file_line};
-use crate::source::{Source, SourceError, one_source, read_source};
+use crate::source::{Source, SourceError, one_outline, one_source, read_source};
 use go_model::list::List;
 use go_model::memory::NoMemory;
 use go_model::platform::Platform;
@@ -38,7 +39,7 @@ pub struct FileSource {
 pub enum FileAnswer {
     /// The platform doesn't choose it.
     LeftOut,
-    /// It isn't of the form that is read today.
+    /// It has an outline that isn't read yet.
     NotYet,
     Declares(FileSource),
 }
@@ -103,12 +104,14 @@ fn refuse_header(alloc: Global, platform: Platform, file: &TreeFile, error: TagE
 fn read_chosen(alloc: Global, platform: Platform, file: &TreeFile) -> Result<FileAnswer, ReadError>
     requires { length file.now.bytes ≤ 4194304 }
     ensures answer { IfOk result (λ answer. IsChosen platform file.now → Gives platform file.now answer) }
-    ensures sound { IfOk result (λ _. (place : ℕ) → IsBadPlace file.now.bytes place → ⊥) }
+    ensures sound { IfOk result (λ _. ((place : ℕ) → IsBadPlace file.now.bytes place → ⊥) × (IsNotInGrammar file.now.bytes → ⊥)) }
     ensures cause { IfErr result (λ e. IsChosen platform file.now → FileCause platform file.now e) }
 {
+    one_outline();
     match read_source(alloc, file.bytes.bytes()) {
         Err(SourceError::NoMemory) => Err(ReadError::NoMemory),
         Err(SourceError::NotYet) => Ok(FileAnswer::NotYet),
+        Err(SourceError::Syntax) => Err(refuse(alloc, platform, file, FileFault::Syntax)),
         Err(SourceError::BadToken(place)) => Err(refuse(
             alloc,
             platform,
@@ -135,7 +138,7 @@ fn read_file(alloc: Global, platform: Platform, file: &TreeFile) -> Result<FileA
     }
 }
 
-// Adds what a file declares; the result says whether all files so far are of the form.
+// Adds what a file declares; the result says whether all files so far are read.
 fn add(sources: &mut List<FileSource>, is_read: bool, answer: FileAnswer) -> Result<bool, NoMemory>
     ensures { IfOk result (Added answer sources.old is_read sources.new) }
 {
@@ -150,7 +153,7 @@ fn add(sources: &mut List<FileSource>, is_read: bool, answer: FileAnswer) -> Res
 }
 
 /// What the files that the platform chooses declare, in their order, or `None` where one of them isn't
-/// of the form that is read today. The header of a file is read once, and only where the platform
+/// read yet. The header of a file is read once, and only where the platform
 /// allows the file's name. `Refused` has the fault line of the first file that is refused.
 pub fn read_files(
     alloc: Global,

@@ -1,7 +1,7 @@
 //! The fault lines of refusals.
 ghost use Rattle.std.specs.Prelude.{◌≡◌, ◌≤◌, ◌++◌, IfOk, codes, length, take};
 ghost use Rattle.std.specs.List.{filter};
-ghost use Rattle.api_gate.specs.Refusals.{fault_line, file_line, file_text, is_newline, last_line, limit_text, load_line, tag_text};
+ghost use Rattle.api_gate.specs.Refusals.{fault_line, file_line, file_path, file_text, is_newline, last_line, limit_text, load_line, tag_text};
 ghost use Rattle.api_gate.specs.RefusalsReading.{IsWithin};
 ghost use Rattle.api_gate.specs.declared.refusals.FileFault.TheVariants as fault;
 
@@ -25,6 +25,8 @@ pub enum FileFault {
     BadHeader(TagError),
     /// At this byte offset stands no token.
     BadToken(u32),
+    /// It has tokens and no outline.
+    Syntax,
 }
 
 fn fault_line(alloc: Global, place: &[u8], what: &[u8]) -> Result<Text, NoMemory>
@@ -119,14 +121,22 @@ fn last_line_len(bytes: &[u8]) -> usize
     len
 }
 
-fn header_text(alloc: Global, file: &TreeFile, error: TagError) -> Result<Text, NoMemory>
-    ensures { IfOk result (λ text. text ≡ file_text file.now (fault.BadHeader error)) }
+// The path of a file, and what is wrong with it.
+fn path_text(alloc: Global, file: &TreeFile, what: &[u8]) -> Result<Text, NoMemory>
+    ensures { IfOk result (λ text. text ≡ file_path file.now ++ what.now) }
 {
     let path = under(alloc, file.folder.bytes(), file.name.bytes())?;
     let mut text = path.into_vec();
-    text.extend_from_slice(b": ")?;
-    text.extend_from_slice(tag_text(error))?;
+    text.extend_from_slice(what)?;
     Ok(Text::from_vec(text))
+}
+
+fn header_text(alloc: Global, file: &TreeFile, error: TagError) -> Result<Text, NoMemory>
+    ensures { IfOk result (λ text. text ≡ file_text file.now (fault.BadHeader error)) }
+{
+    let mut what = Vec::from_slice(alloc, b": ")?;
+    what.extend_from_slice(tag_text(error))?;
+    path_text(alloc, file, &what)
 }
 
 // The bytes before an offset.
@@ -164,6 +174,7 @@ fn file_text(alloc: Global, file: &TreeFile, fault: FileFault) -> Result<Text, N
     match fault {
         FileFault::BadHeader(error) => header_text(alloc, file, error),
         FileFault::BadToken(place) => token_text(alloc, file, place),
+        FileFault::Syntax => path_text(alloc, file, b": not in the grammar of this profile"),
     }
 }
 

@@ -19,6 +19,7 @@ use crate::features::{one_report, report};
 use crate::names::are_packages;
 use crate::reading::{FileSource, ReadError, one_sources, read_files};
 use crate::refusals::{NEW_SIDE, load_line};
+use crate::source::one_outline;
 use crate::status::Status;
 use crate::words::{Request, one_request, read_words};
 use go_lex::scan::one_list;
@@ -175,6 +176,7 @@ pub fn one_outcome()
     one_answer();
     one_header();
     one_list();
+    one_outline();
     one_sources();
     one_report();
 }

@@ -1,11 +1,12 @@
-//! A source file of the first form.
+//! What a source file declares.
 ghost use Rattle.std.specs.Prelude.{◌≡◌, ◌≤◌, ℕ, List, IfOk, IfErr, length};
 ghost use Rattle.go_model.specs.Lexemes.{IsBadPlace};
 ghost use Rattle.go_model.specs.declared.syntax.declaration.File.{File};
-ghost use Rattle.go_model.specs.Outline.{IsOutline};
+ghost use Rattle.go_model.specs.SourceFiles.{HasOutline};
 ghost use Rattle.api_gate.specs.declared.source.Source.{Source};
-ghost use Rattle.api_gate.specs.FilesReading.{FormCause, SourceCause};
-ghost use Rattle.api_gate.specs.Sources.{Declares, IsParsed, IsSource};
+ghost use Rattle.api_gate.specs.FilesReading.{FormCause, OutlineCause, SourceCause, SyntaxCause};
+ghost use Rattle.api_gate.specs.Outlines.{IsNotInGrammar, IsOutlineOf};
+ghost use Rattle.api_gate.specs.Sources.{Declares, IsSource};
 
 use crate::constants::{Constant, constants_of};
 use go_lex::error::LexError;
@@ -19,7 +20,7 @@ use go_parse::error::ParseError;
 use go_parse::outline::{one_tree, parse_outline};
 use std::alloc::Global;
 
-/// What a source file of the first form declares.
+/// What a source file declares that is read today.
 #[derive(Debug, Drop)]
 pub struct Source {
     /// The name in its package clause.
@@ -32,7 +33,9 @@ pub struct Source {
 pub enum SourceError {
     /// At this byte offset stands no token.
     BadToken(u32),
-    /// It isn't of the form that is read today.
+    /// It has tokens and no outline.
+    Syntax,
+    /// It has an outline, which isn't read yet.
     NotYet,
     NoMemory,
 }
@@ -50,7 +53,7 @@ impl From<NoMemory> for SourceError {
 
 fn source_of(alloc: Global, outline: &File) -> Result<Source, SourceError>
     ensures ok { IfOk result (Declares outline.now) }
-    ensures cause { IfErr result (FormCause ((s : Source) → Declares outline.now s → ⊥)) }
+    ensures cause { IfErr result (FormCause outline.now) }
 {
     if !outline.imports.items().is_empty() {
         return Err(SourceError::NotYet);
@@ -64,49 +67,59 @@ fn source_of(alloc: Global, outline: &File) -> Result<Source, SourceError>
     })
 }
 
-// The tree of these tokens, which are given up.
-fn outline_of(alloc: Global, tokens: List<Token>) -> Result<File, SourceError>
-    ensures ok { IfOk result (IsOutline tokens) }
-    ensures cause { IfErr result (FormCause ((f : File) → IsOutline tokens f → ⊥)) }
+// The outline of these tokens, which are given up.
+fn parse(alloc: Global, tokens: List<Token>) -> Result<File, SourceError>
+    ensures ok { IfOk result (HasOutline tokens) }
+    ensures cause { IfErr result (SyntaxCause tokens) }
 {
     match parse_outline(alloc, tokens.items()) {
         Err(ParseError::NoMemory) => Err(SourceError::NoMemory),
-        Err(ParseError::Syntax) => Err(SourceError::NotYet),
+        Err(ParseError::Syntax) => Err(SourceError::Syntax),
         Ok(outline) => Ok(outline),
     }
 }
 
-fn parse_source(alloc: Global, tokens: List<Token>) -> Result<Source, SourceError>
-    ensures ok { IfOk result (IsParsed tokens) }
-    ensures cause { IfErr result (FormCause ((s : Source) → IsParsed tokens s → ⊥)) }
+fn outline_of(alloc: Global, bytes: &[u8]) -> Result<File, SourceError>
+    requires { length bytes.now ≤ 4194304 }
+    ensures ok { IfOk result (IsOutlineOf bytes.now) }
+    ensures cause { IfErr result (OutlineCause bytes.now) }
 {
-    one_tree();
-    match outline_of(alloc, tokens) {
+    match scan(alloc, bytes) {
+        Err(LexError::NoMemory) => Err(SourceError::NoMemory),
+        Err(LexError::BadToken(place)) => Err(SourceError::BadToken(place)),
+        Ok(tokens) => parse(alloc, tokens),
+    }
+}
+
+/// What the bytes of a source file declare. `BadToken` comes exactly where they have no tokens, with the
+/// bad place, `Syntax` exactly where they have tokens without an outline, and `NotYet` exactly where
+/// they have an outline that isn't read yet.
+pub fn read_source(alloc: Global, bytes: &[u8]) -> Result<Source, SourceError>
+    requires { length bytes.now ≤ 4194304 }
+    ensures source { IfOk result (IsSource bytes.now) }
+    ensures cause { IfErr result (SourceCause bytes.now) }
+{
+    match outline_of(alloc, bytes) {
         Err(error) => Err(error),
         Ok(outline) => source_of(alloc, &outline),
     }
 }
 
-/// What the bytes of a source file declare. `BadToken` comes exactly where they have no tokens, with the
-/// bad place, and `NotYet` exactly where they have, and aren't of the form that is read today.
-pub fn read_source(alloc: Global, bytes: &[u8]) -> Result<Source, SourceError>
-    requires { length bytes.now ≤ 4194304 }
-    ensures source { IfOk result (IsSource bytes.now) }
-    ensures sound { IfOk result (λ _. (place : ℕ) → IsBadPlace bytes.now place → ⊥) }
-    ensures cause { IfErr result (SourceCause bytes.now) }
+/// The bytes of a source file have one outline, or a place without a token, or tokens without an
+/// outline, and never two of these.
+pub fn one_outline()
+    ensures one { (bytes : List ℕ) (f g : File) → IsOutlineOf bytes f → IsOutlineOf bytes g → f ≡ g }
+    ensures in_grammar { (bytes : List ℕ) (f : File) → IsOutlineOf bytes f → IsNotInGrammar bytes → ⊥ }
+    ensures good { (bytes : List ℕ) (f : File) (place : ℕ) → IsOutlineOf bytes f → IsBadPlace bytes place → ⊥ }
+    ensures tokens { (bytes : List ℕ) (place : ℕ) → IsBadPlace bytes place → IsNotInGrammar bytes → ⊥ }
 {
     one_list();
-    match scan(alloc, bytes) {
-        Err(LexError::NoMemory) => Err(SourceError::NoMemory),
-        Err(LexError::BadToken(place)) => Err(SourceError::BadToken(place)),
-        Ok(tokens) => parse_source(alloc, tokens),
-    }
+    one_tree();
 }
 
 /// The bytes of a source file declare at most one thing.
 pub fn one_source()
     ensures { (bytes : List ℕ) (a b : Source) → IsSource bytes a → IsSource bytes b → a ≡ b }
 {
-    one_list();
-    one_tree();
+    one_outline();
 }

@@ -1,5 +1,5 @@
 pub mod Declarations
-pub mod Parsing
+pub mod Levels
 pub mod Reading
 pub mod Reads
 pub mod Rules

@@ -6,7 +6,7 @@ use Rattle.go_model.specs.declared.syntax.name.Name.{Name}
 use Rattle.go_model.specs.declared.token.TokenKind.{TokenKind}
 use Rattle.go_model.specs.declared.token.TokenKind.TheVariants as kind
 use Rattle.go_model.specs.Symbols.{begins, closes}
-use Rattle.go_model.specs.Terminals.{Terminal, Identifier, Basic}
+use Rattle.go_model.specs.Terminals.{Terminal, Identifier, Basic, Odd}
 
 -- what is found, and what is left
 abbrev pub Found : Type 0 → Type 0
@@ -96,6 +96,11 @@ abbrev pub begins_name : List Terminal → Bool
 begins_name (Identifier n ∷ ts) = true
 begins_name _ = false
 
+-- whether the next token's kind and value don't fit together
+abbrev pub begins_odd : List Terminal → Bool
+begins_odd (Odd ∷ ts) = true
+begins_odd _ = false
+
 -- the literal that is next
 abbrev pub literal_at : List Terminal → Option Literal
 literal_at (Basic l place ∷ ts) = Some l
@@ -105,13 +110,3 @@ literal_at _ = None
 abbrev pub string_at : List Terminal → Option (List ℕ × ℕ)
 string_at (Basic (literal.Str text) place ∷ ts) = Some (text, place)
 string_at _ = None
-
--- the integer literal that a terminal is
-abbrev pub integer_of : Terminal → Option Literal
-integer_of (Basic (literal.Int n) place) = Some (literal.Int n)
-integer_of (Basic literal.Wide place) = Some literal.Wide
-integer_of _ = None
-
-abbrev pub integer : Reader Literal
-integer [] = None
-integer (t ∷ ts) = found_at (integer_of t) ts

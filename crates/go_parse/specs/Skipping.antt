@@ -24,6 +24,11 @@ after_terminal (Identifier n) still = Some still
 after_terminal (Basic l place) still = Some still
 after_terminal Odd still = None
 
+-- the same after the next terminal, if there is one
+abbrev pub after_next : List Terminal → List TokenKind → Option (List TokenKind)
+after_next [] still = Some still
+after_next (t ∷ ts) still = after_terminal t still
+
 -- the end of the bracket that closes last, and what is left after it
 abbrev pub end_of : Terminal → ℕ
 end_of (Sign k at) = at.1
@@ -48,10 +53,20 @@ abbrev pub bracketed : List Terminal → Found ℕ
 bracketed (Sign k at ∷ ts) = bracketed_by (closer k) ts
 bracketed _ = None
 
+-- the bracket that closes the one that is next
+abbrev pub closer_of : Option TokenKind → Option TokenKind
+closer_of None = None
+closer_of (Some k) = closer k
+
 -- the byte offset at which a keyword or an operator starts
 abbrev pub start_at : List Terminal → ℕ
 start_at (Sign k at ∷ ts) = at.0
 start_at _ = 0
+
+-- the byte offset at which it ends
+abbrev pub end_at : List Terminal → ℕ
+end_at [] = 0
+end_at (t ∷ ts) = end_of t
 
 -- a body that is skipped
 unfoldable pub skipped_body : Reader Block
@@ -82,6 +97,23 @@ past_front ts =
     if begins kind.InterfaceWord ts then past_brackets true (bracketed (drop 1 ts)) else
     if begins kind.FuncWord ts then past_result (bracketed (drop 1 ts)) else
     if begins_name ts then More true (past_name (drop 1 ts)) else Fail
+
+-- the same by the keyword or the operator that is next
+abbrev pub front_of : TokenKind → List Terminal → Next Bool
+front_of kind.Multiply ts = More false (drop 1 ts)
+front_of kind.ChanWord ts = More false (past kind.Arrow (drop 1 ts))
+front_of kind.Arrow ts = if begins kind.ChanWord (drop 1 ts) then More false (drop 2 ts) else Fail
+front_of kind.LeftBracket ts = past_brackets false (bracketed ts)
+front_of kind.MapWord ts = past_brackets false (bracketed (drop 1 ts))
+front_of kind.LeftParen ts = past_brackets true (bracketed ts)
+front_of kind.StructWord ts = past_brackets true (bracketed (drop 1 ts))
+front_of kind.InterfaceWord ts = past_brackets true (bracketed (drop 1 ts))
+front_of kind.FuncWord ts = past_result (bracketed (drop 1 ts))
+front_of _ ts = Fail
+
+-- and where none is next
+abbrev pub front_name : List Terminal → Next Bool
+front_name ts = if begins_name ts then More true (past_name (drop 1 ts)) else Fail
 
 abbrev pub past_step : Bool → List Terminal → Next Bool
 past_step true ts = Stop

@@ -1,76 +1,30 @@
 //! The outline of a file.
-ghost use Rattle.std.specs.Prelude.{◌≡◌, ◌≢◌, ◌∷◌, List, [], IfOk, IsErr, IsErrOf};
-ghost use Rattle.go_model.specs.Outline.{IsOutline};
+ghost use Rattle.std.specs.Prelude.{◌≡◌, ◌≢◌, List, [], IfOk, IsErr, IsErrOf};
 ghost use Rattle.go_model.specs.SourceFiles.{HasOutline};
 ghost use Rattle.go_model.specs.Terminals.{terminals};
 ghost use Rattle.go_model.specs.declared.syntax.declaration.File.{File};
 ghost use Rattle.go_model.specs.declared.token.Token.{Token};
-ghost use Rattle.go_parse.specs.Parsing as parsing;
+ghost use Rattle.go_parse.specs.Declarations as rules;
+ghost use Rattle.go_parse.specs.Levels.{levels, ReadsBelow};
 ghost use Rattle.go_parse.specs.Reads.{Reads};
 
 use crate::cursor::Cursor;
 use crate::error::ParseError;
-use go_model::list::List;
-use go_model::memory::NoMemory;
-use go_model::syntax::declaration::{ConstSpec, Decl, File};
-use go_model::syntax::expression::Expr;
+use crate::grammar::{Grammar, Part, PartTree};
+use crate::imports::imports;
+use crate::levels::below;
+use go_model::syntax::declaration::File;
 use go_model::syntax::name::Name;
 use go_model::token::{Token, TokenKind};
 use std::alloc::Global;
 
-// A list of one item, with room for no more.
-fn one<T: Drop>(alloc: Global, item: T) -> Result<List<T>, NoMemory>
-    ensures { IfOk result (λ list. list ≡ item ∷ []) }
-{
-    let mut items = Vec::with_capacity(alloc, 1)?;
-    items.push(item)?;
-    Ok(List::from_vec(items))
-}
-
-/// `X = 1`.
-#[tactic(auto, unfolding(crate::specs::Parsing::const_spec))]
-fn const_spec(alloc: Global, tokens: &mut Cursor<'_>) -> Result<ConstSpec, ParseError>
-    ensures { Reads (parsing.const_spec (terminals tokens.old)) result tokens.new }
-{
-    let names = one(alloc, tokens.name(alloc)?)?;
-    tokens.expect(TokenKind::Assign)?;
-    let values = one(alloc, Expr::Literal(tokens.integer()?))?;
-    Ok(ConstSpec {
-        names,
-        type_: None,
-        values,
-    })
-}
-
-/// What follows `const`.
-#[tactic(auto, unfolding(crate::specs::Parsing::const_decl))]
-fn const_decl(alloc: Global, tokens: &mut Cursor<'_>) -> Result<Decl, ParseError>
-    ensures { Reads (parsing.const_decl (terminals tokens.old)) result tokens.new }
-{
-    let specs = one(alloc, const_spec(alloc, tokens)?)?;
-    tokens.expect(TokenKind::Semicolon)?;
-    Ok(Decl::ConstGroup(specs))
-}
-
-/// The declarations from here on.
-fn decls(alloc: Global, tokens: &mut Cursor<'_>) -> Result<List<Decl>, ParseError>
-    ensures { Reads (parsing.decls (terminals tokens.old)) result tokens.new }
-{
-    let mut items = List::new(alloc);
-    for _turn in 0..tokens.len() {
-        if !tokens.begins(TokenKind::ConstWord) {
-            return Ok(items);
-        }
-        tokens.advance();
-        items.push(const_decl(alloc, tokens)?)?;
-    }
-    Ok(items)
-}
+// A tree of a file has a height of at most 256.
+const MAX_HEIGHT: usize = 256;
 
 /// The name of a package, which isn't `_`.
-#[tactic(auto, unfolding(crate::specs::Parsing::package_name))]
+#[tactic(auto, unfolding(crate::specs::Declarations::package_name))]
 fn package_name(alloc: Global, tokens: &mut Cursor<'_>) -> Result<Name, ParseError>
-    ensures { Reads (parsing.package_name (terminals tokens.old)) result tokens.new }
+    ensures { Reads (rules.package_name (terminals tokens.old)) result tokens.new }
 {
     let name = tokens.name(alloc)?;
     if name.text.bytes() == b"_".as_slice() {
@@ -80,9 +34,9 @@ fn package_name(alloc: Global, tokens: &mut Cursor<'_>) -> Result<Name, ParseErr
 }
 
 /// `package p;`.
-#[tactic(auto, unfolding(crate::specs::Parsing::package_clause))]
+#[tactic(auto, unfolding(crate::specs::Declarations::package_clause, crate::specs::Reading::close, crate::specs::Reading::expect))]
 fn package_clause(alloc: Global, tokens: &mut Cursor<'_>) -> Result<Name, ParseError>
-    ensures { Reads (parsing.package_clause (terminals tokens.old)) result tokens.new }
+    ensures { Reads (rules.package_clause (terminals tokens.old)) result tokens.new }
 {
     tokens.expect(TokenKind::PackageWord)?;
     let name = package_name(alloc, tokens)?;
@@ -90,18 +44,34 @@ fn package_clause(alloc: Global, tokens: &mut Cursor<'_>) -> Result<Name, ParseE
     Ok(name)
 }
 
-/// A file.
-#[tactic(auto, unfolding(crate::specs::Parsing::file))]
+impl<F: Fn(Global, &mut Cursor<'_>, usize, Part) -> Result<PartTree, ParseError>> Grammar<F> {
+    /// A file.
+    #[tactic(auto, unfolding(crate::specs::Declarations::file))]
+    fn file(&self, tokens: &mut Cursor<'_>) -> Result<File, ParseError>
+        requires { ReadsBelow self.now.height (F.pre self.now.below) (F.post self.now.below) }
+        ensures { Reads (rules.file (levels self.now.height) (terminals tokens.old)) result tokens.new }
+    {
+        let package = package_clause(self.alloc, tokens)?;
+        let imports = imports(self.alloc, tokens)?;
+        let decls = self.decls(tokens)?;
+        Ok(File {
+            package,
+            imports,
+            decls: decls.take(),
+        })
+    }
+}
+
+/// A file whose trees are of a height up to the greatest.
 fn file(alloc: Global, tokens: &mut Cursor<'_>) -> Result<File, ParseError>
-    ensures { Reads (parsing.file (terminals tokens.old)) result tokens.new }
+    ensures { Reads (rules.file (levels 257) (terminals tokens.old)) result tokens.new }
 {
-    let package = package_clause(alloc, tokens)?;
-    let decls = decls(alloc, tokens)?;
-    Ok(File {
-        package,
-        imports: List::new(alloc),
-        decls,
-    })
+    Grammar {
+        alloc,
+        height: MAX_HEIGHT + 1,
+        below,
+    }
+    .file(tokens)
 }
 
 /// A tree after which no token is left.
@@ -119,8 +89,8 @@ fn whole(found: File, tokens: &Cursor<'_>) -> Result<File, ParseError>
 /// The outline of a file of these tokens. Each name's place is the offset of its token. Answers
 /// `Syntax` exactly where the tokens have no outline, and `NoMemory` where memory is wanting.
 pub fn parse_outline(alloc: Global, tokens: &[Token]) -> Result<File, ParseError>
-    ensures tree { IfOk result (IsOutline tokens.now) }
-    ensures syntax { IsErrOf result ParseError.Syntax → (f : File) → IsOutline tokens.now f → ⊥ }
+    ensures tree { IfOk result (HasOutline tokens.now) }
+    ensures syntax { IsErrOf result ParseError.Syntax → (f : File) → HasOutline tokens.now f → ⊥ }
 {
     let mut cursor = Cursor::new(tokens);
     match file(alloc, &mut cursor) {
@@ -131,18 +101,14 @@ pub fn parse_outline(alloc: Global, tokens: &[Token]) -> Result<File, ParseError
 
 /// Tokens have at most one outline.
 pub fn one_tree()
-    ensures same { (tokens : List Token) (f g : File) → IsOutline tokens f → IsOutline tokens g → f ≡ g }
-{}
-
-/// The same of outlines in all of the grammar, which the parser is to read next.
-pub fn one_whole_outline()
     ensures same { (tokens : List Token) (f g : File) → HasOutline tokens f → HasOutline tokens g → f ≡ g }
 {}
 
 #[cfg(test)]
 mod tests {
     use super::*;
-    use go_model::syntax::expression::Literal;
+    use go_model::syntax::declaration::Decl;
+    use go_model::syntax::expression::{Expr, Literal};
     use go_model::text::Text;
     use go_model::token::TokenValue;
     use std::test::Fail;
@@ -249,7 +215,8 @@ mod tests {
             (6, token(TokenKind::IntLit, TokenValue::Nothing, 21)),
             (6, token(TokenKind::IntLit, TokenValue::Number(-1), 21)),
             (6, token(TokenKind::StrLit, TokenValue::Number(1), 21)),
-            (6, token(TokenKind::FloatLit, TokenValue::Nothing, 21)),
+            (6, token(TokenKind::TypeWord, TokenValue::Nothing, 21)),
+            (7, token(TokenKind::Comma, TokenValue::Nothing, 22)),
         ];
         for (number, (at, odd)) in cases.into_iter().enumerate() {
             let mut tokens = two_constants(rt.alloc())?;
@@ -258,6 +225,51 @@ mod tests {
             }
             let error = parse_outline(rt.alloc(), &tokens).err();
             assert_eq!(rt; error, Some(ParseError::Syntax), "case {number}");
+        }
+        Ok(())
+    }
+
+    #[test]
+    fn takes_other_tokens_that_fit(rt: HostRuntime) -> Result<(), Fail> {
+        let cases = [
+            (3, token(TokenKind::VarWord, TokenValue::Nothing, 11)),
+            (4, named(rt.alloc(), b"_", 17)?),
+            (6, named(rt.alloc(), b"B", 21)?),
+            (6, token(TokenKind::FloatLit, TokenValue::Nothing, 21)),
+        ];
+        for (number, (at, other)) in cases.into_iter().enumerate() {
+            let mut tokens = two_constants(rt.alloc())?;
+            if let Some(slot) = tokens.get_mut(at) {
+                *slot = other;
+            }
+            let error = parse_outline(rt.alloc(), &tokens).err();
+            assert_eq!(rt; error, None, "case {number}");
+        }
+        Ok(())
+    }
+
+    /// `package p; const A = ((1));`, with this many pairs of brackets.
+    fn nested(alloc: Global, pairs: usize) -> Result<Vec<Token>, Fail> {
+        let mut tokens = two_constants(alloc)?;
+        tokens.truncate(6);
+        for _ in 0..pairs {
+            tokens.push(token(TokenKind::LeftParen, TokenValue::Nothing, 21))?;
+        }
+        tokens.push(token(TokenKind::IntLit, TokenValue::Number(1), 21))?;
+        for _ in 0..pairs {
+            tokens.push(token(TokenKind::RightParen, TokenValue::Nothing, 21))?;
+        }
+        tokens.push(token(TokenKind::Semicolon, TokenValue::Nothing, 21))?;
+        Ok(tokens)
+    }
+
+    #[test]
+    fn reads_trees_up_to_a_height(rt: HostRuntime) -> Result<(), Fail> {
+        let cases = [(0, None), (256, None), (257, Some(ParseError::Syntax))];
+        for (pairs, wanted) in cases {
+            let tokens = nested(rt.alloc(), pairs)?;
+            let error = parse_outline(rt.alloc(), &tokens).err();
+            assert_eq!(rt; error, wanted, "{pairs} pairs of brackets");
         }
         Ok(())
     }

@@ -1,7 +1,7 @@
 -- What is told of a source: whether it is tokens, and whether these are in the grammar.
 use Rattle.std.specs.Prelude.{ℕ, List}
 use Rattle.go_model.specs.Lexemes.{IsBadPlace}
-use Rattle.go_model.specs.Outline.{IsOutline}
+use Rattle.go_model.specs.SourceFiles.{HasOutline}
 use Rattle.go_model.specs.Tokens.{IsTokens}
 use Rattle.go_model.specs.declared.syntax.declaration.File.{File}
 use Rattle.go_model.specs.declared.token.Token.{Token}
@@ -10,6 +10,6 @@ use Rattle.syntax.specs.declared.verdict.Verdict.TheVariants.{Tree, BadToken, Sy
 
 -- the bytes are tokens that have a tree, or that have none, or aren't tokens from this place on
 abbrev pub IsVerdict : List ℕ → Verdict → Type 0
-IsVerdict bytes Tree = (tokens : List Token) × (file : File) × IsTokens bytes tokens × IsOutline tokens file
-IsVerdict bytes Syntax = (tokens : List Token) × IsTokens bytes tokens × ((file : File) → IsOutline tokens file → ⊥)
+IsVerdict bytes Tree = (tokens : List Token) × (file : File) × IsTokens bytes tokens × HasOutline tokens file
+IsVerdict bytes Syntax = (tokens : List Token) × IsTokens bytes tokens × ((file : File) → HasOutline tokens file → ⊥)
 IsVerdict bytes (BadToken place) = IsBadPlace bytes place

@@ -1,6 +1,10 @@
 //! What the clauses of `run` don't say: that runs end as the definitions say with ample memory, on
 //! worked examples whose answers come from outside, and how large the pieces are.
 use super::*;
+
+mod forms;
+mod references;
+
 use go_model::boxed::Box;
 use go_model::list::List;
 use go_outside::failing_files::FailingFiles;
@@ -154,76 +158,9 @@ fn ends_plainly<R: Threads + Sync + AllocGlobal>(
     ends(rt, pairs, "features --new new", code, report, fault)
 }
 
-const NOT_YET: &[u8] = b"apigate: input of a form not built yet\n";
-
-#[test]
-fn refuses_sources_of_other_forms(rt: HostRuntime) -> Result<(), Fail> {
-    for source in [
-        b"".as_slice(),
-        b"package p\nconst \xc3\x84 = 5\n".as_slice(),
-        b"package p\nconst _ = 5\n".as_slice(),
-        b"package p\nconst X = 08\n".as_slice(),
-        b"package p\nconst X = 0x\n".as_slice(),
-        b"package p\nconst X = 1a\n".as_slice(),
-        b"package p\nconst X = 1.5\n".as_slice(),
-        b"package p\nconst X = 'a'\n".as_slice(),
-        b"package p\nconst X = -1\n".as_slice(),
-        b"package p\nconst X = 170141183460469231731687303715884105728\n".as_slice(),
-        b"package p\nconst (\nX = 5\n)\n".as_slice(),
-        b"package p\nconst X int = 5\n".as_slice(),
-        b"package p\nconst X, Y = 5, 6\n".as_slice(),
-        b"package p\nvar X = 5\n".as_slice(),
-        b"package p\nimport \"m/q\"\n".as_slice(),
-        b"package p\nconst x = 5\n".as_slice(),
-        b"package main\nconst x = 5\n".as_slice(),
-        b"package p\nconst X = 5\nconst X = 5\n".as_slice(),
-        b"package p\nconst Type = 5\nconst type = 5\n".as_slice(),
-        b"package type\n".as_slice(),
-        b"package p\nconst\nX = 5\nconst X\n= 5\n".as_slice(),
-        b"const X = 5\n".as_slice(),
-    ] {
-        let pairs = [
-            ("new/go.mod", b"module m\n".as_slice()),
-            ("new/p/p.go", source),
-        ];
-        assert!(rt; ends_plainly(&rt, &pairs, 3, b"", NOT_YET)?, "{source:?}");
-    }
-    Ok(())
-}
-
-#[test]
-fn reads_all_tokens_round_a_constant(rt: HostRuntime) -> Result<(), Fail> {
-    let five = b"pkg m/p, const X = 5\npkg m/p, const X ideal-int\n".as_slice();
-    let large = b"pkg m/p, const X = 4096\npkg m/p, const X ideal-int\n".as_slice();
-    for (source, report) in [
-        (b"package p;const X=5;".as_slice(), five),
-        (b"package p\r\nconst X = 5\r\n".as_slice(), five),
-        (b"\xef\xbb\xbfpackage p\nconst X = 5".as_slice(), five),
-        (
-            b"//go:build linux\n\n// c\npackage p // c\nconst X = 5 // c".as_slice(),
-            five,
-        ),
-        (
-            b"package p /* c\n */ const /* c */ X = 5 /* c */".as_slice(),
-            five,
-        ),
-        (b"package p\nconst X = 0b101\n".as_slice(), five),
-        (b"package p\nconst X = 0o5\n".as_slice(), five),
-        (b"package p\nconst X = 05\n".as_slice(), five),
-        (b"package p\nconst X = 4_096\n".as_slice(), large),
-        (b"package p\nconst X = 0x10_00\n".as_slice(), large),
-        (b"package p\nconst X = 0X1000\n".as_slice(), large),
-    ] {
-        let pairs = [
-            ("new/go.mod", b"module m\n".as_slice()),
-            ("new/p/p.go", source),
-        ];
-        assert!(rt; ends_plainly(&rt, &pairs, 0, report, b"")?, "{source:?}");
-    }
-    Ok(())
-}
-
 const FIVE: &[u8] = b"package p\nconst X = 5\n";
+
+const NOT_READ: &[u8] = b"package p\nconst _ = 5\n";
 
 #[test]
 fn reads_the_module_line(rt: HostRuntime) -> Result<(), Fail> {
@@ -338,7 +275,7 @@ fn chooses_files_by_the_platform(rt: HostRuntime) -> Result<(), Fail> {
 #[test]
 fn names_the_first_header_that_is_refused(rt: HostRuntime) -> Result<(), Fail> {
     let module = ("new/go.mod", b"module m\n".as_slice());
-    // A file of another form, a file that the platform leaves out, and the first refused header.
+    // A file that isn't read yet, a file that the platform leaves out, and the first refused header.
     for (source, fault) in [
         (
             b"//go:build (\n\npackage p\n".as_slice(),
@@ -355,7 +292,7 @@ fn names_the_first_header_that_is_refused(rt: HostRuntime) -> Result<(), Fail> {
     ] {
         let pairs = [
             module,
-            ("new/a.go", b"no form".as_slice()),
+            ("new/a.go", NOT_READ),
             ("new/p/a_windows.go", b"//go:build !!x\n".as_slice()),
             ("new/p/b.go", source),
             ("new/p/c.go", b"//go:build (\n//go:build )\n".as_slice()),
@@ -404,10 +341,10 @@ fn names_the_first_place_without_a_token(rt: HostRuntime) -> Result<(), Fail> {
             b"apigate: new linux-amd64: p/p.go:1:11: not a token\n".as_slice(),
         ),
     ] {
-        // An earlier file is of another form, and a later one has a refused header.
+        // An earlier file isn't read yet, and a later one has a refused header.
         let pairs = [
             ("new/go.mod", b"module m\n".as_slice()),
-            ("new/a.go", b"no form".as_slice()),
+            ("new/a.go", NOT_READ),
             ("new/p/a_windows.go", b"\0".as_slice()),
             ("new/p/p.go", source),
             ("new/q/q.go", b"// +build x\n".as_slice()),
@@ -452,29 +389,6 @@ fn prints_the_public_packages_of_a_tree(rt: HostRuntime) -> Result<(), Fail> {
     assert!(rt; ends_plainly(&rt, &pairs, 0, b"", b"")?);
     let pairs = [("new/go.mod", b"module m\n".as_slice())];
     assert!(rt; ends_plainly(&rt, &pairs, 0, b"", b"")?);
-    Ok(())
-}
-
-#[test]
-fn refuses_packages_of_other_forms(rt: HostRuntime) -> Result<(), Fail> {
-    let module = ("new/go.mod", b"module m\n".as_slice());
-    for tree in [
-        [module, ("new/p/a.go", FIVE), ("new/p/b.go", FIVE)],
-        [module, ("new/p/a.go", FIVE), ("new/p/b.go", b"package q\n")],
-        [module, ("new/a.go", FIVE), ("new/b.go", b"package main\n")],
-        [
-            module,
-            ("new/p/a.go", FIVE),
-            ("new/q/b.go", b"package q\nconst x = 1\n"),
-        ],
-        [
-            module,
-            ("new/p/a.go", FIVE),
-            ("new/internal/b.go", b"package q\nconst _ = 1\n"),
-        ],
-    ] {
-        assert!(rt; ends_plainly(&rt, &tree, 3, b"", NOT_YET)?);
-    }
     Ok(())
 }
 

@@ -2,4 +2,4 @@ use Rattle.api_gate.proofs.OneSource.{same_source}
 use Rattle.api_gate.proofs.source.one_source.Goals as goal
 
 pub returns : goal.returns
-returns c = same_source c.one_list.ensures.one c.one_tree.ensures.same
+returns c = same_source c.one_outline.ensures.one

@@ -1,0 +1,11 @@
+-- A list of names, from its first on.
+use Rattle.std.proofs.Common.{◌≡◌, List, [], ◌∷◌, Some, sym, ap, ◌∙◌}
+use Rattle.go_model.specs.declared.syntax.name.Name.{Name}
+use Rattle.go_model.specs.Terminals.{Terminal}
+use Rattle.go_parse.specs.Reading.{Found, bind, run, step_of, name}
+use Rattle.go_parse.specs.Rules.{name_item, names}
+
+-- the first name, and then the others
+pub names_from : (ts us : List Terminal) (n : Name) (first : List Name) → name ts ≡ Some (n, us) → first ≡ n ∷ [] → run (step_of name_item) first us ≡ names ts
+unfolding names
+names_from ts us n first e q = ap (λ (ns : List Name). run (step_of name_item) ns us) q ∙ sym (ap (λ (r : Found Name). bind r (λ (m : Name). run (step_of name_item) (m ∷ []))) e)

@@ -1,0 +1,10 @@
+use Rattle.std.proofs.Common.{◌≡◌, ◌-◌, []}
+use Rattle.go_model.specs.Grammar.{comparison}
+use Rattle.go_model.specs.Terminals.{terminals}
+use Rattle.go_parse.specs.Levels.{levels}
+use Rattle.go_parse.specs.Reading.{run, loop}
+use Rattle.go_parse.specs.Rules.{step_both, operation, sum_expr}
+use Rattle.go_parse.proofs.grammar.Grammar.comparisons.Given as goal
+
+abbrev pub invariant-loop-turn : goal.invariant-loop-turn
+invariant-loop-turn g l = run (step_both (operation comparison (sum_expr l.composite (levels l.self.height)))) ([], []) (terminals l.fn.tokens) ≡ loop (step_both (operation comparison (sum_expr l.composite (levels l.self.height)))) (l._turn-end - l._turn) (l.operators, l.operands) (terminals l.tokens)

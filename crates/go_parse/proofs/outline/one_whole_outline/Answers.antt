@@ -1,7 +1,0 @@
-use Rattle.std.proofs.Common.{refl}
-use Rattle.go_model.specs.Terminals.{terminals}
-use Rattle.go_parse.proofs.Files as files
-use Rattle.go_parse.proofs.outline.one_whole_outline.Goals as goal
-
-pub returns : goal.returns
-returns c = record { same = λ tokens f g d e. files.one_outline 256 257 refl (terminals tokens) f g d e }

@@ -1,0 +1,78 @@
+//! Names, names of types and tags.
+ghost use Rattle.std.specs.Prelude.{◌≡◌, List};
+ghost use Rattle.go_model.specs.declared.syntax.name.Name.{Name};
+ghost use Rattle.go_model.specs.Terminals.{terminals};
+ghost use Rattle.go_parse.specs.Reading.{run, step_of};
+ghost use Rattle.go_parse.specs.Reads.{Reads};
+ghost use Rattle.go_parse.specs.Rules as rules;
+
+use crate::cursor::Cursor;
+use crate::error::ParseError;
+use go_model::list::List;
+use go_model::syntax::name::{Name, QualifiedName};
+use go_model::text::Text;
+use go_model::token::TokenKind;
+use std::alloc::Global;
+
+/// More names, each after a comma.
+fn more_names(
+    alloc: Global,
+    tokens: &mut Cursor<'_>,
+    first: List<Name>,
+) -> Result<List<Name>, ParseError>
+    ensures { Reads (run (step_of rules.name_item) first (terminals tokens.old)) result tokens.new }
+{
+    let mut names = first;
+    for _turn in 0..tokens.len() {
+        if !tokens.begins(TokenKind::Comma) {
+            return Ok(names);
+        }
+        tokens.advance();
+        names.push(tokens.name(alloc)?)?;
+    }
+    Ok(names)
+}
+
+/// Names with commas between them.
+#[tactic(auto, unfolding(crate::specs::Rules::names))]
+pub fn names(alloc: Global, tokens: &mut Cursor<'_>) -> Result<List<Name>, ParseError>
+    ensures { Reads (rules.names (terminals tokens.old)) result tokens.new }
+{
+    let mut first = List::new(alloc);
+    first.push(tokens.name(alloc)?)?;
+    more_names(alloc, tokens, first)
+}
+
+/// The name of a type: the longest that begins here.
+#[tactic(auto, unfolding(crate::specs::Rules::type_name))]
+pub fn type_name(alloc: Global, tokens: &mut Cursor<'_>) -> Result<QualifiedName, ParseError>
+    ensures { Reads (rules.type_name (terminals tokens.old)) result tokens.new }
+{
+    let first = tokens.name(alloc)?;
+    if !tokens.begins_selector() {
+        return Ok(QualifiedName {
+            qualifier: None,
+            name: first,
+        });
+    }
+    tokens.advance();
+    let name = tokens.name(alloc)?;
+    Ok(QualifiedName {
+        qualifier: Some(first),
+        name,
+    })
+}
+
+/// The tag of a field, which may be missing.
+#[tactic(auto, unfolding(crate::specs::Rules::tag))]
+pub fn tag(alloc: Global, tokens: &mut Cursor<'_>) -> Result<Option<Text>, ParseError>
+    ensures { Reads (rules.tag (terminals tokens.old)) result tokens.new }
+{
+    match tokens.string(alloc)? {
+        None => Ok(None),
+        Some((text, _)) => {
+            tokens.advance();
+            Ok(Some(text))
+        }
+    }
+}
