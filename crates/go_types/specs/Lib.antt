@@ -1,5 +1,6 @@
 pub mod Answers
 pub mod Endings
+pub mod Names
 pub mod Parts
 pub mod Regions
 pub mod Search

@@ -8,38 +8,39 @@ ghost use Rattle.go_types.specs.Search.{Adds};
 ghost use Rattle.go_types.specs.Parts.{MeetsTerm, Pushes, PushesFields, Looked, PartAt};
 
 use crate::lookup::{Lookup, error_type};
+use crate::name::Name;
 use crate::part::Part;
 use go_model::memory::NoMemory;
-use go_model::types::names::TypeName;
 use go_model::types::table::TypeTable;
 use go_model::types::term::{Field, Term};
 use go_model::types::world::World;
+use indexmap::IndexSet;
 use std::alloc::Global;
-use std::collections::BTreeSet;
 
-fn has(names: &BTreeSet<TypeName>, name: &TypeName) -> bool
+fn has<'a>(names: &IndexSet<Name<'a>>, name: &Name<'a>) -> bool
     ensures { result ≡ true → Has names.now.keys name.now }
 {
     names.contains(name)
 }
 
-fn add(names: &mut BTreeSet<TypeName>, name: TypeName) -> Result<(), NoMemory>
-    ensures { OnOk result (Adds names.old.keys names.new.keys name) }
+fn add<'a>(names: &mut IndexSet<Name<'a>>, name: Name<'a>) -> Result<(), NoMemory>
+    ensures { OnOk result (Adds names.old.keys names.new.keys name.entry) }
 {
     names.insert(name)?;
     Ok(())
 }
 
 // Whether a type is a name that was met before; it is met.
-fn meets(alloc: Global, met: &mut BTreeSet<TypeName>, term: &Term) -> Result<bool, NoMemory>
+fn meets<'a>(met: &mut IndexSet<Name<'a>>, term: &'a Term) -> Result<bool, NoMemory>
     ensures { IfOk result (MeetsTerm met.old.keys met.new.keys term.now) }
 {
     match term {
         Term::Named(name) => {
-            if has(met, name) {
+            let name = Name::new(name);
+            if has(met, &name) {
                 return Ok(true);
             }
-            add(met, name.copy(alloc)?)?;
+            add(met, name)?;
             Ok(false)
         }
         _ => Ok(false),
@@ -48,14 +49,13 @@ fn meets(alloc: Global, met: &mut BTreeSet<TypeName>, term: &Term) -> Result<boo
 
 // Adds a type, unless it is a name that was met.
 fn push<'a>(
-    alloc: Global,
     all: &mut Vec<Part<'a>>,
-    met: &mut BTreeSet<TypeName>,
+    met: &mut IndexSet<Name<'a>>,
     term: &'a Term,
 ) -> Result<(), NoMemory>
     ensures { OnOk result (Pushes all.old.items met.old.keys all.new.items met.new.keys term.now) }
 {
-    if meets(alloc, met, term)? {
+    if meets(met, term)? {
         return Ok(());
     }
     all.push(Part::new(term))?;
@@ -63,25 +63,23 @@ fn push<'a>(
 }
 
 fn push_fields<'a>(
-    alloc: Global,
     all: &mut Vec<Part<'a>>,
-    met: &mut BTreeSet<TypeName>,
+    met: &mut IndexSet<Name<'a>>,
     fields: &'a [Field],
 ) -> Result<(), NoMemory>
     ensures { OnOk result (PushesFields all.old.items met.old.keys all.new.items met.new.keys fields.now) }
 {
     for field in fields {
-        push(alloc, all, met, &field.term)?;
+        push(all, met, &field.term)?;
     }
     Ok(())
 }
 
 // Whether a type is compared by its parts, which are added.
 fn look<'a, T: TypeTable>(
-    alloc: Global,
     types: &Lookup<'a, T>,
     all: &mut Vec<Part<'a>>,
-    met: &mut BTreeSet<TypeName>,
+    met: &mut IndexSet<Name<'a>>,
     term: &'a Term,
 ) -> Result<bool, NoMemory>
     ensures { IfOk result (Looked (T.lookup types.now.table.now) term.now all.old.items met.old.keys all.new.items met.new.keys) }
@@ -91,11 +89,11 @@ fn look<'a, T: TypeTable>(
         Term::Map(_, _) => Ok(false),
         Term::Func(_) => Ok(false),
         Term::Array(_, element) => {
-            push(alloc, all, met, element.value())?;
+            push(all, met, element.value())?;
             Ok(true)
         }
         Term::Struct(fields) => {
-            push_fields(alloc, all, met, fields.items())?;
+            push_fields(all, met, fields.items())?;
             Ok(true)
         }
         _ => Ok(true),
@@ -119,12 +117,12 @@ fn walk<'a, T: TypeTable>(
     ensures { IfOk result (Decides (Comparable (T.lookup types.now.table.now) term.now)) }
 {
     let mut all = Vec::new(alloc);
-    let mut met = BTreeSet::new(alloc);
-    push(alloc, &mut all, &mut met, term)?;
+    let mut met = IndexSet::new(alloc);
+    push(&mut all, &mut met, term)?;
     for at in 0..usize::MAX {
         match part_at(&all, at) {
             Some(part) => {
-                if !look(alloc, types, &mut all, &mut met, part)? {
+                if !look(types, &mut all, &mut met, part)? {
                     return Ok(false);
                 }
             }

@@ -54,7 +54,7 @@ fn steps_of<'a, T: TypeTable>(
 pub(crate) fn next_layer<'a, T: TypeTable>(
     alloc: Global,
     types: &Lookup<'a, T>,
-    met: &mut Met,
+    met: &mut Met<'a>,
     layer: &Vec<Place<'a>>,
 ) -> Result<Vec<Place<'a>>, NoMemory>
     ensures { IfOk result (λ kept. (seen : List Spot) → Knows met.old.once.keys met.old.twice.keys seen [] → Knows met.new.once.keys met.new.twice.keys seen kept.items × Thinned seen (gather (steps (T.lookup types.now.table.now)) layer.now.items) kept.items) }

@@ -14,6 +14,7 @@ pub mod laws;
 mod lookup;
 mod met;
 pub mod method_set;
+mod name;
 mod part;
 mod parts;
 mod place;

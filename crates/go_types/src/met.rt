@@ -4,69 +4,69 @@ ghost use Rattle.go_model.specs.Selectors.{Spot};
 ghost use Rattle.go_model.specs.Lists.{Has};
 ghost use Rattle.go_types.specs.Search.{Adds, IsKeyOf, Knows, Recalls, Keeps, Thinned, Meets};
 
+use crate::name::Name;
 use crate::place::Place;
 use go_model::memory::NoMemory;
-use go_model::types::names::TypeName;
 use go_model::types::term::Term;
+use indexmap::IndexSet;
 use std::alloc::Global;
-use std::collections::BTreeSet;
 
 /// A defined type, and whether the path to it went through a pointer.
-#[derive(Drop, PartialEq, Eq, PartialOrd, Ord)]
-pub(crate) struct Key {
+#[derive(Drop, PartialEq, Eq, Hash)]
+pub(crate) struct Key<'a> {
     through: bool,
-    name: TypeName,
+    name: Name<'a>,
 }
 
 /// What was met once, and what twice: a third meeting tells nothing more.
 #[derive(Drop)]
-pub(crate) struct Met {
+pub(crate) struct Met<'a> {
     alloc: Global,
-    once: BTreeSet<Key>,
-    twice: BTreeSet<Key>,
+    once: IndexSet<Key<'a>>,
+    twice: IndexSet<Key<'a>>,
 }
 
-fn has(keys: &BTreeSet<Key>, key: &Key) -> bool
+fn has<'a>(keys: &IndexSet<Key<'a>>, key: &Key<'a>) -> bool
     ensures { result ≡ true → Has keys.now.keys key.now }
 {
     keys.contains(key)
 }
 
-fn add(keys: &mut BTreeSet<Key>, key: Key) -> Result<(), NoMemory>
-    ensures { OnOk result (Adds keys.old.keys keys.new.keys key) }
+fn add<'a>(keys: &mut IndexSet<Key<'a>>, key: Key<'a>) -> Result<(), NoMemory>
+    ensures { OnOk result (Adds keys.old.keys keys.new.keys key.entry) }
 {
     keys.insert(key)?;
     Ok(())
 }
 
-fn key_of(alloc: Global, place: &Place<'_>) -> Result<Option<Key>, NoMemory>
-    ensures { IfOk result (IsKeyOf place.now) }
+fn key_of<'a>(place: &Place<'a>) -> Option<Key<'a>>
+    ensures { IsKeyOf place.now result }
 {
     match place.term() {
-        Term::Named(name) => Ok(Some(Key {
+        Term::Named(name) => Some(Key {
             through: place.through(),
-            name: name.copy(alloc)?,
-        })),
-        _ => Ok(None),
+            name: Name::new(name),
+        }),
+        _ => None,
     }
 }
 
-impl Met {
+impl<'a> Met<'a> {
     /// Nothing.
-    pub(crate) fn new(alloc: Global) -> Met
+    pub(crate) fn new(alloc: Global) -> Met<'a>
         ensures once { result.once.keys ≡ [] }
         ensures twice { result.twice.keys ≡ [] }
     {
         Met {
             alloc,
-            once: BTreeSet::new(alloc),
-            twice: BTreeSet::new(alloc),
+            once: IndexSet::new(alloc),
+            twice: IndexSet::new(alloc),
         }
     }
 
     // Whether a type was met twice before.
-    fn meets(&mut self, key: Key) -> Result<bool, NoMemory>
-        ensures { IfOk result (Meets self.old.once.keys self.old.twice.keys self.new.once.keys self.new.twice.keys key) }
+    fn meets(&mut self, key: Key<'a>) -> Result<bool, NoMemory>
+        ensures { IfOk result (Meets self.old.once.keys self.old.twice.keys self.new.once.keys self.new.twice.keys key.entry) }
     {
         if has(&self.twice, &key) {
             return Ok(true);
@@ -80,10 +80,10 @@ impl Met {
     }
 
     // Whether a place tells nothing more; else it is kept next.
-    fn recalls(&mut self, place: &Place<'_>) -> Result<bool, NoMemory>
+    fn recalls(&mut self, place: &Place<'a>) -> Result<bool, NoMemory>
         ensures { IfOk result (λ known. (seen kept : List Spot) → Knows self.old.once.keys self.old.twice.keys seen kept → Recalls self.new.once.keys self.new.twice.keys seen kept place.now known) }
     {
-        match key_of(self.alloc, place)? {
+        match key_of(place) {
             Some(key) => {
                 let known = self.meets(key)?;
                 Ok(known)
@@ -92,7 +92,7 @@ impl Met {
         }
     }
 
-    fn keep<'a>(&mut self, kept: &mut Vec<Place<'a>>, place: &Place<'a>) -> Result<(), NoMemory>
+    fn keep(&mut self, kept: &mut Vec<Place<'a>>, place: &Place<'a>) -> Result<(), NoMemory>
         ensures { OnOk result ((seen : List Spot) → Knows self.old.once.keys self.old.twice.keys seen kept.old.items → Knows self.new.once.keys self.new.twice.keys seen kept.new.items × Keeps seen kept.old.items kept.new.items place.now) }
     {
         if self.recalls(place)? {
@@ -103,7 +103,7 @@ impl Met {
     }
 
     /// What a layer keeps of these places.
-    pub(crate) fn thin<'a>(&mut self, all: &Vec<Place<'a>>) -> Result<Vec<Place<'a>>, NoMemory>
+    pub(crate) fn thin(&mut self, all: &Vec<Place<'a>>) -> Result<Vec<Place<'a>>, NoMemory>
         ensures { IfOk result (λ kept. (seen : List Spot) → Knows self.old.once.keys self.old.twice.keys seen [] → Knows self.new.once.keys self.new.twice.keys seen kept.items × Thinned seen all.now.items kept.items) }
     {
         let mut kept = Vec::new(self.alloc);

@@ -5,26 +5,33 @@ use crate::read::Refusal;
 use go_model::types::names::TypeName;
 use go_model::types::package::Defined;
 use go_model::types::table::TypeTable;
+use indexmap::IndexMap;
 use std::alloc::Global;
-use std::collections::BTreeMap;
 
-/// Defined types by name.
+/// Defined types by path and name.
 #[derive(Drop)]
 pub struct Table {
-    entries: BTreeMap<TypeName, Defined>,
+    alloc: Global,
+    packages: IndexMap<Vec<u8>, IndexMap<Vec<u8>, Defined>>,
 }
 
 impl Table {
     /// No type.
     pub fn new(alloc: Global) -> Table {
         Table {
-            entries: BTreeMap::new(alloc),
+            alloc,
+            packages: IndexMap::new(alloc),
         }
     }
 
     /// Adds a type, whose name isn't there.
     pub fn add(&mut self, name: TypeName, defined: Defined) -> Result<(), Refusal> {
-        match self.entries.insert(name, defined) {
+        let TypeName { path, name } = name;
+        let package = self
+            .packages
+            .entry(path.into_vec())?
+            .or_insert(IndexMap::new(self.alloc));
+        match package.insert(name.into_vec(), defined) {
             Ok(None) => Ok(()),
             Ok(Some(_)) => Err(Refusal::WrongLine),
             Err(_) => Err(Refusal::NoMemory),
@@ -33,9 +40,10 @@ impl Table {
 }
 
 impl TypeTable for Table {
-    ghost lookup = { λ t. held t.entries };
+    ghost lookup = { λ t. held t.packages };
 
     fn defined(&self, name: &TypeName) -> Option<&Defined> {
-        self.entries.get(name)
+        let package = self.packages.get(name.path.bytes())?;
+        package.get(name.name.bytes())
     }
 }
