@@ -190,7 +190,7 @@ func withoutBodies(text []byte, tokens []lexeme) ([]byte, bool) {
 }
 
 // parenthesized is the text with parentheses round each array, slice, map and channel type that ends in a name
-// with a bracket behind it, so that Go reads an index of the type there; nil where there is none.
+// with an index or a type assertion behind it, so that Go reads it as one of the type; nil where there is none.
 func parenthesized(text []byte, tokens []lexeme) []byte {
 	c := &cutter{tokens: tokens, asType: map[int]bool{}, plain: true}
 	opening := map[int]int{}
@@ -213,7 +213,11 @@ func parenthesized(text []byte, tokens []lexeme) []byte {
 		case token.IDENT, token.RPAREN, token.RBRACK, token.RBRACE, token.STRING:
 			continue
 		}
-		if end := c.typeEnd(i); end > 0 && c.kind(end) == token.LBRACK && c.kind(end-1) == token.IDENT {
+		end := c.typeEnd(i)
+		if end <= 0 || c.kind(end-1) != token.IDENT {
+			continue
+		}
+		if c.kind(end) == token.LBRACK || c.kind(end) == token.PERIOD && c.kind(end+1) == token.LPAREN {
 			put[one.start] += "("
 			put[tokens[end-1].end] = ")" + put[tokens[end-1].end]
 		}

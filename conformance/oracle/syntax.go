@@ -33,7 +33,7 @@ func verdict(source []byte) (string, notes) {
 	g, file := parse(text, r.met)
 	if file == nil {
 		if other := parenthesized(text, tokensOf(text)); other != nil {
-			met := notes{"an index behind a type is type arguments to Go": true}
+			met := notes{"an index or a type assertion behind a type belongs to its name for Go": true}
 			for name := range r.met {
 				met[name] = true
 			}
