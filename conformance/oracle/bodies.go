@@ -210,7 +210,7 @@ func parenthesized(text []byte, tokens []lexeme) []byte {
 			continue
 		}
 		switch c.kind(i - 1) {
-		case token.IDENT, token.RPAREN, token.RBRACK, token.RBRACE, token.STRING:
+		case token.IDENT, token.RPAREN, token.RBRACK, token.RBRACE, token.STRING, token.PERIOD:
 			continue
 		}
 		end := c.typeEnd(i)
