@@ -1,3 +1,4 @@
+pub mod Collected
 pub mod Drops
 pub mod Gathered
 pub mod Grown

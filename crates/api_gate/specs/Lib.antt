@@ -9,6 +9,7 @@ pub mod Growing
 pub mod NamesReading
 pub mod Outcome
 pub mod Outlines
+pub mod Pairs
 pub mod Refusals
 pub mod RefusalsReading
 pub mod Runs

@@ -3,7 +3,8 @@ ghost use Rattle.std.specs.Prelude.{◌≡◌, ◌≢◌, ◌⊎◌, IfOk, OnOk,
 ghost use Rattle.std.specs.Fmt.{signed_decimal};
 ghost use Rattle.std.specs.List.{list_all, slice_split};
 ghost use Rattle.api_gate.specs.declared.reading.FileSource.{FileSource};
-ghost use Rattle.api_gate.specs.Features.{value_line, kind_line, is_public_element, is_slash, IsLineOf, IsFeature, IsFeatureOf, IsReport, unlines};
+ghost use Rattle.api_gate.specs.Features.{value_line, kind_line, is_public_element, is_slash, IsLineOf, IsFeature, IsFeatureOf, IsOrdered, IsReport, unlines};
+ghost use Rattle.go_model.specs.Lists.{Has};
 ghost use Rattle.api_gate.specs.Growing.{Grows};
 ghost use Rattle.api_gate.specs.FeaturesReading.{IsLineOfSome};
 
@@ -15,57 +16,60 @@ use go_model::memory::NoMemory;
 use go_model::text::Text;
 use itoa::Buffer;
 use std::alloc::Global;
-use std::collections::BTreeSet;
 
-fn line_of(alloc: Global, path: &[u8], name: &[u8], rest: &[u8]) -> Result<Text, NoMemory>
-    ensures { IfOk result (λ line. line ≡ codes "pkg " ++ path.now ++ codes ", const " ++ name.now ++ rest.now) }
+// `pkg PATH, const NAME`, with room for so many bytes more.
+fn line_start(alloc: Global, path: &[u8], name: &[u8], more: usize) -> Result<Vec<u8>, NoMemory>
+    ensures { IfOk result (λ line. line.items ≡ codes "pkg " ++ path.now ++ codes ", const " ++ name.now) }
 {
-    let long = path.len().saturating_add(name.len());
-    let mut line = Vec::with_capacity(alloc, long.saturating_add(rest.len()).saturating_add(12))?;
+    let long = path.len().saturating_add(name.len()).saturating_add(12);
+    let mut line = Vec::with_capacity(alloc, long.saturating_add(more))?;
     line.extend_from_slice(b"pkg ")?;
     line.extend_from_slice(path)?;
     line.extend_from_slice(b", const ")?;
     line.extend_from_slice(name)?;
-    line.extend_from_slice(rest)?;
-    Ok(Text::from_vec(line))
+    Ok(line)
 }
 
 fn value_line(alloc: Global, path: &[u8], constant: &Constant) -> Result<Text, NoMemory>
     ensures { IfOk result (λ line. line ≡ value_line path.now constant.now) }
 {
     let mut buffer = Buffer::new();
-    let mut rest = Vec::with_capacity(alloc, 44)?;
-    rest.extend_from_slice(b" = ")?;
-    rest.extend_from_slice(buffer.format(constant.value).as_bytes())?;
-    line_of(alloc, path, constant.name.bytes(), &rest)
+    let digits = buffer.format(constant.value).as_bytes();
+    let more = digits.len().saturating_add(3);
+    let mut line = line_start(alloc, path, constant.name.bytes(), more)?;
+    line.extend_from_slice(b" = ")?;
+    line.extend_from_slice(digits)?;
+    Ok(Text::from_vec(line))
 }
 
 fn kind_line(alloc: Global, path: &[u8], constant: &Constant) -> Result<Text, NoMemory>
     ensures { IfOk result (λ line. line ≡ kind_line path.now constant.now) }
 {
-    line_of(alloc, path, constant.name.bytes(), b" ideal-int")
+    let mut line = line_start(alloc, path, constant.name.bytes(), 10)?;
+    line.extend_from_slice(b" ideal-int")?;
+    Ok(Text::from_vec(line))
 }
 
-fn insert(lines: &mut BTreeSet<Text>, line: Text) -> Result<(), NoMemory>
-    ensures { OnOk result (Grows (λ x. line ≡ x) lines.old.keys lines.new.keys) }
+fn add_line(lines: &mut Vec<Text>, line: Text) -> Result<(), NoMemory>
+    ensures { OnOk result (Grows (λ x. line ≡ x) lines.old.items lines.new.items) }
 {
-    lines.insert(line)?;
+    lines.push(line)?;
     Ok(())
 }
 
 fn add_constant(
     alloc: Global,
-    lines: &mut BTreeSet<Text>,
+    lines: &mut Vec<Text>,
     path: &[u8],
     constant: &Constant,
 ) -> Result<(), NoMemory>
-    ensures { OnOk result (Grows (IsLineOf path.now constant.now) lines.old.keys lines.new.keys) }
+    ensures { OnOk result (Grows (IsLineOf path.now constant.now) lines.old.items lines.new.items) }
 {
     if !is_exported(constant.name.bytes()) {
         return Ok(());
     }
-    insert(lines, value_line(alloc, path, constant)?)?;
-    insert(lines, kind_line(alloc, path, constant)?)
+    add_line(lines, value_line(alloc, path, constant)?)?;
+    add_line(lines, kind_line(alloc, path, constant)?)
 }
 
 fn is_public(path: &[u8], package_name: &[u8]) -> bool
@@ -87,11 +91,11 @@ fn are_public(path: &[u8]) -> bool
 
 fn add_constants(
     alloc: Global,
-    lines: &mut BTreeSet<Text>,
+    lines: &mut Vec<Text>,
     path: &[u8],
     constants: &[Constant],
 ) -> Result<(), NoMemory>
-    ensures { OnOk result (Grows (IsLineOfSome path.now constants.now) lines.old.keys lines.new.keys) }
+    ensures { OnOk result (Grows (IsLineOfSome path.now constants.now) lines.old.items lines.new.items) }
 {
     for constant in constants {
         add_constant(alloc, lines, path, constant)?;
@@ -101,11 +105,11 @@ fn add_constants(
 
 fn add_source(
     alloc: Global,
-    lines: &mut BTreeSet<Text>,
+    lines: &mut Vec<Text>,
     module: &[u8],
     file: &FileSource,
 ) -> Result<(), NoMemory>
-    ensures { OnOk result (Grows (IsFeatureOf «module».now file.now) lines.old.keys lines.new.keys) }
+    ensures { OnOk result (Grows (IsFeatureOf «module».now file.now) lines.old.items lines.new.items) }
 {
     let path = place(alloc, module, file.folder.bytes())?;
     if !is_public(path.bytes(), file.source.package_name.bytes()) {
@@ -118,21 +122,38 @@ fn feature_lines(
     alloc: Global,
     module: &[u8],
     sources: &[FileSource],
-) -> Result<BTreeSet<Text>, NoMemory>
-    ensures { IfOk result (λ lines. Grows (IsFeature «module».now sources.now) [] lines.keys) }
+) -> Result<Vec<Text>, NoMemory>
+    ensures { IfOk result (λ lines. Grows (IsFeature «module».now sources.now) [] lines.items) }
 {
-    let mut lines = BTreeSet::new(alloc);
+    let mut lines = Vec::new(alloc);
     for file in sources {
         add_source(alloc, &mut lines, module, file)?;
     }
     Ok(lines)
 }
 
-fn unlines(alloc: Global, mut lines: BTreeSet<Text>) -> Result<Text, NoMemory>
-    ensures { IfOk result (λ text. text ≡ unlines lines.keys) }
+// These lines, each once, in the order of bytes.
+fn in_order(mut lines: Vec<Text>) -> Vec<Text>
+    ensures { IsOrdered (Has lines.items) result.items }
 {
-    let mut text = Vec::new(alloc);
-    while let Some(line) = lines.pop_first() {
+    lines.sort_unstable();
+    lines.dedup();
+    lines
+}
+
+fn length_of(lines: &[Text]) -> usize {
+    let mut length = 0usize;
+    for line in lines {
+        length = length.saturating_add(line.bytes().len()).saturating_add(1);
+    }
+    length
+}
+
+fn unlines(alloc: Global, lines: &[Text]) -> Result<Text, NoMemory>
+    ensures { IfOk result (λ text. text ≡ unlines lines.now) }
+{
+    let mut text = Vec::with_capacity(alloc, length_of(lines))?;
+    for line in lines {
         text.extend_from_slice(line.bytes())?;
         text.push(b'\n')?;
     }
@@ -144,9 +165,8 @@ fn unlines(alloc: Global, mut lines: BTreeSet<Text>) -> Result<Text, NoMemory>
 pub fn report(alloc: Global, module: &[u8], sources: &[FileSource]) -> Result<Text, NoMemory>
     ensures { IfOk result (IsReport «module».now sources.now) }
 {
-    let lines = feature_lines(alloc, module, sources)?;
-    let _count = lines.len();
-    unlines(alloc, lines)
+    let lines = in_order(feature_lines(alloc, module, sources)?);
+    unlines(alloc, &lines)
 }
 
 /// The files of a module have one report.

@@ -126,7 +126,7 @@ fn path_text(alloc: Global, file: &TreeFile, what: &[u8]) -> Result<Text, NoMemo
     ensures { IfOk result (λ text. text ≡ file_path file.now ++ what.now) }
 {
     let path = under(alloc, file.folder.bytes(), file.name.bytes())?;
-    let mut text = path.into_vec();
+    let mut text = path.into_vec()?;
     text.extend_from_slice(what)?;
     Ok(Text::from_vec(text))
 }
@@ -156,7 +156,7 @@ fn token_text(alloc: Global, file: &TreeFile, place: u32) -> Result<Text, NoMemo
     let before = front(file.bytes.bytes(), place as usize);
     let line = 1 + newlines(before);
     let column = 1 + last_line_len(before);
-    let mut text = path.into_vec();
+    let mut text = path.into_vec()?;
     let mut buffer = Buffer::new();
     text.extend_from_slice(b":")?;
     text.extend_from_slice(buffer.format(line as i128).as_bytes())?;

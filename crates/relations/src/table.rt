@@ -29,9 +29,9 @@ impl Table {
         let TypeName { path, name } = name;
         let package = self
             .packages
-            .entry(path.into_vec())?
+            .entry(path.into_vec()?)?
             .or_insert(IndexMap::new(self.alloc));
-        match package.insert(name.into_vec(), defined) {
+        match package.insert(name.into_vec()?, defined) {
             Ok(None) => Ok(()),
             Ok(Some(_)) => Err(Refusal::WrongLine),
             Err(_) => Err(Refusal::NoMemory),

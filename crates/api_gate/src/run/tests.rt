@@ -67,7 +67,7 @@ fn holds_what_it_is_given(rt: HostRuntime) -> Result<(), Fail> {
     let text = Text::of(alloc, b"abc")?;
     assert!(rt; text == Text::from_vec(Vec::from_slice(alloc, b"abc")?));
     assert!(rt; text < Text::of(alloc, b"abcd")?);
-    assert_eq!(rt; text.into_vec().as_slice(), b"abc".as_slice());
+    assert_eq!(rt; text.into_vec()?.as_slice(), b"abc".as_slice());
     let boxed = Box::new(alloc, 7u32)?;
     assert_eq!(rt; *boxed.value(), 7);
     assert_eq!(rt; boxed.into_value(), 7);

@@ -1,0 +1,60 @@
+-- Lines that are collected, and then put in order, each once.
+use Rattle.std.proofs.Common.{◌≡◌, ◌≢◌, ℕ, zero, suc, ◌+◌, ◌<◌, Bool, true, List, [], ◌∷◌, ◌++◌, length, get_or, refl, sym, ap, ◌∙◌, subst, inl, inr, arith}
+use Rattle.std.specs.Ordering.{nat_cmp}
+use Rattle.std.specs.Prelude.{bytes_eq}
+use Rattle.std.specs.Cmp.Lexicographic.{slice_cmp, bytes_decides, nat_list_cmp_total, nat_list_eq_equiv, texts_ties}
+use Rattle.std.specs.List.{Contains, dedup}
+use Rattle.std.specs.List.Retain.{IsFiltered, DiffersFromLast}
+use Rattle.std.specs.List.Sorted.{IsPermutation, IsSorted}
+use Rattle.std.proofs.lemmas.List.Filters.{dedup_is}
+use Rattle.std.proofs.lemmas.List.Kept.{Contains-dedup, Contains-from_dedup, IsStrictlySortedBy-dedup}
+use Rattle.std.proofs.lemmas.List.Sorted.{Contains-permutation, IsPermutation-sym}
+use Rattle.go_model.specs.Lists.{Has}
+use Rattle.api_gate.specs.Features.{IsOrdered}
+use Rattle.api_gate.specs.Growing.{Grows}
+use Rattle.api_gate.proofs.Named.{has_at}
+
+has_end : {A : Type 0} (xs : List A) (x : A) → Has (xs ++ x ∷ []) x
+has_end [] x = inl refl
+has_end (y ∷ xs) x = inr (has_end xs x)
+
+has_pushed : {A : Type 0} (xs : List A) (y x : A) → Has (xs ++ y ∷ []) x → Has xs x ⊎ (y ≡ x)
+has_pushed [] y x h = elim h [ inl e ↦ inr e | inr r ↦ absurd r ]
+has_pushed (z ∷ xs) y x h = elim h [ inl e ↦ inl (inl e) | inr r ↦ elim (has_pushed xs y x r) [ inl a ↦ inl (inr a) | inr b ↦ inr b ] ]
+
+has_before : {A : Type 0} (xs : List A) (y x : A) → Has xs x → Has (xs ++ y ∷ []) x
+has_before [] y x h = absurd h
+has_before (z ∷ xs) y x h = elim h [ inl e ↦ inl e | inr r ↦ inr (has_before xs y x r) ]
+
+pub grows_pushed : {A : Type 0} (old : List A) (y : A) → Grows (λ x. y ≡ x) old (old ++ y ∷ [])
+grows_pushed old y = record { sound = has_pushed old y; kept = has_before old y; complete = λ x e. subst (Has (old ++ y ∷ [])) e (has_end old y) }
+
+contains_has : {A : Type 0} (xs : List A) (x : A) → Contains xs x → Has xs x
+contains_has xs x c = has_at xs c.0 x c.1 (sym c.2)
+
+has_contains : {A : Type 0} (xs : List A) (x : A) → Has xs x → Contains xs x
+has_contains [] x h = absurd h
+has_contains (y ∷ xs) x h = elim h [
+  | inl e ↦ (0, omega arith, e)
+  | inr r ↦ let c : Contains xs x = has_contains xs x r in (suc c.0, omega (arith, c.1), c.2)
+]
+
+module _ (old sorted : List (List ℕ)) (moved : IsPermutation old sorted) where
+  sound : (line : List ℕ) → Has (dedup bytes_eq sorted) line → Has old line
+  sound line h = contains_has old line (Contains-permutation sorted old line (IsPermutation-sym old sorted moved) (Contains-from_dedup bytes_eq sorted line (has_contains (dedup bytes_eq sorted) line h)))
+
+  complete : (line : List ℕ) → Has old line → Has (dedup bytes_eq sorted) line
+  complete line h =
+      contains_has (dedup bytes_eq sorted) line
+      (Contains-dedup nat_list_eq_equiv (λ x y. (bytes_decides x y).0) sorted line (Contains-permutation old sorted line moved (has_contains old line h)))
+
+  pub in_order : (new : List (List ℕ)) → IsSorted (slice_cmp nat_cmp) sorted → IsFiltered (DiffersFromLast bytes_eq) [] sorted new → IsOrdered (Has old) new
+  in_order new up left = subst (IsOrdered (Has old)) (sym (dedup_is bytes_eq sorted new left)) (record { sound = sound; complete = complete; ordered = IsStrictlySortedBy-dedup nat_list_cmp_total texts_ties sorted up })
+
+-- what stands in order among the lines that have a property stands in order among all with it
+pub in_order_as : (P : List ℕ → Type 0) (lines new : List (List ℕ)) → Grows P [] lines → IsOrdered (Has lines) new → IsOrdered P new
+in_order_as P lines new g o = record {
+  sound = λ x h. elim (g.sound x (o.sound x h)) [ inl n ↦ absurd n | inr p ↦ p ];
+  complete = λ x p. o.complete x (g.complete x p);
+  ordered = o.ordered;
+}
