@@ -1,17 +1,19 @@
 -- Lines that are collected, and then put in order, each once.
-use Rattle.std.proofs.Common.{◌≡◌, ◌≢◌, ℕ, zero, suc, ◌+◌, ◌<◌, Bool, true, List, [], ◌∷◌, ◌++◌, length, get_or, refl, sym, ap, ◌∙◌, subst, inl, inr, arith}
+use Rattle.std.proofs.Common.{◌≡◌, ◌⊎◌, ℕ, suc, ◌+◌, ◌<◌, List, [], ◌∷◌, ◌++◌, length, drop, get_or, refl, sym, ap, ◌∙◌, subst, inl, inr, arith}
 use Rattle.std.specs.Ordering.{nat_cmp}
 use Rattle.std.specs.Prelude.{bytes_eq}
 use Rattle.std.specs.Cmp.Lexicographic.{slice_cmp, bytes_decides, nat_list_cmp_total, nat_list_eq_equiv, texts_ties}
 use Rattle.std.specs.List.{Contains, dedup}
 use Rattle.std.specs.List.Retain.{IsFiltered, DiffersFromLast}
 use Rattle.std.specs.List.Sorted.{IsPermutation, IsSorted}
+use Rattle.std.proofs.lemmas.List.{append_assoc}
 use Rattle.std.proofs.lemmas.List.Filters.{dedup_is}
 use Rattle.std.proofs.lemmas.List.Kept.{Contains-dedup, Contains-from_dedup, IsStrictlySortedBy-dedup}
 use Rattle.std.proofs.lemmas.List.Sorted.{Contains-permutation, IsPermutation-sym}
 use Rattle.go_model.specs.Lists.{Has}
-use Rattle.api_gate.specs.Features.{IsOrdered}
+use Rattle.api_gate.specs.Features.{IsOrdered, unlines}
 use Rattle.api_gate.specs.Growing.{Grows}
+use Rattle.api_gate.proofs.Drops.{next_drop}
 use Rattle.api_gate.proofs.Named.{has_at}
 
 has_end : {A : Type 0} (xs : List A) (x : A) → Has (xs ++ x ∷ []) x
@@ -26,8 +28,8 @@ has_before : {A : Type 0} (xs : List A) (y x : A) → Has xs x → Has (xs ++ y 
 has_before [] y x h = absurd h
 has_before (z ∷ xs) y x h = elim h [ inl e ↦ inl e | inr r ↦ inr (has_before xs y x r) ]
 
-pub grows_pushed : {A : Type 0} (old : List A) (y : A) → Grows (λ x. y ≡ x) old (old ++ y ∷ [])
-grows_pushed old y = record { sound = has_pushed old y; kept = has_before old y; complete = λ x e. subst (Has (old ++ y ∷ [])) e (has_end old y) }
+pub grows_pushed : {A : Type 0} (old new : List A) (y : A) → new ≡ old ++ y ∷ [] → Grows (λ x. y ≡ x) old new
+grows_pushed {A = A} old new y e = subst (Grows (λ x. y ≡ x) old) (sym e) (record { sound = has_pushed old y; kept = has_before old y; complete = λ x is. subst (Has (old ++ y ∷ [])) is (has_end old y) })
 
 contains_has : {A : Type 0} (xs : List A) (x : A) → Contains xs x → Has xs x
 contains_has xs x c = has_at xs c.0 x c.1 (sym c.2)
@@ -58,3 +60,10 @@ in_order_as P lines new g o = record {
   complete = λ x p. o.complete x (g.complete x p);
   ordered = o.ordered;
 }
+
+-- a line more of the text, and a line fewer that is left
+pub unlines_next : (lines : List (List ℕ)) (i : ℕ) (line text new : List ℕ) → i < length lines → line ≡ get_or lines i line → new ≡ text ++ line ++ 10 ∷ [] → text ++ unlines (drop i lines) ≡ unlines lines → new ++ unlines (drop (i + 1) lines) ≡ unlines lines
+unlines_next lines i line text new h e is so =
+    let rest : List ℕ = unlines (drop (i + 1) lines) in
+    ap (λ n. n ++ rest) is ∙ ap (λ n. n ++ rest) (append_assoc text line (10 ∷ [])) ∙ append_assoc text (line ++ 10 ∷ []) rest
+    ∙ ap (λ (ls : List (List ℕ)). text ++ unlines ls) (sym (next_drop lines i line h e)) ∙ so

@@ -13,25 +13,8 @@ use Rattle.api_gate.specs.Growing.{Grows}
 abbrev pub order : List ℕ → List ℕ → Ordering
 order = slice_cmp nat_cmp
 
-abbrev pub Pair : Type 0
-Pair = List ℕ × List ℕ
-
-abbrev pub pair_order : Pair → Pair → Ordering
-pair_order x y = ordering_then (order x.0 y.0) (order x.1 y.1)
-
 pub texts_tie : IsAntisymmetric order
 texts_tie = slice_cmp-IsAntisymmetric nat_cmp-IsAntisymmetric
-
-pub pairs_tie : IsAntisymmetric pair_order
-pairs_tie x y e = both (order x.0 y.0) (order x.1 y.1) refl refl e
-  where
-    both : (o r : Ordering) → order x.0 y.0 ≡ o → order x.1 y.1 ≡ r → ordering_then o r ≡ Equal → x ≡ y
-    both Less r is so t = absurd (cc)
-    both Equal r is so t =
-        let first : x.0 ≡ y.0 = texts_tie x.0 y.0 is in
-        let second : x.1 ≡ y.1 = texts_tie x.1 y.1 (so ∙ t) in
-        λ i. (first i, second i)
-    both Greater r is so t = absurd (cc)
 
 module _ {K : Type 0} (R : K → K → Ordering) (same : IsAntisymmetric R) where
   inserted_by : (y : K) (ys : List K) (k : K) (o : Ordering) → R k y ≡ o → Grows (λ x. k ≡ x) ys (insert_key R ys k) → Grows (λ x. k ≡ x) (y ∷ ys) (match_ordering o (k ∷ y ∷ ys) (y ∷ ys) (y ∷ insert_key R ys k))

@@ -1,6 +1,6 @@
 -- Keys that are put into a set one by one.
 use Rattle.std.proofs.Common.{◌≡◌, ℕ, Bool, true, false, not, List, [], ◌∷◌, refl, sym, ap, ◌∙◌, inl, inr, ◌||◌}
-use Rattle.std.specs.Ordering.{is_eq, ordering_reverse, ordering_then}
+use Rattle.std.specs.Ordering.{is_eq, ordering_reverse}
 use Rattle.std.specs.declared.cmp.Ordering.{Ordering}
 use Rattle.std.specs.declared.cmp.Ordering.TheVariants.{Less, Equal, Greater}
 use Rattle.std.specs.List.{list_any}
@@ -10,7 +10,7 @@ use Rattle.std.specs.BTreeSet.{insert_key}
 use mathlib.Core.Bool.{true≢false}
 use Rattle.go_model.specs.Lists.{Has}
 use Rattle.api_gate.specs.NamesReading.{Adds}
-use Rattle.api_gate.proofs.Grown.{order, Pair, pair_order, texts_tie, pairs_tie, grows_inserted}
+use Rattle.api_gate.proofs.Grown.{order, texts_tie, grows_inserted}
 
 equal_itself : (o : Ordering) → o ≡ ordering_reverse o → o ≡ Equal
 equal_itself Less e = cc
@@ -19,9 +19,6 @@ equal_itself Greater e = cc
 
 text_itself : (k : List ℕ) → order k k ≡ Equal
 text_itself k = equal_itself (order k k) (nat_list_cmp_total.antisymm k k)
-
-pair_itself : (k : Pair) → pair_order k k ≡ Equal
-pair_itself k = ap (λ o. ordering_then o (order k.1 k.1)) (text_itself k.0) ∙ text_itself k.1
 
 or_true : (a : Bool) → (a || true) ≡ true
 or_true true = refl
@@ -60,6 +57,3 @@ module _ {K : Type 0} (R : K → K → Ordering) (same : IsAntisymmetric R) (its
 
 pub adds_text : (old new : List (List ℕ)) (k : List ℕ) (added : Bool) → new ≡ insert_key order old k → added ≡ not (list_any (λ y. is_eq (order k y)) old) → Adds old k new added
 adds_text = adds order texts_tie text_itself
-
-pub adds_pair : (old new : List Pair) (k : Pair) (added : Bool) → new ≡ insert_key pair_order old k → added ≡ not (list_any (λ y. is_eq (pair_order k y)) old) → Adds old k new added
-adds_pair = adds pair_order pairs_tie pair_itself

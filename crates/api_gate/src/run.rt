@@ -180,6 +180,3 @@ pub fn one_outcome()
     one_sources();
     one_report();
 }
-
-#[cfg(test)]
-mod tests;

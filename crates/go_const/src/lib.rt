@@ -10,5 +10,3 @@ mod number;
 pub mod operation;
 pub mod representation;
 mod results;
-#[cfg(test)]
-mod tests;

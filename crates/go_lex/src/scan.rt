@@ -61,6 +61,3 @@ pub fn one_list()
     ensures not_both { (bytes : List ℕ) (place : ℕ) (tokens : List Token) → IsBadPlace bytes place → IsTokens bytes tokens → ⊥ }
     ensures longest { (bytes : List ℕ) (place : ℕ) (lexemes : List Lexeme) (rest : List ℕ) → IsBadPlace bytes place → CutTo (without_mark bytes) lexemes rest → length bytes - length rest ≤ place }
 {}
-
-#[cfg(test)]
-mod tests;

@@ -143,6 +143,3 @@ pub fn one_answer()
     ensures module_answer { (m : Contents) (root : Path) (r s : Result Tree LoadError) → LoadsModule m root r → LoadsModule m root s → Agree r s }
     ensures files_answer { (m : Contents) (tree : TreeKind) (root : Path) (r s : Result Tree LoadError) → LoadsFiles m tree root r → LoadsFiles m tree root s → Agree r s }
 {}
-
-#[cfg(test)]
-mod tests;

@@ -92,30 +92,3 @@ impl Files for FailingFiles {
         self.files.read(alloc, path, limit)
     }
 }
-
-#[cfg(test)]
-mod tests {
-    use super::*;
-    use crate::memory_files::FilePair;
-    use std::test::Fail;
-
-    #[test]
-    fn fails_at_its_numbers(rt: HostRuntime) -> Result<(), Fail> {
-        let alloc = rt.alloc();
-        let mut pairs = List::new(alloc);
-        pairs.push(FilePair {
-            path: Text::of(alloc, b"f/x")?,
-            bytes: Text::of(alloc, b"y")?,
-        })?;
-        let mut fail = List::new(alloc);
-        for number in [3u64, 0, 2, 3] {
-            fail.push(number)?;
-        }
-        let mut files = FailingFiles::new(MemoryFiles::new(alloc, pairs)?, fail);
-        assert_eq!(rt; files.read(alloc, b"f/x", 1)?.bytes(), b"y".as_slice());
-        assert_eq!(rt; files.read(alloc, b"f/x", 1).is_err(), true);
-        assert_eq!(rt; files.list(alloc, b"f").is_err(), true);
-        assert_eq!(rt; files.list(alloc, b"f")?.items().len(), 1);
-        Ok(())
-    }
-}

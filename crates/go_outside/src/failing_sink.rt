@@ -67,29 +67,3 @@ impl Sink for FailingSink {
         self.sink.write(piece)
     }
 }
-
-#[cfg(test)]
-mod tests {
-    use super::*;
-    use std::test::Fail;
-
-    #[test]
-    fn fails_at_its_numbers_and_past_the_capacity(rt: HostRuntime) -> Result<(), Fail> {
-        let mut fail = List::new(rt.alloc());
-        for number in [0u64, 2, 2] {
-            fail.push(number)?;
-        }
-        let mut sink = FailingSink::new(MemorySink::with_capacity(rt.alloc(), 2)?, fail);
-        let writes: [(&str, bool, &str); 4] = [
-            ("a", true, "a"),
-            ("b", false, "a"),
-            ("bc", false, "a"),
-            ("b", true, "ab"),
-        ];
-        for (piece, is_taken, taken) in writes {
-            assert_eq!(rt; sink.write(piece.as_bytes()).is_ok(), is_taken);
-            assert_eq!(rt; sink.bytes(), taken.as_bytes());
-        }
-        Ok(())
-    }
-}

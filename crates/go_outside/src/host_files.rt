@@ -187,28 +187,3 @@ impl<'a, R: Runtime + AllocGlobal> Files for HostFiles<'a, R> {
         }
     }
 }
-
-#[cfg(test)]
-mod tests {
-    use super::*;
-
-    #[test]
-    fn misses_what_is_not_there(rt: HostRuntime) {
-        let mut files = HostFiles::new(&rt);
-        let missing = matches!(
-            files.read(rt.alloc(), b"no/such", 9),
-            Err(FilesError::Missing)
-        );
-        assert!(rt; missing);
-        let missing = matches!(files.list(rt.alloc(), b"no/such"), Err(FilesError::Missing));
-        assert!(rt; missing);
-        let failed = matches!(files.list(rt.alloc(), b"\xff"), Err(FilesError::Failed));
-        assert!(rt; failed);
-    }
-
-    #[test]
-    fn lists_the_folder_that_it_starts_in(rt: HostRuntime) {
-        let mut files = HostFiles::new(&rt);
-        assert!(rt; files.list(rt.alloc(), b".").is_ok());
-    }
-}

@@ -136,19 +136,3 @@ impl<'a, R: Runtime + AllocGlobal> Sink for HostSink<'a, R> {
         }
     }
 }
-
-#[cfg(test)]
-mod tests {
-    use super::*;
-
-    #[test]
-    fn writes_to_both_streams(rt: HostRuntime) {
-        let mut out = HostSink::out(&rt);
-        assert_eq!(rt; out.write(b"out\n"), Ok(()));
-        assert_eq!(rt; out.write(b""), Ok(()));
-        let mut err = HostSink::err(&rt);
-        assert_eq!(rt; err.write(b"err \xc3"), Ok(()));
-        assert_eq!(rt; err.write(b"\xa9\n"), Ok(()));
-        assert_eq!(rt; err.write(b"\xff"), Err(SinkError::Failed));
-    }
-}

@@ -95,30 +95,3 @@ impl Sink for MemorySink {
         Err(SinkError::Failed)
     }
 }
-
-#[cfg(test)]
-mod tests {
-    use super::*;
-    use std::test::Fail;
-
-    #[test]
-    fn takes_up_to_its_capacity(rt: HostRuntime) -> Result<(), Fail> {
-        let mut sink = MemorySink::with_capacity(rt.alloc(), 3)?;
-        let writes: [(&str, Result<(), SinkError>, &str); 5] = [
-            ("ab", Ok(()), "ab"),
-            ("cd", Err(SinkError::Failed), "ab"),
-            ("c", Ok(()), "abc"),
-            ("", Ok(()), "abc"),
-            ("d", Err(SinkError::Failed), "abc"),
-        ];
-        for (piece, answer, taken) in writes {
-            assert_eq!(rt; sink.write(piece.as_bytes()), answer);
-            assert_eq!(rt; sink.bytes(), taken.as_bytes());
-        }
-        let mut full = MemorySink::new();
-        assert_eq!(rt; full.write(b""), Ok(()));
-        assert_eq!(rt; full.write(b"a"), Err(SinkError::Failed));
-        assert_eq!(rt; full.bytes().len(), 0);
-        Ok(())
-    }
-}

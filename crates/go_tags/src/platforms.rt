@@ -29,27 +29,3 @@ fn find_named(platforms: &[Platform], text: &[u8]) -> Option<Platform>
 pub fn one_platform()
     ensures { (p q : Platform) → name_of p ≡ name_of q → p ≡ q }
 {}
-
-#[cfg(test)]
-mod tests {
-    use super::platform;
-    use go_model::platform::Platform;
-
-    #[test]
-    fn knows_each_name_and_no_other(rt: HostRuntime) {
-        for known in Platform::ALL {
-            assert!(rt; platform(known.name()) == Some(known));
-        }
-        let unknown: [&[u8]; 6] = [
-            b"",
-            b"linux",
-            b"linux-",
-            b"linux-amd64 ",
-            b"Linux-amd64",
-            b"js-wasm",
-        ];
-        for text in unknown {
-            assert!(rt; platform(text).is_none());
-        }
-    }
-}

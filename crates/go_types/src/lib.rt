@@ -21,6 +21,4 @@ mod place;
 mod slot;
 mod slots;
 mod steps;
-#[cfg(test)]
-mod tests;
 mod untagged;

@@ -1,7 +1,7 @@
-use crate::comparison::compare_values;
-use crate::conversion::convert;
-use crate::operation::{binary, shift, unary};
-use crate::representation::representable;
+use go_const::comparison::compare_values;
+use go_const::conversion::convert;
+use go_const::operation::{binary, shift, unary};
+use go_const::representation::representable;
 use go_model::memory::NoMemory;
 use go_model::syntax::operator::CompareOp;
 use go_model::text::Text;

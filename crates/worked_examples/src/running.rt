@@ -1,6 +1,14 @@
 //! What the clauses of `run` don't say: that runs end as the definitions say with ample memory, on
 //! worked examples whose answers come from outside, and how large the pieces are.
-use super::*;
+use api_gate::run::run;
+use api_gate::status::Status;
+use go_model::memory::NoMemory;
+use go_model::steps::Steps;
+use go_model::text::Text;
+use go_outside::files::Files;
+use go_outside::sink::Sink;
+use std::alloc::Global;
+use std::thread::Threads;
 
 mod forms;
 mod references;

@@ -1,6 +1,9 @@
 //! Places and values from Go's scanner, but for the rows that say otherwise.
-use super::*;
-use go_model::token::TokenValue;
+use go_lex::error::LexError;
+use go_lex::scan::scan;
+use go_model::list::List;
+use go_model::token::{Token, TokenValue};
+use std::alloc::Global;
 use std::test::Fail;
 
 /// The tokens as the tables have them.

@@ -3,12 +3,6 @@ ghost use Rattle.std.specs.Prelude.{◌≡◌};
 ghost use Rattle.go_model.specs.Keys.{first_with, item_of};
 ghost use Rattle.go_model.specs.Worlds.{table_of};
 
-use crate::assignable::assignable_in;
-use crate::comparable::comparable_in;
-use crate::convertible::convertible_in;
-use crate::find::find_in;
-use crate::identical::identical;
-use crate::implements::implements_in;
 use go_model::boxed::Box;
 use go_model::list::List;
 use go_model::memory::NoMemory;
@@ -20,6 +14,12 @@ use go_model::types::package::{Defined, MethodOf, Package};
 use go_model::types::table::TypeTable;
 use go_model::types::term::{Direction, Field, Method, Signature, Term};
 use go_model::value::Basic;
+use go_types::assignable::assignable_in;
+use go_types::comparable::comparable_in;
+use go_types::convertible::convertible_in;
+use go_types::find::find_in;
+use go_types::identical::identical;
+use go_types::implements::implements_in;
 use std::alloc::Global;
 use std::test::Fail;
 

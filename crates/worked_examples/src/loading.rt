@@ -1,14 +1,16 @@
 //! Loads from stores in memory, and from stores that tell nothing.
 ghost use Rattle.std.specs.Prelude.{◌≡◌, None};
 
-use super::*;
+use go_load::error::LoadError;
+use go_load::load::{load_client, load_module, load_std};
 use go_model::list::List;
 use go_model::memory::NoMemory;
-use go_model::tree::{LimitName, MOST_FILE_BYTES, MOST_FILES, MOST_FOLDERS, MOST_PACKAGES};
+use go_model::text::Text;
+use go_model::tree::{LimitName, MOST_FILE_BYTES, MOST_FILES, MOST_FOLDERS, MOST_PACKAGES, Tree};
 use go_outside::failing_files::FailingFiles;
-use go_outside::files::{Entry, EntryKind, FilesError};
+use go_outside::files::{Entry, EntryKind, Files, FilesError};
 use go_outside::memory_files::{FilePair, MemoryFiles};
-use std::alloc::AllocError;
+use std::alloc::{AllocError, Global};
 use std::test::Fail;
 
 fn stored(alloc: Global, paths: &[(&[u8], &[u8])]) -> Result<List<FilePair>, NoMemory> {
@@ -390,6 +392,51 @@ fn bears_odd_listings(rt: HostRuntime) -> Result<(), Fail> {
         };
         let outcome = load_module(alloc, &mut files, b"r");
         assert_eq!(rt; shown(alloc, &outcome)?.as_slice(), want);
+    }
+    Ok(())
+}
+
+// Expected from the Go Modules Reference, with lines ended by newlines alone.
+#[test]
+fn reads_the_module_line(rt: HostRuntime) -> Result<(), Fail> {
+    let alloc = rt.alloc();
+    let rows = [
+        (b"module m\n".as_slice(), b"m".as_slice()),
+        (b"module m", b"m"),
+        (b" \tmodule\tm/v2 \t// v2\n", b"m/v2"),
+        (b"module m// no blank\n", b"m"),
+        (b"module m//a\n", b"m"),
+        (b"module \"m/a\" // a\n", b"m/a"),
+        (b"module `a.b/c-d_e~F`\n", b"a.b/c-d_e~F"),
+        (b"// module x\nmodule m/C\n\ngo 1.22\n\0", b"m/C"),
+        (b"modulex y\nmodule(\nmodule m\n", b"m"),
+        (b"", b"bad module"),
+        (b"go 1.22\n", b"bad module"),
+        (b"module\n", b"bad module"),
+        (b"module // m\n", b"bad module"),
+        (b"module (\n\tm\n)\n", b"bad module"),
+        (b"module m x\n", b"bad module"),
+        (b"module m\nmodule m\n", b"bad module"),
+        (b"module m\r\n", b"bad module"),
+        (b"\xef\xbb\xbfmodule m\n", b"bad module"),
+        (b"module unsafe\n", b"bad module"),
+        (b"module C\n", b"bad module"),
+        (b"module .m\n", b"bad module"),
+        (b"module m/-a\n", b"bad module"),
+        (b"module m/\n", b"bad module"),
+        (b"module /m\n", b"bad module"),
+        (b"module m+a\n", b"bad module"),
+        (b"module \"m\n", b"bad module"),
+        (b"module \"m`\n", b"bad module"),
+        (b"module \"\n", b"bad module"),
+        (b"module \"\"\n", b"bad module"),
+        (b"module \"m\"x\n", b"bad module"),
+    ];
+    for (at, (bytes, wanted)) in rows.iter().enumerate() {
+        let pairs = [(b"r/go.mod".as_slice(), *bytes)];
+        let mut files = MemoryFiles::new(alloc, stored(alloc, &pairs)?)?;
+        let module = load_module(alloc, &mut files, b"r");
+        assert_eq!(rt; shown(alloc, &module)?.as_slice(), *wanted, "in row {at}");
     }
     Ok(())
 }
