@@ -166,7 +166,8 @@ pub fn report(alloc: Global, module: &[u8], sources: &[FileSource]) -> Result<Te
     ensures { IfOk result (IsReport «module».now sources.now) }
 {
     let lines = in_order(feature_lines(alloc, module, sources)?);
-    unlines(alloc, &lines)
+    let text = unlines(alloc, &lines)?;
+    Ok(text)
 }
 
 /// The files of a module have one report.
