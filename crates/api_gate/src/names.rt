@@ -94,10 +94,7 @@ fn are_of_one_package(alloc: Global, sources: &[FileSource]) -> Result<bool, NoM
 }
 
 // Adds the names of a file, unless one of them is there.
-fn add_declared<'a>(
-    names: &mut IndexSet<Pair<'a>>,
-    file: &'a FileSource,
-) -> Result<bool, NoMemory>
+fn add_declared<'a>(names: &mut IndexSet<Pair<'a>>, file: &'a FileSource) -> Result<bool, NoMemory>
     ensures { IfOk result (TellsOnce names.old.keys (declared_in file.now) names.new.keys) }
 {
     for constant in file.source.constants.items() {
