@@ -85,6 +85,20 @@ fn tag(alloc: Global, digits: &str) -> Result<Text, Refusal> {
     }
 }
 
+// The last so many items, from the last one on, in a list that has room for no more.
+fn take<T: Drop>(alloc: Global, items: &mut Vec<T>, count: u64) -> Result<List<T>, Refusal> {
+    if count > items.len() as u64 {
+        return Err(Refusal::WrongLine);
+    }
+    let mut taken = Vec::with_capacity(alloc, count as usize)?;
+    for _ in 0..count {
+        if let Some(item) = items.pop() {
+            taken.push(item)?;
+        }
+    }
+    Ok(List::from_vec(taken))
+}
+
 /// What the words on the right are, the leftmost last.
 #[derive(Drop)]
 pub struct Stack {
@@ -119,13 +133,8 @@ impl Stack {
 
     /// The declared methods.
     pub fn declared(&mut self, alloc: Global) -> Result<List<MethodOf>, Refusal> {
-        let mut methods = List::new(alloc);
-        for _ in 0..self.declared.len() {
-            if let Some(method) = self.declared.pop() {
-                methods.push(method)?;
-            }
-        }
-        Ok(methods)
+        let count = self.declared.len() as u64;
+        take(alloc, &mut self.declared, count)
     }
 
     /// Refuses what nothing has taken.
@@ -152,37 +161,6 @@ impl Stack {
         }
     }
 
-    fn take_terms(&mut self, alloc: Global, count: u64) -> Result<List<Term>, Refusal> {
-        let mut terms = List::new(alloc);
-        for _ in 0..count {
-            let term = self.term()?;
-            terms.push(term)?;
-        }
-        Ok(terms)
-    }
-
-    fn take_fields(&mut self, alloc: Global, count: u64) -> Result<List<Field>, Refusal> {
-        let mut fields = List::new(alloc);
-        for _ in 0..count {
-            match self.fields.pop() {
-                Some(field) => fields.push(field)?,
-                None => return Err(Refusal::WrongLine),
-            }
-        }
-        Ok(fields)
-    }
-
-    fn take_methods(&mut self, alloc: Global, count: u64) -> Result<List<Method>, Refusal> {
-        let mut methods = List::new(alloc);
-        for _ in 0..count {
-            match self.methods.pop() {
-                Some(method) => methods.push(method)?,
-                None => return Err(Refusal::WrongLine),
-            }
-        }
-        Ok(methods)
-    }
-
     fn signature(
         &mut self,
         alloc: Global,
@@ -193,8 +171,8 @@ impl Stack {
             Some(parts) => parts,
             None => return Err(Refusal::WrongLine),
         };
-        let params = self.take_terms(alloc, number(params)?)?;
-        let results = self.take_terms(alloc, number(results)?)?;
+        let params = take(alloc, &mut self.terms, number(params)?)?;
+        let results = take(alloc, &mut self.terms, number(results)?)?;
         Ok(Signature {
             params,
             variadic,
@@ -266,8 +244,8 @@ impl Stack {
     fn counted(&mut self, alloc: Global, kind: &str, parts: &str) -> Result<Term, Refusal> {
         match kind {
             "array" => Ok(Term::Array(number(parts)?, self.boxed(alloc)?)),
-            "struct" => Ok(Term::Struct(self.take_fields(alloc, number(parts)?)?)),
-            "interface" => Ok(Term::Interface(self.take_methods(alloc, number(parts)?)?)),
+            "struct" => Ok(Term::Struct(take(alloc, &mut self.fields, number(parts)?)?)),
+            "interface" => Ok(Term::Interface(take(alloc, &mut self.methods, number(parts)?)?)),
             "func" => Ok(Term::Func(self.signature(alloc, false, parts)?)),
             "variadic" => Ok(Term::Func(self.signature(alloc, true, parts)?)),
             _ => Err(Refusal::WrongLine),

@@ -1,0 +1,5 @@
+//! Worked examples of constant arithmetic.
+#![tactic(auto)]
+
+#[cfg(test)]
+mod tests;

@@ -1,0 +1,5 @@
+//! Worked examples of the relations on types.
+#![tactic(auto)]
+
+#[cfg(test)]
+mod tests;
