@@ -92,25 +92,57 @@ const TREE: [(&[u8], &[u8]); 24] = [
     (b"s/a.go", b"package s\n"),
 ];
 
+fn shown_module(
+    alloc: Global,
+    files: &mut MemoryFiles,
+    root: &[u8],
+) -> Result<Vec<u8>, AllocError> {
+    let outcome = load_module(alloc, files, root);
+    shown(alloc, &outcome)
+}
+
+fn shown_std(alloc: Global, files: &mut MemoryFiles, root: &[u8]) -> Result<Vec<u8>, AllocError> {
+    let outcome = load_std(alloc, files, root);
+    shown(alloc, &outcome)
+}
+
+fn shown_client(
+    alloc: Global,
+    files: &mut MemoryFiles,
+    root: &[u8],
+) -> Result<Vec<u8>, AllocError> {
+    let outcome = load_client(alloc, files, root);
+    shown(alloc, &outcome)
+}
+
+fn tree_files(alloc: Global) -> Result<MemoryFiles, Fail> {
+    let pairs = stored(alloc, &TREE)?;
+    Ok(MemoryFiles::new(alloc, pairs)?)
+}
+
 #[test]
 fn takes_what_go_takes(rt: HostRuntime) -> Result<(), Fail> {
     let alloc = rt.alloc();
-    let mut files = MemoryFiles::new(alloc, stored(alloc, &TREE)?)?;
-    let module = load_module(alloc, &mut files, b"r");
+    let mut files = tree_files(alloc)?;
+    let module = shown_module(alloc, &mut files, b"r")?;
     assert_eq!(rt;
-        shown(alloc, &module)?.as_slice(),
+        module.as_slice(),
         b"m :a.go :vendor.go b:b.go b-c:d.go b/e:f.go p/go.mod:q.go x.go:y.go".as_slice()
     );
-    let library = load_std(alloc, &mut files, b"r");
+    let library = shown_std(alloc, &mut files, b"r")?;
     assert_eq!(rt;
-        shown(alloc, &library)?.as_slice(),
+        library.as_slice(),
         b" b:b.go b-c:d.go b/e:f.go n:n.go n/o:o.go p/go.mod:q.go x.go:y.go".as_slice()
     );
-    let client = load_client(alloc, &mut files, b"r");
-    assert_eq!(rt;
-        shown(alloc, &client)?.as_slice(),
-        b" :a.go :vendor.go".as_slice()
-    );
+    let client = shown_client(alloc, &mut files, b"r")?;
+    assert_eq!(rt; client.as_slice(), b" :a.go :vendor.go".as_slice());
+    Ok(())
+}
+
+#[test]
+fn refuses_roots(rt: HostRuntime) -> Result<(), Fail> {
+    let alloc = rt.alloc();
+    let mut files = tree_files(alloc)?;
     let rows = [
         (b"s".as_slice(), b"no module".as_slice()),
         (b"r/p", b"no module"),
@@ -119,11 +151,11 @@ fn takes_what_go_takes(rt: HostRuntime) -> Result<(), Fail> {
         (b"r/z.txt", b"missing "),
     ];
     for (root, want) in rows {
-        let outcome = load_module(alloc, &mut files, root);
-        assert_eq!(rt; shown(alloc, &outcome)?.as_slice(), want);
+        let outcome = shown_module(alloc, &mut files, root)?;
+        assert_eq!(rt; outcome.as_slice(), want);
     }
-    let missing = load_std(alloc, &mut files, b"q");
-    assert_eq!(rt; shown(alloc, &missing)?.as_slice(), b"missing ".as_slice());
+    let missing = shown_std(alloc, &mut files, b"q")?;
+    assert_eq!(rt; missing.as_slice(), b"missing ".as_slice());
     Ok(())
 }
 
