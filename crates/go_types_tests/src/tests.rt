@@ -457,22 +457,27 @@ const ASSIGNABLE: [(&[u8], &[u8], bool, bool); 13] = [
     (b"error",             b":Error interface", false, false),
 ];
 
+// Whether values of the first type are assignable to the second, elsewhere and in a client of the profile.
+fn assignable_both(
+    alloc: Global,
+    types: &Packages,
+    from: &[u8],
+    to: &[u8],
+) -> Result<(bool, bool), NoMemory> {
+    let from = term(alloc, from)?;
+    let to = term(alloc, to)?;
+    let elsewhere = assignable_in(alloc, types, &from, &to, false)?;
+    let profile = assignable_in(alloc, types, &from, &to, true)?;
+    Ok((elsewhere, profile))
+}
+
 #[test]
 fn assigns(rt: HostRuntime) -> Result<(), Fail> {
     let alloc = rt.alloc();
     let types = table(alloc)?;
-    for (from, to, elsewhere, profile) in ASSIGNABLE {
-        let (left, right) = (term(alloc, from)?, term(alloc, to)?);
-        assert_eq!(rt;
-            assignable_in(alloc, &types, &left, &right, false)?,
-            elsewhere,
-            "{from:?} {to:?}"
-        );
-        assert_eq!(rt;
-            assignable_in(alloc, &types, &left, &right, true)?,
-            profile,
-            "{from:?} {to:?}"
-        );
+    for (from, to, elsewhere, profile) in ASSIGNABLE.iter() {
+        let answers = assignable_both(alloc, &types, from, to)?;
+        assert_eq!(rt; answers, (*elsewhere, *profile), "{from:?} {to:?}");
     }
     Ok(())
 }
@@ -499,22 +504,27 @@ const CONVERTIBLE: [(&[u8], &[u8], bool, bool); 18] = [
     (b"int .F struct *", b"int 'F struct *", true,  true),
 ];
 
+// Whether values of the first type are convertible to the second, elsewhere and in a client of the profile.
+fn convertible_both(
+    alloc: Global,
+    types: &Packages,
+    from: &[u8],
+    to: &[u8],
+) -> Result<(bool, bool), NoMemory> {
+    let from = term(alloc, from)?;
+    let to = term(alloc, to)?;
+    let elsewhere = convertible_in(alloc, types, &from, &to, false)?;
+    let profile = convertible_in(alloc, types, &from, &to, true)?;
+    Ok((elsewhere, profile))
+}
+
 #[test]
 fn converts(rt: HostRuntime) -> Result<(), Fail> {
     let alloc = rt.alloc();
     let types = table(alloc)?;
-    for (from, to, elsewhere, profile) in CONVERTIBLE {
-        let (left, right) = (term(alloc, from)?, term(alloc, to)?);
-        assert_eq!(rt;
-            convertible_in(alloc, &types, &left, &right, false)?,
-            elsewhere,
-            "{from:?} {to:?}"
-        );
-        assert_eq!(rt;
-            convertible_in(alloc, &types, &left, &right, true)?,
-            profile,
-            "{from:?} {to:?}"
-        );
+    for (from, to, elsewhere, profile) in CONVERTIBLE.iter() {
+        let answers = convertible_both(alloc, &types, from, to)?;
+        assert_eq!(rt; answers, (*elsewhere, *profile), "{from:?} {to:?}");
     }
     Ok(())
 }
