@@ -1,5 +1,5 @@
 -- Lines that are collected, and then put in order, each once.
-use Rattle.std.proofs.Common.{◌≡◌, ◌⊎◌, ℕ, suc, ◌+◌, ◌<◌, List, [], ◌∷◌, ◌++◌, length, drop, get_or, refl, sym, ap, ◌∙◌, subst, inl, inr, arith}
+use Rattle.std.proofs.Common.{◌≡◌, ℕ, suc, ◌+◌, ◌<◌, List, [], ◌∷◌, ◌++◌, length, drop, get_or, sym, ap, ◌∙◌, subst, inl, inr, arith}
 use Rattle.std.specs.Ordering.{nat_cmp}
 use Rattle.std.specs.Prelude.{bytes_eq}
 use Rattle.std.specs.Cmp.Lexicographic.{slice_cmp, bytes_decides, nat_list_cmp_total, nat_list_eq_equiv, texts_ties}
@@ -14,22 +14,15 @@ use Rattle.go_model.specs.Lists.{Has}
 use Rattle.api_gate.specs.Features.{IsOrdered, unlines}
 use Rattle.api_gate.specs.Growing.{Grows}
 use Rattle.api_gate.proofs.Drops.{next_drop}
-use Rattle.api_gate.proofs.Named.{has_at}
-
-has_end : {A : Type 0} (xs : List A) (x : A) → Has (xs ++ x ∷ []) x
-has_end [] x = inl refl
-has_end (y ∷ xs) x = inr (has_end xs x)
-
-has_pushed : {A : Type 0} (xs : List A) (y x : A) → Has (xs ++ y ∷ []) x → Has xs x ⊎ (y ≡ x)
-has_pushed [] y x h = elim h [ inl e ↦ inr e | inr r ↦ absurd r ]
-has_pushed (z ∷ xs) y x h = elim h [ inl e ↦ inl (inl e) | inr r ↦ elim (has_pushed xs y x r) [ inl a ↦ inl (inr a) | inr b ↦ inr b ] ]
-
-has_before : {A : Type 0} (xs : List A) (y x : A) → Has xs x → Has (xs ++ y ∷ []) x
-has_before [] y x h = absurd h
-has_before (z ∷ xs) y x h = elim h [ inl e ↦ inl e | inr r ↦ inr (has_before xs y x r) ]
+use Rattle.api_gate.proofs.Named.{has_at, has_either, has_left, has_right}
 
 pub grows_pushed : {A : Type 0} (old new : List A) (y : A) → new ≡ old ++ y ∷ [] → Grows (λ x. y ≡ x) old new
-grows_pushed {A = A} old new y e = subst (Grows (λ x. y ≡ x) old) (sym e) (record { sound = has_pushed old y; kept = has_before old y; complete = λ x is. subst (Has (old ++ y ∷ [])) is (has_end old y) })
+grows_pushed {A = A} old new y e =
+    subst (Grows (λ x. y ≡ x) old) (sym e) (record {
+      sound = λ x h. elim (has_either old (y ∷ []) x h) [ inl o ↦ inl o | inr r ↦ elim r [ inl is_y ↦ inr is_y | inr n ↦ absurd n ] ];
+      kept = λ x h. has_left old (y ∷ []) x h;
+      complete = λ x is_y. has_right old (y ∷ []) x (inl is_y);
+    })
 
 contains_has : {A : Type 0} (xs : List A) (x : A) → Contains xs x → Has xs x
 contains_has xs x c = has_at xs c.0 x c.1 (sym c.2)

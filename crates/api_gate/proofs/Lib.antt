@@ -2,7 +2,6 @@ pub mod Collected
 pub mod Drops
 pub mod Gathered
 pub mod Grown
-pub mod Hashed
 pub mod Lines
 pub mod Named
 pub mod OneSource

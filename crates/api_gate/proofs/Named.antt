@@ -99,15 +99,15 @@ pub record KeptTo {K : Type 0} (old items rest seen : List K) : Type 0 where
 pub kept_first : {K : Type 0} (old items : List K) → KeptTo old items items old
 kept_first old items = record { forth = λ f. f; back = λ f. f; all = λ new g. g }
 
-has_left : {K : Type 0} (xs ys : List K) (x : K) → Has xs x → Has (xs ++ ys) x
+pub has_left : {K : Type 0} (xs ys : List K) (x : K) → Has xs x → Has (xs ++ ys) x
 has_left [] ys x h = absurd h
 has_left (z ∷ xs) ys x h = elim h [ inl e ↦ inl e | inr r ↦ inr (has_left xs ys x r) ]
 
-has_right : {K : Type 0} (xs ys : List K) (x : K) → Has ys x → Has (xs ++ ys) x
+pub has_right : {K : Type 0} (xs ys : List K) (x : K) → Has ys x → Has (xs ++ ys) x
 has_right [] ys x h = h
 has_right (z ∷ xs) ys x h = inr (has_right xs ys x h)
 
-has_either : {K : Type 0} (xs ys : List K) (x : K) → Has (xs ++ ys) x → Has xs x ⊎ Has ys x
+pub has_either : {K : Type 0} (xs ys : List K) (x : K) → Has (xs ++ ys) x → Has xs x ⊎ Has ys x
 has_either [] ys x h = inr h
 has_either (z ∷ xs) ys x h = elim h [ inl e ↦ inl (inl e) | inr r ↦ elim (has_either xs ys x r) [ inl a ↦ inl (inr a) | inr b ↦ inr b ] ]
 

@@ -141,6 +141,7 @@ fn in_order(mut lines: Vec<Text>) -> Vec<Text>
     lines
 }
 
+// How much room the text of these lines takes.
 fn length_of(lines: &[Text]) -> usize {
     let mut length = 0usize;
     for line in lines {

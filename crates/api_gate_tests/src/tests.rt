@@ -1,28 +1,25 @@
 //! What the clauses of `run` don't say: that runs end as the definitions say with ample memory, on
 //! worked examples whose answers come from outside, and how large the pieces are.
-use api_gate::run::run;
-use api_gate::status::Status;
-use go_model::memory::NoMemory;
-use go_model::steps::Steps;
-use go_model::text::Text;
-use go_outside::files::Files;
-use go_outside::sink::Sink;
-use std::alloc::Global;
-use std::thread::Threads;
-
 mod forms;
 mod references;
 
+use api_gate::run::run;
+use api_gate::status::Status;
 use go_model::boxed::Box;
 use go_model::list::List;
+use go_model::memory::NoMemory;
+use go_model::steps::Steps;
+use go_model::text::Text;
 use go_outside::failing_files::FailingFiles;
 use go_outside::failing_sink::FailingSink;
-use go_outside::files::{Entry, FilesError};
+use go_outside::files::{Entry, Files, FilesError};
 use go_outside::gate::OpenGate;
 use go_outside::memory_files::{FilePair, MemoryFiles};
 use go_outside::memory_sink::MemorySink;
-use go_outside::sink::SinkError;
+use go_outside::sink::{Sink, SinkError};
+use std::alloc::Global;
 use std::test::Fail;
+use std::thread::Threads;
 
 const WORDS_LINE: &[u8] =
     b"apigate: usage: apigate features or frozen or judge or advise or gate or vet or make, then options\n";

@@ -22,15 +22,15 @@ fn split(text: &str) -> Result<(&str, &str), Refusal> {
     }
 }
 
-fn one(alloc: Global, text: &str) -> Result<Term, Refusal> {
-    let mut stack = Stack::of(alloc, text)?;
+fn one(alloc: Global, stack: &mut Stack, text: &str) -> Result<Term, Refusal> {
+    stack.read_all(alloc, text)?;
     let term = stack.term()?;
     stack.end()?;
     Ok(term)
 }
 
-fn two(alloc: Global, text: &str) -> Result<(Term, Term), Refusal> {
-    let mut stack = Stack::of(alloc, text)?;
+fn two(alloc: Global, stack: &mut Stack, text: &str) -> Result<(Term, Term), Refusal> {
+    stack.read_all(alloc, text)?;
     let first = stack.term()?;
     let second = stack.term()?;
     stack.end()?;
@@ -82,34 +82,54 @@ fn search(alloc: Global, table: &Table, term: &Term, word: &str) -> Result<Found
     Ok(find_in(alloc, table, term, &selector)?)
 }
 
-fn find_answer(alloc: Global, table: &Table, text: &str) -> Result<Vec<u8>, Refusal> {
+fn find_answer(
+    alloc: Global,
+    table: &Table,
+    stack: &mut Stack,
+    text: &str,
+) -> Result<Vec<u8>, Refusal> {
     let (word, rest) = split(text)?;
-    let term = one(alloc, rest)?;
+    let term = one(alloc, stack, rest)?;
     let answer = search(alloc, table, &term, word)?;
     found(alloc, &answer)
 }
 
-fn set_answer(alloc: Global, table: &Table, text: &str) -> Result<Vec<u8>, Refusal> {
-    let term = one(alloc, text)?;
+fn set_answer(
+    alloc: Global,
+    table: &Table,
+    stack: &mut Stack,
+    text: &str,
+) -> Result<Vec<u8>, Refusal> {
+    let term = one(alloc, stack, text)?;
     let methods = method_set_in(alloc, table, &term)?;
     let mut out = Vec::new(alloc);
     push_set(alloc, &mut out, methods.items())?;
     Ok(out)
 }
 
-fn comparable_answer(alloc: Global, table: &Table, text: &str) -> Result<Vec<u8>, Refusal> {
-    let term = one(alloc, text)?;
+fn comparable_answer(
+    alloc: Global,
+    table: &Table,
+    stack: &mut Stack,
+    text: &str,
+) -> Result<Vec<u8>, Refusal> {
+    let term = one(alloc, stack, text)?;
     let answer = comparable_in(alloc, table, &term)?;
     truth(alloc, answer)
 }
 
-fn identical_answer(alloc: Global, text: &str) -> Result<Vec<u8>, Refusal> {
-    let (left, right) = two(alloc, text)?;
+fn identical_answer(alloc: Global, stack: &mut Stack, text: &str) -> Result<Vec<u8>, Refusal> {
+    let (left, right) = two(alloc, stack, text)?;
     truth(alloc, identical(&left, &right))
 }
 
-fn implements_answer(alloc: Global, table: &Table, text: &str) -> Result<Vec<u8>, Refusal> {
-    let (term, interface) = two(alloc, text)?;
+fn implements_answer(
+    alloc: Global,
+    table: &Table,
+    stack: &mut Stack,
+    text: &str,
+) -> Result<Vec<u8>, Refusal> {
+    let (term, interface) = two(alloc, stack, text)?;
     let answer = implements_in(alloc, table, &term, &interface)?;
     truth(alloc, answer)
 }
@@ -122,24 +142,39 @@ fn flag(word: &str) -> Result<bool, Refusal> {
     }
 }
 
-fn assignable_answer(alloc: Global, table: &Table, text: &str) -> Result<Vec<u8>, Refusal> {
+fn assignable_answer(
+    alloc: Global,
+    table: &Table,
+    stack: &mut Stack,
+    text: &str,
+) -> Result<Vec<u8>, Refusal> {
     let (word, rest) = split(text)?;
-    let (from, to) = two(alloc, rest)?;
+    let (from, to) = two(alloc, stack, rest)?;
     let answer = assignable_in(alloc, table, &from, &to, flag(word)?)?;
     truth(alloc, answer)
 }
 
-fn convertible_answer(alloc: Global, table: &Table, text: &str) -> Result<Vec<u8>, Refusal> {
+fn convertible_answer(
+    alloc: Global,
+    table: &Table,
+    stack: &mut Stack,
+    text: &str,
+) -> Result<Vec<u8>, Refusal> {
     let (word, rest) = split(text)?;
-    let (from, to) = two(alloc, rest)?;
+    let (from, to) = two(alloc, stack, rest)?;
     let answer = convertible_in(alloc, table, &from, &to, flag(word)?)?;
     truth(alloc, answer)
 }
 
-fn add_type(alloc: Global, table: &mut Table, text: &str) -> Result<(), Refusal> {
+fn add_type(
+    alloc: Global,
+    table: &mut Table,
+    stack: &mut Stack,
+    text: &str,
+) -> Result<(), Refusal> {
     let (word, rest) = split(text)?;
     let name = type_name(alloc, word)?;
-    let mut stack = Stack::of(alloc, rest)?;
+    stack.read_all(alloc, rest)?;
     let underlying = stack.term()?;
     if let Term::Named(_) = &underlying {
         return Err(Refusal::WrongLine);
@@ -154,28 +189,39 @@ fn add_type(alloc: Global, table: &mut Table, text: &str) -> Result<(), Refusal>
     table.add(name, defined)
 }
 
-fn told(alloc: Global, table: &Table, question: &str, text: &str) -> Result<Vec<u8>, Refusal> {
+fn told(
+    alloc: Global,
+    table: &Table,
+    stack: &mut Stack,
+    question: &str,
+    text: &str,
+) -> Result<Vec<u8>, Refusal> {
     match question {
-        "identical" => identical_answer(alloc, text),
-        "find" => find_answer(alloc, table, text),
-        "method_set" => set_answer(alloc, table, text),
-        "implements" => implements_answer(alloc, table, text),
-        "comparable" => comparable_answer(alloc, table, text),
-        "assignable" => assignable_answer(alloc, table, text),
-        "convertible" => convertible_answer(alloc, table, text),
+        "identical" => identical_answer(alloc, stack, text),
+        "find" => find_answer(alloc, table, stack, text),
+        "method_set" => set_answer(alloc, table, stack, text),
+        "implements" => implements_answer(alloc, table, stack, text),
+        "comparable" => comparable_answer(alloc, table, stack, text),
+        "assignable" => assignable_answer(alloc, table, stack, text),
+        "convertible" => convertible_answer(alloc, table, stack, text),
         _ => Err(Refusal::WrongLine),
     }
 }
 
 /// The answer to a line, with its line's end; nothing where the line defines a type, which the table then
 /// has.
-pub fn answer(alloc: Global, table: &mut Table, line: &str) -> Result<Vec<u8>, Refusal> {
+pub fn answer(
+    alloc: Global,
+    table: &mut Table,
+    stack: &mut Stack,
+    line: &str,
+) -> Result<Vec<u8>, Refusal> {
     let (question, text) = split(line)?;
     if question == "type" {
-        add_type(alloc, table, text)?;
+        add_type(alloc, table, stack, text)?;
         return Ok(Vec::new(alloc));
     }
-    let mut out = told(alloc, table, question, text)?;
+    let mut out = told(alloc, table, stack, question, text)?;
     out.push(b'\n')?;
     Ok(out)
 }

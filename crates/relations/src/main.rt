@@ -27,7 +27,7 @@ mod show;
 mod table;
 
 use crate::answer::answer;
-use crate::read::Refusal;
+use crate::read::{Refusal, Stack};
 use crate::table::Table;
 use std::io;
 use std::io::{BufRead, BufReader, BufWriter, ErrorKind, Write};
@@ -38,11 +38,12 @@ fn run(rt: &HostRuntime) -> anyhow::Result<Option<u64>> {
     let alloc = rt.alloc();
     let mut out = BufWriter::new(alloc, io::writer(rt))?;
     let mut table = Table::new(alloc);
+    let mut stack = Stack::new(alloc);
     let mut number = 0u64;
     for line in BufReader::new(alloc, rt.reader())?.lines(alloc) {
         number = number.saturating_add(1);
         let told = match line {
-            Ok(text) => answer(alloc, &mut table, text.as_str()),
+            Ok(text) => answer(alloc, &mut table, &mut stack, text.as_str()),
             Err(error) if error.kind() == ErrorKind::InvalidData => Err(Refusal::WrongLine),
             Err(error) => return Err(error.into()),
         };

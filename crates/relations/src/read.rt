@@ -99,7 +99,8 @@ fn take<T: Drop>(alloc: Global, items: &mut Vec<T>, count: u64) -> Result<List<T
     Ok(List::from_vec(taken))
 }
 
-/// What the words on the right are, the leftmost last.
+/// What the words on the right are, the leftmost last. It is used for one line after the other, so that
+/// no memory of its own stands between the types that stay.
 #[derive(Drop)]
 pub struct Stack {
     terms: Vec<Term>,
@@ -109,18 +110,22 @@ pub struct Stack {
 }
 
 impl Stack {
-    /// What the words of a text are.
-    pub fn of(alloc: Global, text: &str) -> Result<Stack, Refusal> {
-        let mut stack = Stack {
+    /// Nothing.
+    pub fn new(alloc: Global) -> Stack {
+        Stack {
             terms: Vec::new(alloc),
             fields: Vec::new(alloc),
             methods: Vec::new(alloc),
             declared: Vec::new(alloc),
-        };
-        for word in text.rsplit(' ') {
-            stack.read(alloc, word)?;
         }
-        Ok(stack)
+    }
+
+    /// Adds what the words of a text are.
+    pub fn read_all(&mut self, alloc: Global, text: &str) -> Result<(), Refusal> {
+        for word in text.rsplit(' ') {
+            self.read(alloc, word)?;
+        }
+        Ok(())
     }
 
     /// The leftmost term.
@@ -138,7 +143,7 @@ impl Stack {
     }
 
     /// Refuses what nothing has taken.
-    pub fn end(self) -> Result<(), Refusal> {
+    pub fn end(&self) -> Result<(), Refusal> {
         if self.terms.is_empty()
             && self.fields.is_empty()
             && self.methods.is_empty()

@@ -1,4 +1,4 @@
-use Rattle.api_gate.proofs.Hashed.{adds_pair}
+use Rattle.api_gate.proofs.Tested.{adds_pair}
 use Rattle.api_gate.proofs.names.add_pair.Goals as goal
 
 pub returns : goal.returns
