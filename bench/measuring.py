@@ -24,16 +24,16 @@ def run_once(command, given=None):
         return Run(taken, usage.ru_utime + usage.ru_stime, usage.ru_maxrss * 1024, child.returncode, out.read())
 
 
-def best_of(command, runs, given=None):
-    """The least times and the peak memory of some runs, which have to succeed."""
+def best_of(command, runs, given=None, statuses=(0,)):
+    """The least times and the peak memory of some runs, which have to end with one of these statuses."""
     done = [run_once(command, given) for _ in range(runs)]
     for one in done:
-        if one.status not in (0, 4):
+        if one.status not in statuses:
             sys.exit("%s: status %d" % (" ".join(command), one.status))
     return Run(min(one.seconds for one in done), min(one.processor for one in done), max(one.peak for one in done), 0, done[-1].output)
 
 
-def measure(command, runs, given=None):
+def measure(command, runs, given=None, statuses=(0,)):
     """The least time, the peak memory in bytes, and the output of some runs. GIVEN is the file of their input."""
-    best = best_of(command, runs, given)
+    best = best_of(command, runs, given, statuses)
     return best.seconds, best.peak, best.output

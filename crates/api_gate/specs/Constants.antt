@@ -23,13 +23,13 @@ abbrev pub value_of : Expr → Option ℤ
 value_of (expr.Literal l) = whole_number l
 value_of e = None
 
--- a name of a constant: `_` declares none, and `init` and `main` are left to functions
-abbrev pub is_plain : List ℕ → Bool
-is_plain name = not (bytes_eq name (codes "_") || bytes_eq name (codes "init") || bytes_eq name (codes "main"))
+-- a name of a constant that is read: `_` declares nothing, and `init` and `main` are left to a later release
+abbrev pub is_read_name : List ℕ → Bool
+is_read_name name = not (bytes_eq name (codes "_") || bytes_eq name (codes "init") || bytes_eq name (codes "main"))
 
 abbrev pub named : Name → Option ℤ → Option Constant
 named name None = None
-named name (Some value) = if is_plain name.text then Some (record { name = name.text; value = value }) else None
+named name (Some value) = if is_read_name name.text then Some (record { name = name.text; value = value }) else None
 
 abbrev pub then_first : Option Constant → Option (List Constant) → Option (List Constant)
 then_first (Some c) (Some cs) = Some (c ∷ cs)

@@ -1,6 +1,6 @@
 //! The constants that a file declares.
 ghost use Rattle.std.specs.Prelude.{◌≡◌, IfOk};
-ghost use Rattle.api_gate.specs.Constants.{constants_by, constants_of, constants_of_decl, constants_of_each, constants_of_spec, is_plain, named, value_of, whole_number};
+ghost use Rattle.api_gate.specs.Constants.{constants_by, constants_of, constants_of_decl, constants_of_each, constants_of_spec, is_read_name, named, value_of, whole_number};
 ghost use Rattle.api_gate.specs.ConstantsReading.{Appends};
 
 use go_model::list::List;
@@ -37,8 +37,8 @@ fn value_of(expr: &Expr) -> Option<i128>
 }
 
 // Whether a constant of this name is read.
-fn is_plain(name: &[u8]) -> bool
-    ensures { result ≡ is_plain name.now }
+fn is_read_name(name: &[u8]) -> bool
+    ensures { result ≡ is_read_name name.now }
 {
     !(name == b"_".as_slice() || name == b"init".as_slice() || name == b"main".as_slice())
 }
@@ -49,7 +49,7 @@ fn named(alloc: Global, name: &Name, value: Option<i128>) -> Result<Option<Const
     let Some(value) = value else {
         return Ok(None);
     };
-    if !is_plain(name.text.bytes()) {
+    if !is_read_name(name.text.bytes()) {
         return Ok(None);
     }
     Ok(Some(Constant {

@@ -78,11 +78,10 @@ fn is_public(path: &[u8], package_name: &[u8]) -> bool
     if package_name == b"main".as_slice() {
         return false;
     }
-    are_public(path)
+    has_no_internal_element(path)
 }
 
-// Whether no element of the import path is `internal`.
-fn are_public(path: &[u8]) -> bool
+fn has_no_internal_element(path: &[u8]) -> bool
     ensures { result ≡ list_all is_public_element (slice_split is_slash path.now) }
 {
     path.split(|b| *b == b'/')

@@ -1,17 +1,14 @@
 //! The gate's top call: words and a store of files in, a report or a fault line and a status out.
 #![tactic(auto)]
 
-pub mod constants;
-pub mod decision;
-pub mod deliver;
-pub mod features;
-pub mod names;
-pub mod reading;
-pub mod refusals;
+mod constants;
+mod decision;
+mod deliver;
+mod features;
+mod names;
+mod reading;
+mod refusals;
 pub mod run;
-pub mod source;
+mod source;
 pub mod status;
-pub mod words;
-
-/// The stores, sinks and hooks that a run is handed.
-pub use go_outside as outside;
+mod words;

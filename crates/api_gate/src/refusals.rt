@@ -61,7 +61,8 @@ fn limit_line(alloc: Global, side: &[u8], name: LimitName, path: &[u8]) -> Resul
     fault_line(alloc, side, &what)
 }
 
-/// The fault line of a tree that isn't loaded, which is printed but for a fault and want of memory. The side says which of the run's trees it is.
+/// The fault line of a tree that isn't loaded. A fault of reading and want of memory have lines of
+/// their own. The side says which of the run's trees it is.
 pub fn load_line(alloc: Global, side: &[u8], error: &LoadError) -> Result<Text, NoMemory>
     ensures { IfOk result (λ line. line ≡ load_line side.now error.now) }
 {

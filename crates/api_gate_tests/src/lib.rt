@@ -1,4 +1,5 @@
-//! Worked examples of whole runs: what the clauses of `run` don't say.
+//! Worked examples of whole runs, which show what the clauses of `run` don't say, and of the values
+//! and references of go_model.
 #![tactic(auto)]
 
 #[cfg(test)]

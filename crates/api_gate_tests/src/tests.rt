@@ -153,7 +153,7 @@ fn ends<R: Threads + Sync + AllocGlobal>(
 }
 
 // Whether the features of a store end with this status, output and error output.
-fn ends_plainly<R: Threads + Sync + AllocGlobal>(
+fn features_end<R: Threads + Sync + AllocGlobal>(
     rt: &R,
     pairs: &[(&str, &[u8])],
     code: u8,
@@ -165,7 +165,7 @@ fn ends_plainly<R: Threads + Sync + AllocGlobal>(
 
 const FIVE: &[u8] = b"package p\nconst X = 5\n";
 
-const NOT_READ: &[u8] = b"package p\nconst _ = 5\n";
+const UNREAD_SOURCE: &[u8] = b"package p\nconst _ = 5\n";
 
 #[test]
 fn reads_the_module_line(rt: HostRuntime) -> Result<(), Fail> {
@@ -179,7 +179,7 @@ fn reads_the_module_line(rt: HostRuntime) -> Result<(), Fail> {
         b"// c\n\nmodule m // c\n\ngo 1.21\n".as_slice(),
     ] {
         let pairs = [("new/go.mod", line), ("new/p/p.go", FIVE)];
-        assert!(rt; ends_plainly(&rt, &pairs, 0, report, b"")?, "{line:?}");
+        assert!(rt; features_end(&rt, &pairs, 0, report, b"")?, "{line:?}");
     }
     let fault = b"apigate: new: no module line in go.mod\n".as_slice();
     for line in [
@@ -197,7 +197,7 @@ fn reads_the_module_line(rt: HostRuntime) -> Result<(), Fail> {
         b"module m\xc3\x84\n".as_slice(),
     ] {
         let pairs = [("new/go.mod", line), ("new/p/p.go", FIVE)];
-        assert!(rt; ends_plainly(&rt, &pairs, 3, b"", fault)?, "{line:?}");
+        assert!(rt; features_end(&rt, &pairs, 3, b"", fault)?, "{line:?}");
     }
     Ok(())
 }
@@ -205,9 +205,9 @@ fn reads_the_module_line(rt: HostRuntime) -> Result<(), Fail> {
 #[test]
 fn refuses_what_is_no_module(rt: HostRuntime) -> Result<(), Fail> {
     let pairs = [("new/p/p.go", FIVE), ("new/go.mod/x", FIVE)];
-    assert!(rt; ends_plainly(&rt, &pairs, 3, b"", b"apigate: new: no go.mod\n")?);
+    assert!(rt; features_end(&rt, &pairs, 3, b"", b"apigate: new: no go.mod\n")?);
     let pairs = [("old/go.mod", b"module m\n".as_slice()), ("new", FIVE)];
-    assert!(rt; ends_plainly(&rt, &pairs, 3, b"", b"apigate: new: not found\n")?);
+    assert!(rt; features_end(&rt, &pairs, 3, b"", b"apigate: new: not found\n")?);
     assert!(rt;
         ends(
             &rt,
@@ -235,14 +235,14 @@ fn keeps_the_limit_of_a_file(rt: HostRuntime) -> Result<(), Fail> {
     let most = wide(alloc, 4_194_304)?;
     let pairs = [module, ("new/p/p.go", most.as_slice())];
     let report = b"pkg m/p, const X = 5\npkg m/p, const X ideal-int\n".as_slice();
-    assert!(rt; ends_plainly(&rt, &pairs, 0, report, b"")?);
+    assert!(rt; features_end(&rt, &pairs, 0, report, b"")?);
     let over = wide(alloc, 4_194_305)?;
     let pairs = [module, ("new/p/p.go", over.as_slice())];
     let fault = b"apigate: new: p/p.go: limit file-bytes\n".as_slice();
-    assert!(rt; ends_plainly(&rt, &pairs, 3, b"", fault)?);
+    assert!(rt; features_end(&rt, &pairs, 3, b"", fault)?);
     let pairs = [("new/go.mod", over.as_slice()), ("new/p/p.go", FIVE)];
     let fault = b"apigate: new: go.mod: limit file-bytes\n".as_slice();
-    assert!(rt; ends_plainly(&rt, &pairs, 3, b"", fault)?);
+    assert!(rt; features_end(&rt, &pairs, 3, b"", fault)?);
     Ok(())
 }
 
@@ -297,7 +297,7 @@ fn names_the_first_header_that_is_refused(rt: HostRuntime) -> Result<(), Fail> {
     ] {
         let pairs = [
             module,
-            ("new/a.go", NOT_READ),
+            ("new/a.go", UNREAD_SOURCE),
             ("new/p/a_windows.go", b"//go:build !!x\n".as_slice()),
             ("new/p/b.go", source),
             ("new/p/c.go", b"//go:build (\n//go:build )\n".as_slice()),
@@ -322,7 +322,7 @@ fn names_the_first_header_that_is_refused(rt: HostRuntime) -> Result<(), Fail> {
         ("new/a/a.go", b"//go:build (\n".as_slice()),
     ];
     let fault = b"apigate: new linux-amd64: b.go: +build without go:build\n".as_slice();
-    assert!(rt; ends_plainly(&rt, &pairs, 3, b"", fault)?);
+    assert!(rt; features_end(&rt, &pairs, 3, b"", fault)?);
     Ok(())
 }
 
@@ -349,12 +349,12 @@ fn names_the_first_place_without_a_token(rt: HostRuntime) -> Result<(), Fail> {
         // An earlier file isn't read yet, and a later one has a refused header.
         let pairs = [
             ("new/go.mod", b"module m\n".as_slice()),
-            ("new/a.go", NOT_READ),
+            ("new/a.go", UNREAD_SOURCE),
             ("new/p/a_windows.go", b"\0".as_slice()),
             ("new/p/p.go", source),
             ("new/q/q.go", b"// +build x\n".as_slice()),
         ];
-        assert!(rt; ends_plainly(&rt, &pairs, 3, b"", fault)?, "{source:?}");
+        assert!(rt; features_end(&rt, &pairs, 3, b"", fault)?, "{source:?}");
     }
     Ok(())
 }
@@ -386,14 +386,14 @@ fn prints_the_public_packages_of_a_tree(rt: HostRuntime) -> Result<(), Fail> {
     ];
     let report =
         b"pkg example.com/m, const Root = 1\npkg example.com/m, const Root ideal-int\npkg example.com/m/a-b, const X = 2\npkg example.com/m/a-b, const X ideal-int\npkg example.com/m/a/b, const X = 3\npkg example.com/m/a/b, const X ideal-int\npkg example.com/m/a/b, const Y = 4\npkg example.com/m/a/b, const Y ideal-int\npkg example.com/m/internals, const X = 7\npkg example.com/m/internals, const X ideal-int\n";
-    assert!(rt; ends_plainly(&rt, &pairs, 0, report, b"")?);
+    assert!(rt; features_end(&rt, &pairs, 0, report, b"")?);
     let pairs = [
         ("new/go.mod", b"module m/internal\n".as_slice()),
         ("new/p/p.go", FIVE),
     ];
-    assert!(rt; ends_plainly(&rt, &pairs, 0, b"", b"")?);
+    assert!(rt; features_end(&rt, &pairs, 0, b"", b"")?);
     let pairs = [("new/go.mod", b"module m\n".as_slice())];
-    assert!(rt; ends_plainly(&rt, &pairs, 0, b"", b"")?);
+    assert!(rt; features_end(&rt, &pairs, 0, b"", b"")?);
     Ok(())
 }
 
@@ -431,28 +431,33 @@ const BAD_LINES: [&str; 22] = [
     "features --new new --workers 1",
 ];
 
+// Whether these words end a run with status 2 and the words line.
+fn are_bad<R: Threads + Sync + AllocGlobal>(rt: &R, words: &[String]) -> Result<bool, Fail> {
+    let alloc = rt.alloc();
+    let mut out = MemorySink::new();
+    let mut err = MemorySink::with_capacity(alloc, 1000)?;
+    let mut steps = Steps::new(());
+    let status = run(
+        rt,
+        alloc,
+        words,
+        &mut Silent,
+        &mut out,
+        &mut err,
+        &OpenGate,
+        &mut steps,
+    );
+    let checks = steps.end();
+    Ok(checks == 0 && status.code() == 2 && err.bytes() == WORDS_LINE)
+}
+
 #[test]
 fn knows_good_words_from_others(rt: HostRuntime) -> Result<(), Fail> {
-    let alloc = rt.alloc();
     for line in BAD_LINES {
-        let words = split_words(alloc, line)?;
-        let mut out = MemorySink::new();
-        let mut err = MemorySink::with_capacity(alloc, 1000)?;
-        let mut steps = Steps::new(());
-        let status = run(
-            &rt,
-            alloc,
-            &words,
-            &mut Silent,
-            &mut out,
-            &mut err,
-            &OpenGate,
-            &mut steps,
-        );
-        assert_eq!(rt; steps.end(), 0);
-        assert_eq!(rt; status.code(), 2, "{line}");
-        assert_eq!(rt; err.bytes(), WORDS_LINE);
+        let words = split_words(rt.alloc(), line)?;
+        assert!(rt; are_bad(&rt, &words)?, "{line}");
     }
+    assert!(rt; are_bad(&rt, &words_of(rt.alloc(), &[])?)?);
     Ok(())
 }
 
@@ -539,7 +544,7 @@ fn answers_a_store_that_tells_nothing(rt: HostRuntime) -> Result<(), Fail> {
     Ok(())
 }
 
-// A module whose report has 188,800 bytes: 3,200 constants with lines of 26 and 33 bytes.
+// A module whose report has 188,800 bytes: 3,200 constants with lines of 28 and 31 bytes.
 fn large(alloc: Global) -> Result<MemoryFiles, Fail> {
     let mut source = Vec::from_slice(alloc, b"package p\n")?;
     for number in 1000..4200 {

@@ -2,7 +2,7 @@
 //! specification says which constants a file declares, and README.md which of them are read.
 use super::*;
 
-const NOT_YET: &[u8] = b"apigate: input of a form not built yet\n";
+const NOT_YET_LINE: &[u8] = b"apigate: input of a form not built yet\n";
 
 const NO_SYNTAX: &[u8] = b"apigate: new linux-amd64: p/p.go: not in the grammar of this profile\n";
 
@@ -18,7 +18,7 @@ fn ends_alone<R: Threads + Sync + AllocGlobal>(
         ("new/go.mod", b"module m\n".as_slice()),
         ("new/p/p.go", source),
     ];
-    ends_plainly(rt, &pairs, code, report, fault)
+    features_end(rt, &pairs, code, report, fault)
 }
 
 #[test]
@@ -104,7 +104,10 @@ fn refuses_constants_that_arent_read_yet(rt: HostRuntime) -> Result<(), Fail> {
         b"package p\nconst X = 5\nconst X = 5\n".as_slice(),
         b"package p\nconst x = 5\nconst X = 5\nconst x = 6\n".as_slice(),
     ] {
-        assert!(rt; ends_alone(&rt, source, 3, b"", NOT_YET)?, "{source:?}");
+        assert!(rt;
+            ends_alone(&rt, source, 3, b"", NOT_YET_LINE)?,
+            "{source:?}"
+        );
     }
     Ok(())
 }
@@ -125,7 +128,10 @@ fn refuses_declarations_that_arent_read_yet(rt: HostRuntime) -> Result<(), Fail>
         b"package p\nconst X = 'a'\n".as_slice(),
         b"package p\nconst X = -1\n".as_slice(),
     ] {
-        assert!(rt; ends_alone(&rt, source, 3, b"", NOT_YET)?, "{source:?}");
+        assert!(rt;
+            ends_alone(&rt, source, 3, b"", NOT_YET_LINE)?,
+            "{source:?}"
+        );
     }
     Ok(())
 }
@@ -152,16 +158,16 @@ fn names_the_first_file_that_is_refused(rt: HostRuntime) -> Result<(), Fail> {
     let header = ("new/q/q.go", b"// +build x\n".as_slice());
     let no_token = b"apigate: new linux-amd64: p/a.go:2:1: not a token\n".as_slice();
     // A file that isn't read yet, one that the platform leaves out, and the first file that is refused.
-    let first = ("new/a.go", NOT_READ);
+    let first = ("new/a.go", UNREAD_SOURCE);
     let left = ("new/p/a_windows.go", b"package".as_slice());
     let syntax = ("new/p/p.go", b"package p\nconst\n".as_slice());
     let token = ("new/p/z.go", b"\0".as_slice());
     let pairs = [module, first, left, syntax, token, header];
-    assert!(rt; ends_plainly(&rt, &pairs, 3, b"", NO_SYNTAX)?);
+    assert!(rt; features_end(&rt, &pairs, 3, b"", NO_SYNTAX)?);
     // A place without a token stands in an earlier file, and in the same file.
     let early = ("new/p/a.go", b"package\n\0".as_slice());
     let pairs = [module, first, left, early, syntax, header];
-    assert!(rt; ends_plainly(&rt, &pairs, 3, b"", no_token)?);
+    assert!(rt; features_end(&rt, &pairs, 3, b"", no_token)?);
     Ok(())
 }
 
@@ -180,10 +186,10 @@ fn refuses_packages_that_arent_read_yet(rt: HostRuntime) -> Result<(), Fail> {
         [
             module,
             ("new/p/a.go", FIVE),
-            ("new/internal/b.go", NOT_READ),
+            ("new/internal/b.go", UNREAD_SOURCE),
         ],
     ] {
-        assert!(rt; ends_plainly(&rt, &tree, 3, b"", NOT_YET)?);
+        assert!(rt; features_end(&rt, &tree, 3, b"", NOT_YET_LINE)?);
     }
     // One name in two folders, and in a file that is left out.
     let tree = [
@@ -194,6 +200,6 @@ fn refuses_packages_that_arent_read_yet(rt: HostRuntime) -> Result<(), Fail> {
         ("new/p/b_windows.go", FIVE),
     ];
     let report = b"pkg m/p, const X = 5\npkg m/p, const X ideal-int\n".as_slice();
-    assert!(rt; ends_plainly(&rt, &tree, 0, report, b"")?);
+    assert!(rt; features_end(&rt, &tree, 0, report, b"")?);
     Ok(())
 }
