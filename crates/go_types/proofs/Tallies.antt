@@ -4,13 +4,14 @@ use mathlib.Core.Bool.{true≢false}
 use Rattle.go_model.specs.Gathered.{gather}
 use Rattle.go_model.specs.Tables.{Table}
 use Rattle.go_model.specs.Selectors.{Spot, Ending, Target, field, method, steps, endings, ends, NoneBelow, start, is_defined_pointer}
-use Rattle.go_model.specs.MethodSets.{Reaches, InSet, IsMethodSet}
+use Rattle.go_model.specs.MethodSets.{Reaches, InSet, HasMethods, IsMethodSet}
 use Rattle.go_model.specs.declared.types.names.Sel.{Sel}
 use Rattle.go_model.specs.declared.types.term.Term.{Term}
 use Rattle.go_model.specs.declared.types.term.Method.{Method, out-Method}
 use Rattle.go_model.specs.declared.types.term.Signature.{Signature}
+use Rattle.go_types.specs.Answers.{Decides}
 use Rattle.go_types.specs.Search.{Knows, Thinned}
-use Rattle.go_types.specs.Slots.{Settled, Slots, slot_at, called_of, called_at, called_method, called_target, all_noted, Notes, Tells, Lists}
+use Rattle.go_types.specs.Slots.{Settled, Slots, slot_at, called_of, called_at, called_method, called_target, all_noted, Notes, Tells, AreTold, Lists}
 use Rattle.go_types.specs.declared.met.Key.{Key}
 use Rattle.go_types.proofs.Layers.{none_left, none_here, one_here, many_here, below_next, gather_none}
 use Rattle.go_types.proofs.Searching.{Layers, first_layers, next_layers}
@@ -151,3 +152,13 @@ module _ (T : Table) (t : Term) where
     sound = λ m h. (tells counts (out-Method m).sel (out-Method m).signature).0 ((l.exact m).0 h);
     complete = λ m h. (l.exact m).1 ((tells counts (out-Method m).sel (out-Method m).signature).1 h);
   }
+
+  -- a type that is defined over a pointer has no method
+  pub none_has : (ms : List Method) → 0 < length ms → is_defined_pointer T t ≡ true → HasMethods T t ms → ⊥
+  none_has [] h d all = absurd (omega arith)
+  none_has (m ∷ ms) h d all = true≢false (sym d ∙ (all m (inl refl)).counts)
+
+  -- whether it has these methods
+  pub set_decided : (slots : Slots) (ms : List Method) (b : Bool) → is_defined_pointer T t ≡ false → Tells T t slots → Decides (AreTold slots ms) b → Decides (HasMethods T t ms) b
+  set_decided slots ms true counts tells d = λ m h. (tells counts (out-Method m).sel (out-Method m).signature).0 (d m h)
+  set_decided slots ms false counts tells d = λ all. d (λ m h. (tells counts (out-Method m).sel (out-Method m).signature).1 (all m h))

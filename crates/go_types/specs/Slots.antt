@@ -72,6 +72,13 @@ Notes depth old new es = (s : Sel) → slot_at new s ≡ all_noted depth (es s) 
 abbrev pub Tells : Table → Term → Slots → Type 0
 Tells T t m = is_defined_pointer T t ≡ false → (s : Sel) (g : Signature) → (called_at m s ≡ Some g) ↔ InSet T t s g
 
+-- the method is told, with its signature
+abbrev pub IsTold : Slots → Method → Type 0
+IsTold m x = called_at m (out-Method x).sel ≡ Some (out-Method x).signature
+
+abbrev pub AreTold : Slots → List Method → Type 0
+AreTold m xs = (x : Method) → Has xs x → IsTold m x
+
 -- a method is added, where there is one
 abbrev pub AddsSlot : Sel → Option Signature → List Method → List Method → Type 0
 AddsSlot s None old new = new ≡ old
@@ -80,4 +87,4 @@ AddsSlot s (Some g) old new = (m : Method) × (new ≡ old ++ m ∷ []) × ((out
 -- the methods that are told, in order, each once
 pub record Lists (m : Slots) (ms : List Method) : Type 0 where
   pub ordered : IsStrictlySortedBy sel_order (map method_sel ms)
-  pub exact : (x : Method) → Has ms x ↔ (called_at m (out-Method x).sel ≡ Some (out-Method x).signature)
+  pub exact : (x : Method) → Has ms x ↔ IsTold m x

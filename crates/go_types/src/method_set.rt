@@ -25,8 +25,8 @@ fn is_done(layer: &Vec<Place<'_>>) -> bool
     layer.is_empty()
 }
 
-// What is known of each selector once all paths are walked.
-fn tally<'a, T: TypeTable>(
+/// What is known of each selector once all paths are walked.
+pub(crate) fn tally<'a, T: TypeTable>(
     alloc: Global,
     types: &Lookup<'a, T>,
     term: &'a Term,

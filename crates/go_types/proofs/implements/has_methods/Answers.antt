@@ -1,8 +1,9 @@
-use Rattle.go_types.proofs.MethodLists.{lacks, has_next}
+use Rattle.std.proofs.Common.{◌∙◌, sym, arith}
+use Rattle.go_types.proofs.Tallies.{none_has, set_decided}
 use Rattle.go_types.proofs.implements.has_methods.Goals as goal
 
-pub returns-then-not-branch : goal.returns-then-not-branch
-returns-then-not-branch g c = lacks (g.T.TypeTable.lookup c.args.types.now.table.now) c.args.term.now c.args.methods.now c.loop-method.method-index c.method-item.result c.in_ok-has_method.field-0 c.loop-method-test.true c.method-item.is c.if-not-branch.true c.in_ok-has_method.ensures
+pub returns-then-is_defined_pointer : goal.returns-then-is_defined_pointer
+returns-then-is_defined_pointer g c = none_has (g.T.TypeTable.lookup c.args.types.now.table.now) c.args.term.now c.args.methods.now (omega arith) (sym c.is_defined_pointer.ensures ∙ c.if-is_defined_pointer.true)
 
-pub loop-method-preserved : goal.loop-method-preserved
-loop-method-preserved g c = has_next (g.T.TypeTable.lookup c.args.types.now.table.now) c.args.term.now c.args.methods.now c.loop-method.method-index c.method-item.result c.in_ok-has_method.field-0 c.loop-method-test.true c.method-item.is c.if-not-branch.false c.in_ok-has_method.ensures c.loop-method.invariant
+pub returns : goal.returns
+returns g c = set_decided (g.T.TypeTable.lookup c.args.types.now.table.now) c.args.term.now c.in_ok-slots.slots c.args.methods.now c.are_told-told.result (sym c.is_defined_pointer.ensures ∙ c.if-is_defined_pointer.false) c.in_ok-slots.ensures c.are_told-told.ensures

@@ -1,6 +1,6 @@
 use Rattle.std.proofs.Common.{take}
 use Rattle.go_model.specs.MethodSets.{HasMethods}
-use Rattle.go_types.proofs.implements.has_methods.Given as goal
+use Rattle.go_types.proofs.implements.has_few.Given as goal
 
 abbrev pub invariant-loop-method : goal.invariant-loop-method
 invariant-loop-method g l = HasMethods (g.T.TypeTable.lookup l.types.table.now) l.term (take l.method-index l.methods)
