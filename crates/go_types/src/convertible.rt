@@ -117,7 +117,8 @@ fn converts<'a, T: TypeTable>(
 
 /// Whether a value of one type that isn't a constant is convertible to another type, where a table
 /// of types tells the names in both. In a client of the profile, which the flag is for, no defined
-/// struct or interface of another package is converted by its underlying type, and no pointer to one.
+/// struct or interface of another package is converted by its underlying type, and no unnamed
+/// pointer to one.
 pub fn convertible_in<T: TypeTable>(
     alloc: Global,
     types: &T,

@@ -1,6 +1,6 @@
 //! Named types, types of other packages, and kinds of basic types.
 ghost use Rattle.std.specs.Prelude.{◌≡◌};
-ghost use Rattle.go_model.specs.Imports.{is_named, is_imported, is_imported_struct, is_imported_interface, is_imported_open};
+ghost use Rattle.go_model.specs.Imports.{is_named, is_imported, is_imported_struct, is_imported_open};
 ghost use Rattle.go_model.specs.Conversions.{is_integer, is_float, is_complex, is_string, is_character, basic_converts, both_basic, has_basic, is_characters};
 ghost use Rattle.go_model.specs.Underlying.{under};
 ghost use Rattle.go_model.specs.declared.types.term.Term.{out-Term};
@@ -132,6 +132,7 @@ pub(crate) fn is_text(term: &Term) -> bool
     }
 }
 
+// Whether an underlying type is `byte` or `rune`.
 fn is_element(term: &Term) -> bool
     ensures { result ≡ has_basic is_character (out-Term term.now) }
 {
