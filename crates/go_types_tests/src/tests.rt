@@ -51,17 +51,16 @@ impl TypeTable for Packages {
     }
 }
 
-/// A selector of `m/p`, or of another package where it begins with `-`.
-fn sel(alloc: Global, name: &[u8]) -> Result<Sel, NoMemory> {
-    let text = Text::of(alloc, name)?;
-    let package = match name.first() {
-        Some(byte) if byte.is_ascii_uppercase() => Text::of(alloc, b"")?,
-        Some(b'-') => Text::of(alloc, b"m/q")?,
-        _ => Text::of(alloc, b"m/p")?,
+/// A selector of `m/p`, or of another package where `-` stands before its name.
+pub(crate) fn sel(alloc: Global, name: &[u8]) -> Result<Sel, NoMemory> {
+    let (name, package) = match name.split_first() {
+        Some((b'-', rest)) => (rest, b"m/q".as_slice()),
+        Some((byte, _)) if byte.is_ascii_uppercase() => (name, b"".as_slice()),
+        _ => (name, b"m/p".as_slice()),
     };
     Ok(Sel {
-        name: text,
-        package,
+        name: Text::of(alloc, name)?,
+        package: Text::of(alloc, package)?,
     })
 }
 
@@ -231,7 +230,7 @@ fn add_name(alloc: Global, stack: &mut Stack, name: &[u8]) -> Result<(), NoMemor
 }
 
 /// A type in reverse notation.
-fn term(alloc: Global, text: &[u8]) -> Result<Term, NoMemory> {
+pub(crate) fn term(alloc: Global, text: &[u8]) -> Result<Term, NoMemory> {
     let mut stack = Stack {
         terms: Vec::new(alloc),
         fields: List::new(alloc),
@@ -276,6 +275,9 @@ const TYPES: [(&[u8], &[u8], &[u8]); 24] = [
 fn methods_of(alloc: Global, text: &[u8]) -> Result<List<MethodOf>, NoMemory> {
     let mut methods = List::new(alloc);
     for word in text.split(|byte| *byte == b' ') {
+        if word.is_empty() {
+            continue;
+        }
         let (pointer, name) = match word.split_first() {
             Some((b'*', rest)) => (true, rest),
             _ => (false, word),
@@ -346,7 +348,7 @@ fn shown(alloc: Global, found: &Found) -> Result<Vec<u8>, NoMemory> {
 }
 
 #[rattlefmt::skip]
-const FINDS: [(&[u8], &[u8], &[u8]); 21] = [
+const FINDS: [(&[u8], &[u8], &[u8]); 23] = [
     (b"AB",    b"M",     b"ambiguous"),
     (b"T",     b"N",     b"nothing"),
     (b"T",     b"M",     b"method 0 pointer"),
@@ -364,6 +366,8 @@ const FINDS: [(&[u8], &[u8], &[u8]); 21] = [
     (b"Q",     b"M",     b"nothing"),
     (b"J",     b"b",     b"method 0"),
     (b"J",     b"-b",    b"nothing"),
+    (b"K",     b"-b",    b"method 0"),
+    (b"K",     b"b",     b"nothing"),
     (b"E",     b"Error", b"method 1"),
     (b"Twice", b"_",     b"ambiguous"),
     (b"int",   b"F",     b"nothing"),
@@ -382,7 +386,7 @@ fn finds_at_the_shallowest_depth(rt: HostRuntime) -> Result<(), Fail> {
 }
 
 #[rattlefmt::skip]
-const IMPLEMENTS: [(&[u8], &[u8], bool); 12] = [
+const IMPLEMENTS: [(&[u8], &[u8], bool); 15] = [
     (b"A",     b"I",         true),
     (b"T",     b"I",         false),
     (b"T *",   b"I",         true),
@@ -390,6 +394,9 @@ const IMPLEMENTS: [(&[u8], &[u8], bool); 12] = [
     (b"I",     b"I",         true),
     (b"I *",   b"I",         false),
     (b"A",     b"J",         false),
+    (b"J",     b"K",         false),
+    (b"K",     b"J",         false),
+    (b"K",     b"K",         true),
     (b"A",     b"A",         false),
     (b"E",     b"error",     true),
     (b"error", b"error",     true),
@@ -409,12 +416,13 @@ fn implements_by_the_method_set(rt: HostRuntime) -> Result<(), Fail> {
 }
 
 #[rattlefmt::skip]
-const COMPARABLE: [(&[u8], bool); 13] = [
+const COMPARABLE: [(&[u8], bool); 14] = [
     (b"A",              true),
     (b"func",           false),
     (b"Fn",             false),
     (b"Fn *",           true),
     (b"func .f struct", false),
+    (b"func .f struct *", true),
     (b"C1",             true),
     (b"R",              true),
     (b"int [",         false),
