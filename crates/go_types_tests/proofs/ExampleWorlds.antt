@@ -10,20 +10,20 @@ use Rattle.go_model.specs.Underlying.{entry}
 use Rattle.go_model.specs.Worlds.{IsWorld, IsDefined, IsOwned, SignatureResolves, name_of, table_of}
 use Rattle.go_model.specs.declared.types.names.Sel.{Sel}
 use Rattle.go_model.specs.declared.types.names.TypeName.{TypeName}
-use Rattle.go_model.specs.declared.types.package.Package.{Package}
 use Rattle.go_model.specs.declared.types.package.Defined.{Defined}
-use Rattle.go_model.specs.declared.types.package.MethodOf.{MethodOf}
 use Rattle.go_model.specs.declared.types.term.Term.{Term-F, out-Term, roll-Term, out-roll-Term, fold-roll-Term}
 use Rattle.go_model.specs.declared.types.term.Field.{fold-roll-Field}
 use Rattle.go_model.specs.declared.types.term.Method.{fold-roll-Method}
 use Rattle.go_model.specs.declared.types.term.Signature.{fold-roll-Signature}
 use Rattle.go_types_tests.specs.Examples.{channels, declared_method, exported, itself, package_of, promotions, receivers, sealed, taking, world_of}
 
+-- what holds of each item holds of one that the list has
 each_has : {A : Type 0} (P : A → Type 0) (xs : List A) → Each P xs → (x : A) → Has xs x → P x
 each_has P [] h x k = absurd k
 each_has P (y ∷ xs) h x (inl e) = subst P e h.0
 each_has P (y ∷ xs) h x (inr k) = each_has P xs h.1 x k
 
+-- an entry that is there isn't absent
 some_entry : {A : Type 0} {x : A} → Some x ≢ None
 some_entry e = cc
 
@@ -31,12 +31,14 @@ some_entry e = cc
 unnamed : (l : Layer) → ((n : TypeName) → l ≢ Term-F.Named n) → (n : TypeName) → out-Term (roll-Term l) ≢ Term-F.Named n
 unnamed l other n e = other n (sym (out-roll-Term l) ∙ e)
 
+-- the method `M()` names no type
 no_names : signature_names (taking []) ≡ []
 no_names = fold-roll-Signature Names Names Names Names name_step field_names method_names parameter_names (record { params = []; variadic = false; results = [] })
 
 declared_resolves : (T : Table) (pointer : Bool) → Each (λ m. SignatureResolves T m.signature) (declared_method pointer)
 declared_resolves T pointer = (λ n h. absurd (subst (λ (w : Names). Has w n) no_names h), tt)
 
+-- a type whose names are these, each with an entry, is one of a world
 defined_by : (T : Table) (d : Defined) (ns : Names) → ((n : TypeName) → out-Term d.underlying ≢ Term-F.Named n) → names d.underlying ≡ ns → Each (λ n. entry T n ≢ None) ns → Each (λ m. SignatureResolves T m.signature) d.methods → IsDefined T d
 defined_by T d ns structured e entries signatures = record {
   resolved = λ n h. each_has (λ m. entry T m ≢ None) ns entries n (subst (λ (w : Names). Has w n) e h);
@@ -44,6 +46,7 @@ defined_by T d ns structured e entries signatures = record {
   signatures = signatures;
 }
 
+-- types in order whose selectors are these, each of `m/p` or exported, make a world
 world_by : (types : List Defined) (sels : List Sel) → Ascending (map name_of types) → Each (IsDefined (table_of (package_of (codes "m/p") types ∷ []))) types → gather defined_selectors types ≡ sels → Each (IsOwned (codes "m/p" ∷ [])) (sels ++ []) → IsWorld (world_of (package_of (codes "m/p") types))
 world_by types sels ordered defined e owned = record {
   ordered = (tt, tt);
