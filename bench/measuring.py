@@ -12,8 +12,8 @@ Run = collections.namedtuple("Run", "seconds processor peak status output")
 
 
 def run_once(command, given=None):
-    """One run: its time, its processor time, its peak memory in bytes, its status (below 0 for a signal) and
-    its output. GIVEN is the file of its input."""
+    """One run: its time, its processor time, its peak memory in bytes (never less than that of this script, which
+    starts it), its status (below 0 for a signal) and its output. GIVEN is the file of its input."""
     with tempfile.TemporaryFile() as out, open(given or os.devnull, "rb") as source:
         start = time.monotonic()
         child = subprocess.Popen(command, stdin=source, stdout=out, stderr=subprocess.DEVNULL)
