@@ -1,13 +1,15 @@
 //! A text: bytes that a contract sees as a list, compared and ordered byte by byte.
-ghost use Rattle.std.specs.Prelude.{◌≡◌, IfOk, Some, refl, bytes_eq};
+ghost use Rattle.std.specs.Prelude.{◌≡◌, ◌∷◌, [], IfOk, Some, refl, bytes_eq};
 ghost use Rattle.std.specs.Ordering.{nat_cmp};
 ghost use Rattle.std.specs.Cmp.{partial_equiv_from_equiv};
-ghost use Rattle.std.specs.Cmp.Lexicographic.{slice_cmp, nat_list_eq_equiv, nat_list_cmp_total, texts_po, texts_ties};
+ghost use Rattle.std.specs.Cmp.Lexicographic.{slice_cmp, bytes_decides, nat_list_eq_equiv, nat_list_cmp_total, texts_po, texts_ties};
+ghost use Rattle.std.proofs.Common.{ap};
 
 use crate::memory::NoMemory;
 use smallvec::SmallVec;
 use std::alloc::Global;
 use std::cmp::Ordering;
+use std::hash::{Hash, Hasher};
 use std::marker::Model;
 
 /// Bytes, which need not be UTF-8. Up to 16 of them, as most names have, stand in the value itself.
@@ -94,5 +96,15 @@ impl Ord for Text {
 
     fn cmp(&self, other: &Text) -> Ordering {
         self.bytes().cmp(other.bytes())
+    }
+}
+
+impl Hash for Text {
+    ghost hash_input = { λ t. t ∷ [] };
+
+    ghost respects_eq = { λ a b same. ap (λ t. t ∷ []) ((bytes_decides a b).0 same) };
+
+    fn hash<H: Hasher>(&self, state: &mut H) {
+        state.write(self.bytes());
     }
 }

@@ -2,6 +2,7 @@
 ghost use Rattle.relations.specs.Entries.{held};
 
 use crate::read::Refusal;
+use go_model::text::Text;
 use go_model::types::names::TypeName;
 use go_model::types::package::Defined;
 use go_model::types::table::TypeTable;
@@ -12,7 +13,7 @@ use std::alloc::Global;
 #[derive(Drop)]
 pub struct Table {
     alloc: Global,
-    packages: IndexMap<Vec<u8>, IndexMap<Vec<u8>, Defined>>,
+    packages: IndexMap<Text, IndexMap<Text, Defined>>,
 }
 
 impl Table {
@@ -29,9 +30,9 @@ impl Table {
         let TypeName { path, name } = name;
         let package = self
             .packages
-            .entry(path.into_vec()?)?
+            .entry(path)?
             .or_insert(IndexMap::new(self.alloc));
-        match package.insert(name.into_vec()?, defined) {
+        match package.insert(name, defined) {
             Ok(None) => Ok(()),
             Ok(Some(_)) => Err(Refusal::WrongLine),
             Err(_) => Err(Refusal::NoMemory),
@@ -43,7 +44,7 @@ impl TypeTable for Table {
     ghost lookup = { λ t. held t.packages };
 
     fn defined(&self, name: &TypeName) -> Option<&Defined> {
-        let package = self.packages.get(name.path.bytes())?;
-        package.get(name.name.bytes())
+        let package = self.packages.get(&name.path)?;
+        package.get(&name.name)
     }
 }

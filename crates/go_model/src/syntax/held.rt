@@ -5,3 +5,4 @@
 pub mod declaration;
 pub mod expression;
 pub mod types;
+mod whole;

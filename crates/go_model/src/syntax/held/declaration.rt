@@ -5,6 +5,7 @@ use crate::boxed::Box;
 use crate::list::List;
 use crate::memory::NoMemory;
 use crate::syntax::declaration::{ConstSpec, Decl, Func, TypeSpec, VarSpec};
+use crate::syntax::held::whole::Whole;
 use std::alloc::Global;
 use std::marker::Model;
 
@@ -184,7 +185,7 @@ impl HeldTypeSpecs {
 
 /// A declaration at package level in the making.
 pub struct HeldDecl {
-    tree: Decl,
+    tree: Whole<Decl>,
 }
 
 impl Drop for HeldDecl {
@@ -210,7 +211,9 @@ impl HeldDecl {
     pub fn new(tree: Decl) -> HeldDecl
         ensures { result ≡ tree }
     {
-        HeldDecl { tree }
+        HeldDecl {
+            tree: Whole::new(tree),
+        }
     }
 
     /// The tree, moved out.
@@ -218,7 +221,7 @@ impl HeldDecl {
         ensures { result ≡ self }
     {
         let HeldDecl { tree } = self;
-        tree
+        tree.take()
     }
 }
 

@@ -5,12 +5,13 @@ use crate::boxed::Box;
 use crate::list::List;
 use crate::memory::NoMemory;
 use crate::syntax::expression::{Element, ElementValue, Expr, Post};
+use crate::syntax::held::whole::Whole;
 use std::alloc::Global;
 use std::marker::Model;
 
 /// An expression in the making.
 pub struct HeldExpr {
-    tree: Expr,
+    tree: Whole<Expr>,
 }
 
 impl Drop for HeldExpr {
@@ -36,7 +37,9 @@ impl HeldExpr {
     pub fn new(tree: Expr) -> HeldExpr
         ensures { result ≡ tree }
     {
-        HeldExpr { tree }
+        HeldExpr {
+            tree: Whole::new(tree),
+        }
     }
 
     /// The tree, moved out.
@@ -44,7 +47,7 @@ impl HeldExpr {
         ensures { result ≡ self }
     {
         let HeldExpr { tree } = self;
-        tree
+        tree.take()
     }
 }
 
@@ -166,7 +169,7 @@ impl HeldPosts {
 
 /// A key or a value of a composite literal in the making.
 pub struct HeldElementValue {
-    tree: ElementValue,
+    tree: Whole<ElementValue>,
 }
 
 impl Drop for HeldElementValue {
@@ -192,7 +195,9 @@ impl HeldElementValue {
     pub fn new(tree: ElementValue) -> HeldElementValue
         ensures { result ≡ tree }
     {
-        HeldElementValue { tree }
+        HeldElementValue {
+            tree: Whole::new(tree),
+        }
     }
 
     /// The tree, moved out.
@@ -200,7 +205,7 @@ impl HeldElementValue {
         ensures { result ≡ self }
     {
         let HeldElementValue { tree } = self;
-        tree
+        tree.take()
     }
 }
 

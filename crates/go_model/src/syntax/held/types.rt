@@ -6,13 +6,14 @@ use crate::boxed::Box;
 use crate::list::List;
 use crate::memory::NoMemory;
 use crate::syntax::expression::Expr;
+use crate::syntax::held::whole::Whole;
 use crate::syntax::types::{FieldDecl, InterfaceElem, ParameterDecl, Signature, Type};
 use std::alloc::Global;
 use std::marker::Model;
 
 /// A type in the making.
 pub struct HeldType {
-    tree: Type,
+    tree: Whole<Type>,
 }
 
 impl Drop for HeldType {
@@ -38,7 +39,9 @@ impl HeldType {
     pub fn new(tree: Type) -> HeldType
         ensures { result ≡ tree }
     {
-        HeldType { tree }
+        HeldType {
+            tree: Whole::new(tree),
+        }
     }
 
     /// The tree, moved out.
@@ -46,13 +49,13 @@ impl HeldType {
         ensures { result ≡ self }
     {
         let HeldType { tree } = self;
-        tree
+        tree.take()
     }
 }
 
 /// Parameters and a result in the making.
 pub struct HeldSignature {
-    tree: Signature,
+    tree: Whole<Signature>,
 }
 
 impl Drop for HeldSignature {
@@ -78,7 +81,9 @@ impl HeldSignature {
     pub fn new(tree: Signature) -> HeldSignature
         ensures { result ≡ tree }
     {
-        HeldSignature { tree }
+        HeldSignature {
+            tree: Whole::new(tree),
+        }
     }
 
     /// The tree, moved out.
@@ -86,7 +91,7 @@ impl HeldSignature {
         ensures { result ≡ self }
     {
         let HeldSignature { tree } = self;
-        tree
+        tree.take()
     }
 }
 
@@ -165,7 +170,7 @@ impl HeldParameters {
 
 /// A receiver in the making, where there is one.
 pub struct HeldReceiver {
-    tree: Option<ParameterDecl>,
+    tree: Whole<Option<ParameterDecl>>,
 }
 
 impl Drop for HeldReceiver {
@@ -192,7 +197,9 @@ impl HeldReceiver {
     pub fn new(tree: Option<ParameterDecl>) -> HeldReceiver
         ensures { result ≡ tree }
     {
-        HeldReceiver { tree }
+        HeldReceiver {
+            tree: Whole::new(tree),
+        }
     }
 
     /// The tree, moved out.
@@ -200,7 +207,7 @@ impl HeldReceiver {
         ensures { result ≡ self }
     {
         let HeldReceiver { tree } = self;
-        tree
+        tree.take()
     }
 }
 
