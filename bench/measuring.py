@@ -1,6 +1,7 @@
 """What the scripts of this folder share: running a command and measuring it."""
 import collections
 import os
+import re
 import subprocess
 import sys
 import tempfile
@@ -37,3 +38,15 @@ def measure(command, runs, given=None, statuses=(0,)):
     """The least time, the peak memory in bytes, and the output of some runs. GIVEN is the file of their input."""
     best = best_of(command, runs, given, statuses)
     return best.seconds, best.peak, best.output
+
+
+def instructions_of(command, given=None):
+    """How many instructions a run takes, as valgrind counts them (the same number each time, however busy the machine
+    is), and its output. GIVEN is the file of its input."""
+    counting = ["valgrind", "--tool=cachegrind", "--cache-sim=no", "--cachegrind-out-file=/dev/null"]
+    with open(given or os.devnull, "rb") as source:
+        done = subprocess.run(counting + command, stdin=source, capture_output=True, check=False)
+    counted = re.search(rb"I\s+refs:\s+([0-9,]+)", done.stderr)
+    if done.returncode or not counted:
+        sys.exit("%s: status %d under valgrind" % (" ".join(command), done.returncode))
+    return int(counted.group(1).replace(b",", b"")), done.stdout
