@@ -1,5 +1,5 @@
 -- The keys of sets.
-use Rattle.std.proofs.Common.{◌≡◌, List, [], ◌∷◌, ◌++◌, refl, sym, ap, ◌∙◌, inl, inr, Bool, true, false, ◌||◌}
+use Rattle.std.proofs.Common.{◌≡◌, List, [], ◌∷◌, ◌++◌, refl, sym, ap, ◌∙◌, inl, inr, Bool, true, false, not, subst, ◌||◌}
 use mathlib.Core.Bool.{true≢false}
 use Rattle.std.specs.Prelude.{if◌then◌else◌}
 use Rattle.std.specs.List.{list_any}
@@ -13,22 +13,21 @@ use Rattle.go_types.specs.declared.met.Key.{Key}
 use Rattle.go_types.specs.contracts.met.KeyPartialEq.TheImpl as KeyEquality
 use Rattle.go_types.proofs.Lists.{has-back}
 
-module _ {A : Type 0} (same : A → A → Bool) where
-  added : (ks : List A) (k : A) (known : Bool) → Adds ks (if known then ks else ks ++ k ∷ []) k
-  added ks k true x h = inl h
-  added ks k false x h = has-back ks k x h
+module _ {A : Type 0} (same : A → A → Bool) (is : (a b : A) → same a b ≡ true → a ≡ b) where
+  at_key : (k y : A) (ys : List A) (b : Bool) → same k y ≡ b → (b || list_any (same k) ys) ≡ true → (list_any (same k) ys ≡ true → Has ys k) → Has (y ∷ ys) k
+  at_key k y ys true e h rest = inl (sym (is k y e))
+  at_key k y ys false e h rest = inr (rest h)
 
-  pub adds-insert : (ks : List A) (k : A) → Adds ks (insert_key same ks k) k
-  adds-insert ks k = added ks k (list_any (same k) ks)
+  has_key : (ks : List A) (k : A) → list_any (same k) ks ≡ true → Has ks k
+  has_key [] k h = true≢false (sym h)
+  has_key (y ∷ ys) k h = at_key k y ys (same k y) refl h (has_key ys k)
 
-  module _ (is : (a b : A) → same a b ≡ true → a ≡ b) where
-    at_key : (k y : A) (ys : List A) (b : Bool) → same k y ≡ b → (b || list_any (same k) ys) ≡ true → (list_any (same k) ys ≡ true → Has ys k) → Has (y ∷ ys) k
-    at_key k y ys true e h rest = inl (sym (is k y e))
-    at_key k y ys false e h rest = inr (rest h)
+  added : (ks : List A) (k : A) (known : Bool) → list_any (same k) ks ≡ known → Adds ks (if known then ks else ks ++ k ∷ []) k (not known)
+  added ks k true e = (has_key ks k e, refl)
+  added ks k false e = λ x h. has-back ks k x h
 
-    pub has_key : (ks : List A) (k : A) → list_any (same k) ks ≡ true → Has ks k
-    has_key [] k h = true≢false (sym h)
-    has_key (y ∷ ys) k h = at_key k y ys (same k y) refl h (has_key ys k)
+  pub adds-insert : (ks new : List A) (k : A) (fresh : Bool) → new ≡ insert_key same ks k → fresh ≡ not (list_any (same k) ks) → Adds ks new k fresh
+  adds-insert ks new k fresh e f = subst (λ (b : Bool). Adds ks new k b) (sym f) (subst (λ (w : List A). Adds ks w k (not (list_any (same k) ks))) (sym e) (added ks k (list_any (same k) ks) refl))
 
 abbrev key_of : Bool → TypeName → Key
 key_of through name = record { through = through; name = name }

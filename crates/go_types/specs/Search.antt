@@ -6,9 +6,10 @@ use Rattle.go_model.specs.Gathered.{gather}
 use Rattle.go_model.specs.Selectors.{Spot, Ending}
 use Rattle.go_types.specs.declared.met.Key.{Key}
 
--- a set holds nothing new but this
-abbrev pub Adds : {A : Type 0} → List A → List A → A → Type 0
-Adds {A} old new k = (x : A) → Has new x → Has old x ⊎ (k ≡ x)
+-- whether an item wasn't in a set yet; the set holds nothing else that is new
+abbrev pub Adds : {A : Type 0} → List A → List A → A → Bool → Type 0
+Adds {A} old new k true = (x : A) → Has new x → Has old x ⊎ (k ≡ x)
+Adds old new k false = Has old k × (new ≡ old)
 
 abbrev pub spot_of : Key → Spot
 spot_of k = record { through = k.through; term = roll-Term (Term-F.Named k.name) }

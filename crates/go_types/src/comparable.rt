@@ -1,6 +1,5 @@
 //! Types whose values can be compared.
-ghost use Rattle.std.specs.Prelude.{◌≡◌, [], ◌∷◌, true, IfOk, OnOk};
-ghost use Rattle.go_model.specs.Lists.{Has};
+ghost use Rattle.std.specs.Prelude.{◌≡◌, [], ◌∷◌, IfOk, OnOk};
 ghost use Rattle.go_model.specs.Worlds.{table_of};
 ghost use Rattle.go_types.specs.Answers.{Decides};
 ghost use Rattle.go_model.specs.Comparison.{Comparable};
@@ -17,17 +16,11 @@ use go_model::types::world::World;
 use indexmap::IndexSet;
 use std::alloc::Global;
 
-fn has<'a>(names: &IndexSet<Name<'a>>, name: &Name<'a>) -> bool
-    ensures { result ≡ true → Has names.now.keys name.now }
+// Adds a name, and tells whether it wasn't there.
+fn add<'a>(names: &mut IndexSet<Name<'a>>, name: Name<'a>) -> Result<bool, NoMemory>
+    ensures { IfOk result (Adds names.old.keys names.new.keys name.entry) }
 {
-    names.contains(name)
-}
-
-fn add<'a>(names: &mut IndexSet<Name<'a>>, name: Name<'a>) -> Result<(), NoMemory>
-    ensures { OnOk result (Adds names.old.keys names.new.keys name.entry) }
-{
-    names.insert(name)?;
-    Ok(())
+    Ok(names.insert(name)?)
 }
 
 // Whether a type is a name that was met before; it is met.
@@ -35,14 +28,7 @@ fn meets<'a>(met: &mut IndexSet<Name<'a>>, term: &'a Term) -> Result<bool, NoMem
     ensures { IfOk result (MeetsTerm met.old.keys met.new.keys term.now) }
 {
     match term {
-        Term::Named(name) => {
-            let name = Name::new(name);
-            if has(met, &name) {
-                return Ok(true);
-            }
-            add(met, name)?;
-            Ok(false)
-        }
+        Term::Named(name) => Ok(!add(met, Name::new(name))?),
         _ => Ok(false),
     }
 }

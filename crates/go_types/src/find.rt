@@ -11,6 +11,7 @@ use crate::lookup::{Lookup, error_type};
 use crate::met::Met;
 use crate::place::Place;
 use crate::steps::{add_endings, add_steps};
+use go_model::boxed::Box;
 use go_model::memory::NoMemory;
 use go_model::types::found::{FieldFound, Found, MethodFound};
 use go_model::types::names::Sel;
@@ -131,6 +132,14 @@ fn found_one(
     }
 }
 
+// An answer, on the heap. What was found is given up variant by variant where it stands by value.
+fn boxed(alloc: Global, answer: Found) -> Result<Option<Box<Found>>, NoMemory>
+    ensures { IfOk result (λ boxed. boxed ≡ Some answer) }
+{
+    let answer = Box::new(alloc, answer)?;
+    Ok(Some(answer))
+}
+
 // The answer, where this layer tells it.
 fn verdict(
     alloc: Global,
@@ -138,21 +147,21 @@ fn verdict(
     layer: &Vec<Place<'_>>,
     defined: bool,
     depth: u64,
-) -> Result<Option<Found>, NoMemory>
+) -> Result<Option<Box<Found>>, NoMemory>
     ensures { IfOk result (Verdict (endings_of found.now.items) layer.now.items defined depth) }
 {
     match found.as_slice() {
         [] => {
             if layer.is_empty() {
-                return Ok(Some(Found::Nothing));
+                return boxed(alloc, Found::Nothing);
             }
             Ok(None)
         }
         [one] => {
             let answer = found_one(alloc, one, defined, depth)?;
-            Ok(Some(answer))
+            boxed(alloc, answer)
         }
-        _ => Ok(Some(Found::Ambiguous)),
+        _ => boxed(alloc, Found::Ambiguous),
     }
 }
 
@@ -172,7 +181,7 @@ pub(crate) fn search<'a, T: TypeTable>(
         let found = endings_in(alloc, types, sel, &layer)?;
         let told = verdict(alloc, &found, &layer, defined, depth)?;
         if let Some(answer) = told {
-            return Ok(answer);
+            return Ok(answer.into_value());
         }
         layer = next_layer(alloc, types, &mut met, &layer)?;
     }

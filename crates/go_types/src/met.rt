@@ -1,7 +1,6 @@
 //! Which defined types a search has met.
-ghost use Rattle.std.specs.Prelude.{◌≡◌, List, [], true, IfOk, OnOk};
+ghost use Rattle.std.specs.Prelude.{◌≡◌, List, [], IfOk, OnOk};
 ghost use Rattle.go_model.specs.Selectors.{Spot};
-ghost use Rattle.go_model.specs.Lists.{Has};
 ghost use Rattle.go_types.specs.Search.{Adds, IsKeyOf, Knows, Recalls, Keeps, Thinned, Meets};
 
 use crate::name::Name;
@@ -26,17 +25,20 @@ pub(crate) struct Met<'a> {
     twice: IndexSet<Key<'a>>,
 }
 
-fn has<'a>(keys: &IndexSet<Key<'a>>, key: &Key<'a>) -> bool
-    ensures { result ≡ true → Has keys.now.keys key.now }
+// Adds a key, and tells whether it wasn't there.
+fn add<'a>(keys: &mut IndexSet<Key<'a>>, key: Key<'a>) -> Result<bool, NoMemory>
+    ensures { IfOk result (Adds keys.old.keys keys.new.keys key.entry) }
 {
-    keys.contains(key)
+    Ok(keys.insert(key)?)
 }
 
-fn add<'a>(keys: &mut IndexSet<Key<'a>>, key: Key<'a>) -> Result<(), NoMemory>
-    ensures { OnOk result (Adds keys.old.keys keys.new.keys key.entry) }
+fn again<'a>(key: &Key<'a>) -> Key<'a>
+    ensures { result ≡ key.now }
 {
-    keys.insert(key)?;
-    Ok(())
+    Key {
+        through: key.through,
+        name: key.name.again(),
+    }
 }
 
 fn key_of<'a>(place: &Place<'a>) -> Option<Key<'a>>
@@ -68,15 +70,10 @@ impl<'a> Met<'a> {
     fn meets(&mut self, key: Key<'a>) -> Result<bool, NoMemory>
         ensures { IfOk result (Meets self.old.once.keys self.old.twice.keys self.new.once.keys self.new.twice.keys key.entry) }
     {
-        if has(&self.twice, &key) {
-            return Ok(true);
-        }
-        if has(&self.once, &key) {
-            add(&mut self.twice, key)?;
+        if add(&mut self.once, again(&key))? {
             return Ok(false);
         }
-        add(&mut self.once, key)?;
-        Ok(false)
+        Ok(!add(&mut self.twice, key)?)
     }
 
     // Whether a place tells nothing more; else it is kept next.

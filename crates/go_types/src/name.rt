@@ -28,6 +28,13 @@ impl<'a> Name<'a> {
     {
         Name { name }
     }
+
+    /// The same name.
+    pub(crate) fn again(&self) -> Name<'a>
+        ensures { result ≡ self.now }
+    {
+        Name { name: self.name }
+    }
 }
 
 impl<'a> PartialEq for Name<'a> {

@@ -2,6 +2,7 @@
 use crate::read::{Refusal, Stack, sel, type_name};
 use crate::show::{push_number, push_set, push_signature, push_term};
 use crate::table::Table;
+use go_model::boxed::Box;
 use go_model::text::Text;
 use go_model::types::found::{FieldFound, Found, MethodFound};
 use go_model::types::package::Defined;
@@ -22,17 +23,17 @@ fn split(text: &str) -> Result<(&str, &str), Refusal> {
     }
 }
 
-fn one(alloc: Global, stack: &mut Stack, text: &str) -> Result<Term, Refusal> {
+fn one(alloc: Global, stack: &mut Stack, text: &str) -> Result<Box<Term>, Refusal> {
     stack.read_all(alloc, text)?;
-    let term = stack.term()?;
+    let term = stack.boxed(alloc)?;
     stack.end()?;
     Ok(term)
 }
 
-fn two(alloc: Global, stack: &mut Stack, text: &str) -> Result<(Term, Term), Refusal> {
+fn two(alloc: Global, stack: &mut Stack, text: &str) -> Result<(Box<Term>, Box<Term>), Refusal> {
     stack.read_all(alloc, text)?;
-    let first = stack.term()?;
-    let second = stack.term()?;
+    let first = stack.boxed(alloc)?;
+    let second = stack.boxed(alloc)?;
     stack.end()?;
     Ok((first, second))
 }
@@ -90,7 +91,7 @@ fn find_answer(
 ) -> Result<Vec<u8>, Refusal> {
     let (word, rest) = split(text)?;
     let term = one(alloc, stack, rest)?;
-    let answer = search(alloc, table, &term, word)?;
+    let answer = search(alloc, table, term.value(), word)?;
     found(alloc, &answer)
 }
 
@@ -101,7 +102,7 @@ fn set_answer(
     text: &str,
 ) -> Result<Vec<u8>, Refusal> {
     let term = one(alloc, stack, text)?;
-    let methods = method_set_in(alloc, table, &term)?;
+    let methods = method_set_in(alloc, table, term.value())?;
     let mut out = Vec::new(alloc);
     push_set(alloc, &mut out, methods.items())?;
     Ok(out)
@@ -114,13 +115,13 @@ fn comparable_answer(
     text: &str,
 ) -> Result<Vec<u8>, Refusal> {
     let term = one(alloc, stack, text)?;
-    let answer = comparable_in(alloc, table, &term)?;
+    let answer = comparable_in(alloc, table, term.value())?;
     truth(alloc, answer)
 }
 
 fn identical_answer(alloc: Global, stack: &mut Stack, text: &str) -> Result<Vec<u8>, Refusal> {
     let (left, right) = two(alloc, stack, text)?;
-    truth(alloc, identical(&left, &right))
+    truth(alloc, identical(left.value(), right.value()))
 }
 
 fn implements_answer(
@@ -130,7 +131,7 @@ fn implements_answer(
     text: &str,
 ) -> Result<Vec<u8>, Refusal> {
     let (term, interface) = two(alloc, stack, text)?;
-    let answer = implements_in(alloc, table, &term, &interface)?;
+    let answer = implements_in(alloc, table, term.value(), interface.value())?;
     truth(alloc, answer)
 }
 
@@ -150,7 +151,7 @@ fn assignable_answer(
 ) -> Result<Vec<u8>, Refusal> {
     let (word, rest) = split(text)?;
     let (from, to) = two(alloc, stack, rest)?;
-    let answer = assignable_in(alloc, table, &from, &to, flag(word)?)?;
+    let answer = assignable_in(alloc, table, from.value(), to.value(), flag(word)?)?;
     truth(alloc, answer)
 }
 
@@ -162,7 +163,7 @@ fn convertible_answer(
 ) -> Result<Vec<u8>, Refusal> {
     let (word, rest) = split(text)?;
     let (from, to) = two(alloc, stack, rest)?;
-    let answer = convertible_in(alloc, table, &from, &to, flag(word)?)?;
+    let answer = convertible_in(alloc, table, from.value(), to.value(), flag(word)?)?;
     truth(alloc, answer)
 }
 
@@ -175,15 +176,15 @@ fn add_type(
     let (word, rest) = split(text)?;
     let name = type_name(alloc, word)?;
     stack.read_all(alloc, rest)?;
-    let underlying = stack.term()?;
-    if let Term::Named(_) = &underlying {
+    let underlying = stack.boxed(alloc)?;
+    if let Term::Named(_) = underlying.value() {
         return Err(Refusal::WrongLine);
     }
     let methods = stack.declared(alloc)?;
     stack.end()?;
     let defined = Defined {
         name: Text::of(alloc, name.name.bytes())?,
-        underlying,
+        underlying: underlying.into_value(),
         methods,
     };
     table.add(name, defined)

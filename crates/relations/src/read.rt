@@ -128,12 +128,18 @@ impl Stack {
         Ok(())
     }
 
-    /// The leftmost term.
-    pub fn term(&mut self) -> Result<Term, Refusal> {
+    // The leftmost term.
+    fn term(&mut self) -> Result<Term, Refusal> {
         match self.terms.pop() {
             Some(term) => Ok(term),
             None => Err(Refusal::WrongLine),
         }
+    }
+
+    /// The leftmost term, on the heap. A term by value is given up variant by variant.
+    pub fn boxed(&mut self, alloc: Global) -> Result<Box<Term>, Refusal> {
+        let term = self.term()?;
+        Ok(Box::new(alloc, term)?)
     }
 
     /// The declared methods.
@@ -152,11 +158,6 @@ impl Stack {
             return Ok(());
         }
         Err(Refusal::WrongLine)
-    }
-
-    fn boxed(&mut self, alloc: Global) -> Result<Box<Term>, Refusal> {
-        let term = self.term()?;
-        Ok(Box::new(alloc, term)?)
     }
 
     fn called(&mut self) -> Result<Signature, Refusal> {
@@ -190,22 +191,22 @@ impl Stack {
             Some(parts) => parts,
             None => return Err(Refusal::WrongLine),
         };
+        let sel = sel(alloc, selector)?;
+        let tag = tag(alloc, digits)?;
         let term = self.term()?;
         self.fields.push(Field {
-            sel: sel(alloc, selector)?,
+            sel,
             embedded,
             term,
-            tag: tag(alloc, digits)?,
+            tag,
         })?;
         Ok(())
     }
 
     fn add_method(&mut self, alloc: Global, selector: &str) -> Result<(), Refusal> {
+        let sel = sel(alloc, selector)?;
         let signature = self.called()?;
-        self.methods.push(Method {
-            sel: sel(alloc, selector)?,
-            signature,
-        })?;
+        self.methods.push(Method { sel, signature })?;
         Ok(())
     }
 
@@ -215,9 +216,10 @@ impl Stack {
         pointer: bool,
         selector: &str,
     ) -> Result<(), Refusal> {
+        let sel = sel(alloc, selector)?;
         let signature = self.called()?;
         self.declared.push(MethodOf {
-            sel: sel(alloc, selector)?,
+            sel,
             pointer,
             signature,
         })?;

@@ -32,11 +32,10 @@ impl Table {
             .packages
             .entry(path)?
             .or_insert(IndexMap::new(self.alloc));
-        match package.insert(name, defined) {
-            Ok(None) => Ok(()),
-            Ok(Some(_)) => Err(Refusal::WrongLine),
-            Err(_) => Err(Refusal::NoMemory),
+        if package.insert(name, defined)?.is_some() {
+            return Err(Refusal::WrongLine);
         }
+        Ok(())
     }
 }
 
