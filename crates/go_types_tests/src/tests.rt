@@ -197,14 +197,15 @@ fn add_field(
     embedded: bool,
     tag: &[u8],
 ) -> Result<(), NoMemory> {
+    let sel = sel(alloc, name)?;
+    let tag = Text::of(alloc, tag)?;
     let term = top(alloc, stack)?.into_value();
-    let field = Field {
-        sel: sel(alloc, name)?,
+    stack.fields.push(Field {
+        sel,
         embedded,
         term,
-        tag: Text::of(alloc, tag)?,
-    };
-    stack.fields.push(field)
+        tag,
+    })
 }
 
 fn add_method(
@@ -229,8 +230,8 @@ fn add_name(alloc: Global, stack: &mut Stack, name: &[u8]) -> Result<(), NoMemor
     Ok(())
 }
 
-/// A type in reverse notation.
-pub(crate) fn term(alloc: Global, text: &[u8]) -> Result<Term, NoMemory> {
+/// A type in reverse notation, on the heap, where giving it up is a call.
+pub(crate) fn term(alloc: Global, text: &[u8]) -> Result<Box<Term>, NoMemory> {
     let mut stack = Stack {
         terms: Vec::new(alloc),
         fields: List::new(alloc),
@@ -239,7 +240,7 @@ pub(crate) fn term(alloc: Global, text: &[u8]) -> Result<Term, NoMemory> {
     for word in text.split(|byte| *byte == b' ') {
         read(alloc, &mut stack, word)?;
     }
-    Ok(top(alloc, &mut stack)?.into_value())
+    top(alloc, &mut stack)
 }
 
 /// Types by name, what is underneath, and their methods: those with `*` before have a pointer
@@ -294,10 +295,12 @@ fn methods_of(alloc: Global, text: &[u8]) -> Result<List<MethodOf>, NoMemory> {
 fn table(alloc: Global) -> Result<Packages, NoMemory> {
     let mut defined = List::new(alloc);
     for (name, underlying, methods) in TYPES {
+        let underlying = term(alloc, underlying)?;
+        let methods = methods_of(alloc, methods)?;
         defined.push(Defined {
             name: Text::of(alloc, name)?,
-            underlying: term(alloc, underlying)?,
-            methods: methods_of(alloc, methods)?,
+            underlying: underlying.into_value(),
+            methods,
         })?;
     }
     let mut packages = Vec::new(alloc);
@@ -379,7 +382,12 @@ fn finds_at_the_shallowest_depth(rt: HostRuntime) -> Result<(), Fail> {
     let alloc = rt.alloc();
     let types = table(alloc)?;
     for (text, name, want) in FINDS {
-        let found = find_in(alloc, &types, &term(alloc, text)?, &sel(alloc, name)?)?;
+        let found = find_in(
+            alloc,
+            &types,
+            term(alloc, text)?.value(),
+            &sel(alloc, name)?,
+        )?;
         assert_eq!(rt; shown(alloc, &found)?.as_slice(), want, "{text:?} {name:?}");
     }
     Ok(())
@@ -409,7 +417,12 @@ fn implements_by_the_method_set(rt: HostRuntime) -> Result<(), Fail> {
     let alloc = rt.alloc();
     let types = table(alloc)?;
     for (text, interface, want) in IMPLEMENTS {
-        let answer = implements_in(alloc, &types, &term(alloc, text)?, &term(alloc, interface)?)?;
+        let answer = implements_in(
+            alloc,
+            &types,
+            term(alloc, text)?.value(),
+            term(alloc, interface)?.value(),
+        )?;
         assert_eq!(rt; answer, want, "{text:?} {interface:?}");
     }
     Ok(())
@@ -439,7 +452,7 @@ fn compares_all_but_slices_maps_and_functions(rt: HostRuntime) -> Result<(), Fai
     let types = table(alloc)?;
     for (text, want) in COMPARABLE {
         assert_eq!(rt;
-            comparable_in(alloc, &types, &term(alloc, text)?)?,
+            comparable_in(alloc, &types, term(alloc, text)?.value())?,
             want,
             "{text:?}"
         );
@@ -474,8 +487,8 @@ fn assignable_both(
 ) -> Result<(bool, bool), NoMemory> {
     let from = term(alloc, from)?;
     let to = term(alloc, to)?;
-    let elsewhere = assignable_in(alloc, types, &from, &to, false)?;
-    let profile = assignable_in(alloc, types, &from, &to, true)?;
+    let elsewhere = assignable_in(alloc, types, from.value(), to.value(), false)?;
+    let profile = assignable_in(alloc, types, from.value(), to.value(), true)?;
     Ok((elsewhere, profile))
 }
 
@@ -521,8 +534,8 @@ fn convertible_both(
 ) -> Result<(bool, bool), NoMemory> {
     let from = term(alloc, from)?;
     let to = term(alloc, to)?;
-    let elsewhere = convertible_in(alloc, types, &from, &to, false)?;
-    let profile = convertible_in(alloc, types, &from, &to, true)?;
+    let elsewhere = convertible_in(alloc, types, from.value(), to.value(), false)?;
+    let profile = convertible_in(alloc, types, from.value(), to.value(), true)?;
     Ok((elsewhere, profile))
 }
 
@@ -542,17 +555,27 @@ fn counts_tags_in_identity(rt: HostRuntime) -> Result<(), Fail> {
     let alloc = rt.alloc();
     assert!(rt;
         identical(
-            &term(alloc, b"int .F struct")?,
-            &term(alloc, b"int .F struct")?
+            term(alloc, b"int .F struct")?.value(),
+            term(alloc, b"int .F struct")?.value()
         )
     );
     assert!(rt;
         !identical(
-            &term(alloc, b"int .F struct")?,
-            &term(alloc, b"int 'F struct")?
+            term(alloc, b"int .F struct")?.value(),
+            term(alloc, b"int 'F struct")?.value()
         )
     );
-    assert!(rt; !identical(&term(alloc, b"A ^A struct")?, &term(alloc, b"A .A struct")?));
-    assert!(rt; !identical(&term(alloc, b"int c")?, &term(alloc, b"int <")?));
+    assert!(rt;
+        !identical(
+            term(alloc, b"A ^A struct")?.value(),
+            term(alloc, b"A .A struct")?.value()
+        )
+    );
+    assert!(rt;
+        !identical(
+            term(alloc, b"int c")?.value(),
+            term(alloc, b"int <")?.value()
+        )
+    );
     Ok(())
 }

@@ -274,8 +274,8 @@ fn two_packages(alloc: Global) -> Result<World, NoMemory>
 fn assigns(alloc: Global, world: &World, from: &[u8], to: &[u8]) -> Result<(bool, bool), NoMemory> {
     let from = term(alloc, from)?;
     let to = term(alloc, to)?;
-    let by_world = assignable(alloc, world, &from, &to, false)?;
-    let by_table = assignable_in(alloc, world, &from, &to, false)?;
+    let by_world = assignable(alloc, world, from.value(), to.value(), false)?;
+    let by_table = assignable_in(alloc, world, from.value(), to.value(), false)?;
     Ok((by_world, by_table))
 }
 
@@ -288,8 +288,8 @@ fn converts(
 ) -> Result<(bool, bool), NoMemory> {
     let from = term(alloc, from)?;
     let to = term(alloc, to)?;
-    let by_world = convertible(alloc, world, &from, &to, profile)?;
-    let by_table = convertible_in(alloc, world, &from, &to, profile)?;
+    let by_world = convertible(alloc, world, from.value(), to.value(), profile)?;
+    let by_table = convertible_in(alloc, world, from.value(), to.value(), profile)?;
     Ok((by_world, by_table))
 }
 
@@ -301,15 +301,15 @@ fn implements_interface(
 ) -> Result<(bool, bool), NoMemory> {
     let implementing = term(alloc, text)?;
     let interface = term(alloc, interface)?;
-    let by_world = implements(alloc, world, &implementing, &interface)?;
-    let by_table = implements_in(alloc, world, &implementing, &interface)?;
+    let by_world = implements(alloc, world, implementing.value(), interface.value())?;
+    let by_table = implements_in(alloc, world, implementing.value(), interface.value())?;
     Ok((by_world, by_table))
 }
 
 fn compares(alloc: Global, world: &World, text: &[u8]) -> Result<(bool, bool), NoMemory> {
     let compared = term(alloc, text)?;
-    let by_world = comparable(alloc, world, &compared)?;
-    let by_table = comparable_in(alloc, world, &compared)?;
+    let by_world = comparable(alloc, world, compared.value())?;
+    let by_table = comparable_in(alloc, world, compared.value())?;
     Ok((by_world, by_table))
 }
 
@@ -321,8 +321,14 @@ fn is_ambiguous(
 ) -> Result<(bool, bool), NoMemory> {
     let searched = term(alloc, text)?;
     let sel = sel(alloc, name)?;
-    let by_world = matches!(&find(alloc, world, &searched, &sel)?, Found::Ambiguous);
-    let by_table = matches!(&find_in(alloc, world, &searched, &sel)?, Found::Ambiguous);
+    let by_world = matches!(
+        &find(alloc, world, searched.value(), &sel)?,
+        Found::Ambiguous
+    );
+    let by_table = matches!(
+        &find_in(alloc, world, searched.value(), &sel)?,
+        Found::Ambiguous
+    );
     Ok((by_world, by_table))
 }
 
@@ -334,15 +340,20 @@ fn finds_nothing(
 ) -> Result<(bool, bool), NoMemory> {
     let searched = term(alloc, text)?;
     let sel = sel(alloc, name)?;
-    let by_world = matches!(&find(alloc, world, &searched, &sel)?, Found::Nothing);
-    let by_table = matches!(&find_in(alloc, world, &searched, &sel)?, Found::Nothing);
+    let by_world = matches!(&find(alloc, world, searched.value(), &sel)?, Found::Nothing);
+    let by_table = matches!(
+        &find_in(alloc, world, searched.value(), &sel)?,
+        Found::Nothing
+    );
     Ok((by_world, by_table))
 }
 
 fn has_no_methods(alloc: Global, world: &World, text: &[u8]) -> Result<(bool, bool), NoMemory> {
     let term = term(alloc, text)?;
-    let by_world = method_set(alloc, world, &term)?.items().is_empty();
-    let by_table = method_set_in(alloc, world, &term)?.items().is_empty();
+    let by_world = method_set(alloc, world, term.value())?.items().is_empty();
+    let by_table = method_set_in(alloc, world, term.value())?
+        .items()
+        .is_empty();
     Ok((by_world, by_table))
 }
 
@@ -359,8 +370,8 @@ fn is_only_method(alloc: Global, methods: &[Method]) -> Result<bool, NoMemory> {
 
 fn has_only_method(alloc: Global, world: &World, text: &[u8]) -> Result<(bool, bool), NoMemory> {
     let term = term(alloc, text)?;
-    let by_world = is_only_method(alloc, method_set(alloc, world, &term)?.items())?;
-    let by_table = is_only_method(alloc, method_set_in(alloc, world, &term)?.items())?;
+    let by_world = is_only_method(alloc, method_set(alloc, world, term.value())?.items())?;
+    let by_table = is_only_method(alloc, method_set_in(alloc, world, term.value())?.items())?;
     Ok((by_world, by_table))
 }
 
