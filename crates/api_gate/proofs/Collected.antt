@@ -10,7 +10,7 @@ use Rattle.std.proofs.lemmas.List.{append_assoc}
 use Rattle.std.proofs.lemmas.List.Filters.{dedup_is}
 use Rattle.std.proofs.lemmas.List.Kept.{Contains-dedup, Contains-from_dedup, IsStrictlySortedBy-dedup}
 use Rattle.std.proofs.lemmas.List.Sorted.{Contains-permutation, IsPermutation-sym}
-use Rattle.go_model.specs.Lists.{Has}
+use Rattle.go_base.specs.Lists.{Has}
 use Rattle.api_gate.specs.Features.{IsOrdered, unlines}
 use Rattle.api_gate.specs.Growing.{Grows}
 use Rattle.api_gate.proofs.Drops.{next_drop}

@@ -1,8 +1,8 @@
 -- Constants that are gathered one after another.
 use Rattle.std.proofs.Common.{◌≡◌, ℕ, suc, ◌+◌, ◌<◌, Bool, true, false, List, [], ◌∷◌, ◌++◌, length, drop, get_or, Option, Some, None, refl, sym, ap, ◌∙◌, append_assoc}
 use mathlib.Core.Bool.{true≢false}
-use Rattle.go_model.specs.declared.syntax.expression.Expr.{Expr}
-use Rattle.go_model.specs.declared.syntax.name.Name.{Name}
+use Rattle.go_syntax.specs.declared.expression.Expr.{Expr}
+use Rattle.go_syntax.specs.declared.name.Name.{Name}
 use Rattle.api_gate.specs.declared.constants.Constant.{Constant}
 use Rattle.api_gate.specs.Constants.{constants_by, constants_of_each, named, then_all, then_first, value_of}
 use Rattle.api_gate.specs.ConstantsReading.{Appends, behind}

@@ -1,10 +1,10 @@
 -- What a source declares is one.
 use Rattle.std.specs.Prelude.{IfOk, IfErr}
 use Rattle.std.proofs.Common.{◌≡◌, ℕ, List, sym, ◌∙◌, subst, Result, Ok, Err}
-use Rattle.go_model.specs.declared.syntax.declaration.File.{File}
-use Rattle.go_model.specs.declared.token.Token.{Token}
-use Rattle.go_model.specs.SourceFiles.{HasOutline}
-use Rattle.go_model.specs.Tokens.{IsTokens}
+use Rattle.go_syntax.specs.declared.declaration.File.{File}
+use Rattle.go_syntax.specs.declared.token.Token.{Token}
+use Rattle.go_syntax.specs.grammar.SourceFiles.{HasOutline}
+use Rattle.go_syntax.specs.lexical.Tokens.{IsTokens}
 use Rattle.api_gate.specs.declared.source.Source.{Source}
 use Rattle.api_gate.specs.declared.source.SourceError.{SourceError}
 use Rattle.api_gate.specs.declared.source.SourceError.TheVariants as source

@@ -3,16 +3,16 @@ use Rattle.std.proofs.Common.{◌≡◌, ℕ, List, [], ◌∷◌, Result, refl,
 use Rattle.go_load.specs.Answers.{Agree, IsFree}
 use Rattle.go_load.specs.Loads.{LoadsModule}
 use Rattle.go_load.specs.declared.error.LoadError.{LoadError}
-use Rattle.go_model.specs.declared.platform.Platform.{Platform}
-use Rattle.go_model.specs.declared.tree.Tree.{Tree}
-use Rattle.go_model.specs.declared.tree.TreeFile.{TreeFile}
-use Rattle.go_model.specs.Lists.{Each}
+use Rattle.go_model.specs.declared.files.platform.Platform.{Platform}
+use Rattle.go_model.specs.declared.files.tree.Tree.{Tree}
+use Rattle.go_model.specs.declared.files.tree.TreeFile.{TreeFile}
+use Rattle.go_base.specs.Lists.{Each}
 use Rattle.go_outside.specs.Stores.{Contents}
 use Rattle.go_tags.specs.HeaderCauses.{HasCause, IsOwnCause}
 use Rattle.go_tags.specs.declared.error.TagError.{TagError}
-use Rattle.go_model.specs.declared.build.Header.{Header}
-use Rattle.go_model.specs.Headers.{IsHeader}
-use Rattle.go_model.specs.Lexemes.{IsBadPlace}
+use Rattle.go_model.specs.declared.files.build.Header.{Header}
+use Rattle.go_model.specs.files.Headers.{IsHeader}
+use Rattle.go_syntax.specs.lexical.Lexemes.{IsBadPlace}
 use Rattle.api_gate.specs.declared.refusals.FileFault.{FileFault}
 use Rattle.api_gate.specs.declared.refusals.FileFault.TheVariants as fault
 use Rattle.api_gate.specs.declared.reading.FileSource.{FileSource}

@@ -11,12 +11,12 @@ use Rattle.api_gate.specs.declared.words.Request.{Request}
 use Rattle.api_gate.specs.Delivery.{output_of, fault_of, status_of, Delivered, WriteFailed}
 use Rattle.go_load.specs.Loads.{LoadsModule, LoadCause}
 use Rattle.go_load.specs.declared.error.LoadError.{LoadError}
-use Rattle.go_model.specs.declared.platform.Platform.{Platform}
+use Rattle.go_model.specs.declared.files.platform.Platform.{Platform}
 use Rattle.go_outside.specs.Faults.{Rose}
 use Rattle.api_gate.specs.declared.reading.ReadError.{ReadError}
 use Rattle.api_gate.specs.declared.reading.ReadError.TheVariants as read
 use Rattle.api_gate.specs.FilesReading.{ReadCause}
-use Rattle.go_model.specs.declared.tree.Tree.{Tree}
+use Rattle.go_model.specs.declared.files.tree.Tree.{Tree}
 use Rattle.api_gate.specs.RunsReading.{AgreesWith, AgreesWithLoad, AgreesWithSome}
 use Rattle.api_gate.specs.Runs.{Outcome, IsOutcome, ends_words, ends_asked, IsTreeRefusal, by_file, EndsWith, unloaded, refused_tree, reported_tree, MayEnd, may_words, may_ask, Decides, Ran, IsComplete, outcome_of, reported, refused, bad_words}
 use Rattle.api_gate.specs.Words.{IsRequest}

@@ -2,14 +2,14 @@
 use Rattle.std.specs.Prelude.{IfOk}
 use Rattle.std.proofs.Common.{◌≡◌, ℕ, ◌+◌, ◌<◌, ◌≤◌, Bool, true, false, List, [], ◌∷◌, ◌++◌, length, drop, get_or, refl, sym, ap, ◌∙◌, subst, append_assoc, Result, Ok, Err, inl, inr, arith}
 use mathlib.Core.Bool.{true≢false}
-use Rattle.go_model.specs.declared.build.Header.{Header}
-use Rattle.go_model.specs.declared.platform.Platform.{Platform}
-use Rattle.go_model.specs.declared.syntax.declaration.File.{File}
-use Rattle.go_model.specs.declared.tree.TreeFile.{TreeFile}
-use Rattle.go_model.specs.BuildValues.{is_chosen}
-use Rattle.go_model.specs.Headers.{IsHeader}
-use Rattle.go_model.specs.Lexemes.{IsBadPlace}
-use Rattle.go_model.specs.Lists.{Each}
+use Rattle.go_model.specs.declared.files.build.Header.{Header}
+use Rattle.go_model.specs.declared.files.platform.Platform.{Platform}
+use Rattle.go_syntax.specs.declared.declaration.File.{File}
+use Rattle.go_model.specs.declared.files.tree.TreeFile.{TreeFile}
+use Rattle.go_model.specs.files.BuildValues.{is_chosen}
+use Rattle.go_model.specs.files.Headers.{IsHeader}
+use Rattle.go_syntax.specs.lexical.Lexemes.{IsBadPlace}
+use Rattle.go_base.specs.Lists.{Each}
 use Rattle.go_tags.specs.declared.error.TagError.{TagError}
 use Rattle.api_gate.specs.declared.reading.FileAnswer.{FileAnswer}
 use Rattle.api_gate.specs.declared.reading.FileAnswer.TheVariants as answer

@@ -1,9 +1,9 @@
 -- Settings that are read from words.
 use Rattle.std.specs.Prelude.{IfOk, MatchOption}
 use Rattle.std.proofs.Common.{◌≡◌, Result, Ok, Err, ℕ, zero, suc, ◌+◌, ◌-◌, ◌<◌, ◌≤◌, List, [], ◌∷◌, ◌++◌, length, length-drop, take, drop, get_or, map, Option, Some, None, refl, sym, ap, ◌∙◌, subst, append_assoc, arith, codes}
-use Rattle.go_model.specs.declared.platform.Platform.{Platform}
-use Rattle.go_model.specs.declared.memory.NoMemory.{NoMemory}
-use Rattle.go_model.specs.Platforms.{name_of}
+use Rattle.go_model.specs.declared.files.platform.Platform.{Platform}
+use Rattle.go_base.specs.declared.memory.NoMemory.{NoMemory}
+use Rattle.go_model.specs.files.Platforms.{name_of}
 use Rattle.api_gate.specs.declared.words.OptionName.{OptionName}
 use Rattle.api_gate.specs.declared.words.OptionName.TheVariants as option
 use Rattle.api_gate.specs.declared.words.Request.{Request}

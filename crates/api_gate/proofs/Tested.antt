@@ -9,7 +9,7 @@ use Rattle.std.specs.Cmp.Lexicographic.{nat_list_cmp_total}
 use Rattle.std.specs.BTreeSet.{insert_key}
 use Rattle.indexmap.specs.IndexSet.{insert_key as insert_hashed}
 use mathlib.Core.Bool.{true≢false}
-use Rattle.go_model.specs.Lists.{Has}
+use Rattle.go_base.specs.Lists.{Has}
 use Rattle.api_gate.specs.Sources.{Declared}
 use Rattle.api_gate.specs.Growing.{Grows}
 use Rattle.api_gate.specs.NamesReading.{Adds}

@@ -3,15 +3,15 @@
 -- Source: Go specification, "Constant declarations", "Blank identifier", "Package initialization" and
 -- "Program execution"; that no other constants are read yet is this project's own.
 use Rattle.std.specs.Prelude.{ℤ, ℕ, Bool, not, ◌||◌, if◌then◌else◌, bytes_eq, codes, Option, Some, None, List, [], ◌∷◌, ◌++◌}
-use Rattle.go_model.specs.declared.syntax.declaration.Decl.{Decl}
-use Rattle.go_model.specs.declared.syntax.declaration.Decl.TheVariants as decl
-use Rattle.go_model.specs.declared.syntax.declaration.ConstSpec.{ConstSpec}
-use Rattle.go_model.specs.declared.syntax.expression.Expr.{Expr}
-use Rattle.go_model.specs.declared.syntax.expression.Expr.TheVariants as expr
-use Rattle.go_model.specs.declared.syntax.expression.Literal.{Literal}
-use Rattle.go_model.specs.declared.syntax.expression.Literal.TheVariants as literal
-use Rattle.go_model.specs.declared.syntax.name.Name.{Name}
-use Rattle.go_model.specs.Characters.{is_upper, BeginsPassing}
+use Rattle.go_syntax.specs.declared.declaration.Decl.{Decl}
+use Rattle.go_syntax.specs.declared.declaration.Decl.TheVariants as decl
+use Rattle.go_syntax.specs.declared.declaration.ConstSpec.{ConstSpec}
+use Rattle.go_syntax.specs.declared.expression.Expr.{Expr}
+use Rattle.go_syntax.specs.declared.expression.Expr.TheVariants as expr
+use Rattle.go_syntax.specs.declared.expression.Literal.{Literal}
+use Rattle.go_syntax.specs.declared.expression.Literal.TheVariants as literal
+use Rattle.go_syntax.specs.declared.name.Name.{Name}
+use Rattle.go_base.specs.Characters.{is_upper, BeginsPassing}
 use Rattle.api_gate.specs.declared.constants.Constant.{Constant}
 
 abbrev pub whole_number : Literal → Option ℤ

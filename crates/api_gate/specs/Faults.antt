@@ -3,12 +3,12 @@
 -- "Source file organization"; that only the headers of files whose names the platform allows are read is
 -- this project's own.
 use Rattle.std.specs.Prelude.{◌≡◌, ◌⊎◌, true, None, List, [], ◌∷◌}
-use Rattle.go_model.specs.declared.build.Header.{Header}
-use Rattle.go_model.specs.declared.platform.Platform.{Platform}
-use Rattle.go_model.specs.declared.tree.TreeFile.{TreeFile}
-use Rattle.go_model.specs.BuildValues.{is_chosen}
-use Rattle.go_model.specs.Headers.{IsHeader}
-use Rattle.go_model.specs.Lexemes.{IsBadPlace}
+use Rattle.go_model.specs.declared.files.build.Header.{Header}
+use Rattle.go_model.specs.declared.files.platform.Platform.{Platform}
+use Rattle.go_model.specs.declared.files.tree.TreeFile.{TreeFile}
+use Rattle.go_model.specs.files.BuildValues.{is_chosen}
+use Rattle.go_model.specs.files.Headers.{IsHeader}
+use Rattle.go_syntax.specs.lexical.Lexemes.{IsBadPlace}
 use Rattle.go_tags.specs.HeaderCauses.{HasCause, IsOwnCause}
 use Rattle.go_tags.specs.declared.error.TagError.{TagError}
 use Rattle.api_gate.specs.declared.refusals.FileFault.{FileFault}

@@ -8,7 +8,7 @@ use Rattle.std.specs.Ordering.{nat_cmp}
 use Rattle.std.specs.Cmp.Lexicographic.{slice_cmp}
 use Rattle.std.specs.List.Sorted.{IsStrictlySortedBy}
 use Rattle.go_load.specs.Names.{place}
-use Rattle.go_model.specs.Lists.{Has}
+use Rattle.go_base.specs.Lists.{Has}
 use Rattle.api_gate.specs.declared.constants.Constant.{Constant}
 use Rattle.api_gate.specs.declared.reading.FileSource.{FileSource}
 use Rattle.api_gate.specs.Constants.{IsExported}

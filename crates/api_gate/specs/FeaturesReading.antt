@@ -1,6 +1,6 @@
 -- What the functions that write feature lines answer.
 use Rattle.std.specs.Prelude.{ℕ, List}
-use Rattle.go_model.specs.Lists.{Has}
+use Rattle.go_base.specs.Lists.{Has}
 use Rattle.api_gate.specs.declared.constants.Constant.{Constant}
 use Rattle.api_gate.specs.Features.{IsLineOf}
 

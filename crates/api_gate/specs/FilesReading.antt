@@ -1,10 +1,10 @@
 -- What the functions that read the files of a tree answer.
 use Rattle.std.specs.Prelude.{◌≡◌, ℕ, Bool, true, false, Option, Some, None, List, [], ◌∷◌, ◌++◌}
-use Rattle.go_model.specs.declared.platform.Platform.{Platform}
-use Rattle.go_model.specs.declared.syntax.declaration.File.{File}
-use Rattle.go_model.specs.declared.token.Token.{Token}
-use Rattle.go_model.specs.declared.tree.TreeFile.{TreeFile}
-use Rattle.go_model.specs.Lexemes.{IsBadPlace}
+use Rattle.go_model.specs.declared.files.platform.Platform.{Platform}
+use Rattle.go_syntax.specs.declared.declaration.File.{File}
+use Rattle.go_syntax.specs.declared.token.Token.{Token}
+use Rattle.go_model.specs.declared.files.tree.TreeFile.{TreeFile}
+use Rattle.go_syntax.specs.lexical.Lexemes.{IsBadPlace}
 use Rattle.api_gate.specs.declared.reading.FileAnswer.{FileAnswer}
 use Rattle.api_gate.specs.declared.reading.FileAnswer.TheVariants as answer
 use Rattle.api_gate.specs.declared.reading.FileSource.{FileSource}

@@ -1,6 +1,6 @@
 -- What the functions that test names answer.
 use Rattle.std.specs.Prelude.{◌≡◌, Bool, true, false, List}
-use Rattle.go_model.specs.Lists.{Has, Once}
+use Rattle.go_base.specs.Lists.{Has, Once}
 use Rattle.api_gate.specs.Growing.{Grows}
 
 -- a set got a key; the answer says whether the key is new

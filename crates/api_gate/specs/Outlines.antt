@@ -1,10 +1,10 @@
 -- The outline of a file's bytes: the syntax tree of their tokens, bodies skipped.
 -- Source: Go specification, "Source file organization", "Tokens".
 use Rattle.std.specs.Prelude.{ℕ, List}
-use Rattle.go_model.specs.declared.syntax.declaration.File.{File}
-use Rattle.go_model.specs.declared.token.Token.{Token}
-use Rattle.go_model.specs.SourceFiles.{HasOutline}
-use Rattle.go_model.specs.Tokens.{IsTokens}
+use Rattle.go_syntax.specs.declared.declaration.File.{File}
+use Rattle.go_syntax.specs.declared.token.Token.{Token}
+use Rattle.go_syntax.specs.grammar.SourceFiles.{HasOutline}
+use Rattle.go_syntax.specs.lexical.Tokens.{IsTokens}
 
 -- the bytes have tokens, whose outline this is
 abbrev pub IsOutlineOf : List ℕ → File → Type 0

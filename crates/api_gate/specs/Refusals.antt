@@ -6,11 +6,11 @@ use Rattle.std.specs.List.{filter, list_any}
 use Rattle.go_load.specs.Names.{under}
 use Rattle.go_load.specs.declared.error.LoadError.{LoadError}
 use Rattle.go_load.specs.declared.error.LoadError.TheVariants as load
-use Rattle.go_model.specs.declared.platform.Platform.{Platform}
-use Rattle.go_model.specs.declared.tree.LimitName.{LimitName}
-use Rattle.go_model.specs.declared.tree.LimitName.TheVariants as limit
-use Rattle.go_model.specs.declared.tree.TreeFile.{TreeFile}
-use Rattle.go_model.specs.Platforms.{name_of}
+use Rattle.go_model.specs.declared.files.platform.Platform.{Platform}
+use Rattle.go_model.specs.declared.files.tree.LimitName.{LimitName}
+use Rattle.go_model.specs.declared.files.tree.LimitName.TheVariants as limit
+use Rattle.go_model.specs.declared.files.tree.TreeFile.{TreeFile}
+use Rattle.go_model.specs.files.Platforms.{name_of}
 use Rattle.go_tags.specs.declared.error.TagError.{TagError}
 use Rattle.go_tags.specs.declared.error.TagError.TheVariants as tag
 use Rattle.api_gate.specs.declared.refusals.FileFault.{FileFault}

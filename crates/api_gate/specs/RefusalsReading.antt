@@ -1,6 +1,6 @@
 -- What the functions that write fault lines ask for.
 use Rattle.std.specs.Prelude.{◌≤◌, length}
-use Rattle.go_model.specs.declared.tree.TreeFile.{TreeFile}
+use Rattle.go_model.specs.declared.files.tree.TreeFile.{TreeFile}
 use Rattle.api_gate.specs.declared.refusals.FileFault.{FileFault}
 use Rattle.api_gate.specs.declared.refusals.FileFault.TheVariants as fault
 

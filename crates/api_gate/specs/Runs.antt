@@ -5,11 +5,11 @@ use Rattle.std.specs.Prelude.{◌≡◌, ◌⊎◌, ℕ, List, [], Option, Resul
 use Rattle.go_load.specs.Answers.{IsFree}
 use Rattle.go_load.specs.Loads.{LoadsModule}
 use Rattle.go_load.specs.declared.error.LoadError.{LoadError}
-use Rattle.go_model.specs.declared.platform.Platform.{Platform}
-use Rattle.go_model.specs.declared.tree.Tree.{Tree}
-use Rattle.go_model.specs.declared.tree.TreeFile.{TreeFile}
-use Rattle.go_model.specs.Lists.{Each}
-use Rattle.go_model.specs.Trees.{IsTree, IsModulePath}
+use Rattle.go_model.specs.declared.files.platform.Platform.{Platform}
+use Rattle.go_model.specs.declared.files.tree.Tree.{Tree}
+use Rattle.go_model.specs.declared.files.tree.TreeFile.{TreeFile}
+use Rattle.go_base.specs.Lists.{Each}
+use Rattle.go_model.specs.files.Trees.{IsTree, IsModulePath}
 use Rattle.go_outside.specs.Stores.{Contents}
 use Rattle.api_gate.specs.declared.refusals.FileFault.{FileFault}
 use Rattle.api_gate.specs.declared.decision.Decision.{Decision}

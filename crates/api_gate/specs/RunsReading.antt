@@ -4,8 +4,8 @@ use Rattle.go_load.specs.Answers.{IsFree}
 use Rattle.go_load.specs.Loads.{LoadsModule}
 use Rattle.go_load.specs.declared.error.LoadError.{LoadError}
 use Rattle.go_load.specs.declared.error.LoadError.TheVariants as error
-use Rattle.go_model.specs.declared.platform.Platform.{Platform}
-use Rattle.go_model.specs.declared.tree.Tree.{Tree}
+use Rattle.go_model.specs.declared.files.platform.Platform.{Platform}
+use Rattle.go_model.specs.declared.files.tree.Tree.{Tree}
 use Rattle.go_outside.specs.Stores.{Contents}
 use Rattle.api_gate.specs.declared.decision.Decision.{Decision}
 use Rattle.api_gate.specs.declared.decision.Decision.TheVariants as decision

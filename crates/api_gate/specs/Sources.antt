@@ -2,10 +2,10 @@
 -- Source: Go specification, "Source file organization", "Packages" and "Declarations and scope"; that
 -- imports aren't read yet is this project's own.
 use Rattle.std.specs.Prelude.{◌≡◌, ℕ, List, [], ◌∷◌, ◌++◌, Some, map}
-use Rattle.go_model.specs.declared.platform.Platform.{Platform}
-use Rattle.go_model.specs.declared.syntax.declaration.File.{File}
-use Rattle.go_model.specs.declared.tree.TreeFile.{TreeFile}
-use Rattle.go_model.specs.Lists.{Has, Once}
+use Rattle.go_model.specs.declared.files.platform.Platform.{Platform}
+use Rattle.go_syntax.specs.declared.declaration.File.{File}
+use Rattle.go_model.specs.declared.files.tree.TreeFile.{TreeFile}
+use Rattle.go_base.specs.Lists.{Has, Once}
 use Rattle.api_gate.specs.declared.constants.Constant.{Constant}
 use Rattle.api_gate.specs.declared.source.Source.{Source}
 use Rattle.api_gate.specs.declared.reading.FileSource.{FileSource}

@@ -1,9 +1,9 @@
 -- Which words are good, and what they ask for. The words are those after the program's name.
 -- Source: this project's command line, docs/definitions.md, "Words".
 use Rattle.std.specs.Prelude.{◌≡◌, ◌≢◌, ℕ, List, [], ◌∷◌, ◌++◌, codes}
-use Rattle.go_model.specs.declared.platform.Platform.{Platform}
-use Rattle.go_model.specs.declared.platform.Platform.TheVariants as platform
-use Rattle.go_model.specs.Platforms.{name_of}
+use Rattle.go_model.specs.declared.files.platform.Platform.{Platform}
+use Rattle.go_model.specs.declared.files.platform.Platform.TheVariants as platform
+use Rattle.go_model.specs.files.Platforms.{name_of}
 use Rattle.api_gate.specs.declared.words.OptionName.{OptionName}
 use Rattle.api_gate.specs.declared.words.OptionName.TheVariants as option
 use Rattle.api_gate.specs.declared.words.Request.{Request}

@@ -3,12 +3,12 @@ ghost use Rattle.std.specs.Prelude.{◌≡◌, IfOk};
 ghost use Rattle.api_gate.specs.Constants.{constants_by, constants_of, constants_of_decl, constants_of_each, constants_of_spec, is_read_name, named, value_of, whole_number};
 ghost use Rattle.api_gate.specs.ConstantsReading.{Appends};
 
-use go_model::list::List;
-use go_model::memory::NoMemory;
-use go_model::syntax::declaration::{ConstSpec, Decl};
-use go_model::syntax::expression::{Expr, Literal};
-use go_model::syntax::name::Name;
-use go_model::text::Text;
+use go_base::list::List;
+use go_base::memory::NoMemory;
+use go_syntax::declaration::{ConstSpec, Decl};
+use go_syntax::expression::{Expr, Literal};
+use go_syntax::name::Name;
+use go_base::text::Text;
 use std::alloc::Global;
 
 /// A constant of an untyped whole number.

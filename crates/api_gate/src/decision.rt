@@ -1,6 +1,6 @@
 //! What a run is to write, before a byte of it is written.
 use crate::status::Status;
-use go_model::text::Text;
+use go_base::text::Text;
 
 /// What a run is to write.
 #[derive(Debug, Drop)]

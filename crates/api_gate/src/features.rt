@@ -4,16 +4,16 @@ ghost use Rattle.std.specs.Fmt.{signed_decimal};
 ghost use Rattle.std.specs.List.{list_all, slice_split};
 ghost use Rattle.api_gate.specs.declared.reading.FileSource.{FileSource};
 ghost use Rattle.api_gate.specs.Features.{value_line, kind_line, is_public_element, is_slash, IsLineOf, IsFeature, IsFeatureOf, IsOrdered, IsReport, unlines};
-ghost use Rattle.go_model.specs.Lists.{Has};
+ghost use Rattle.go_base.specs.Lists.{Has};
 ghost use Rattle.api_gate.specs.Growing.{Grows};
 ghost use Rattle.api_gate.specs.FeaturesReading.{IsLineOfSome};
 
 use crate::constants::Constant;
 use crate::reading::FileSource;
 use go_load::names::place;
-use go_model::characters::is_exported;
-use go_model::memory::NoMemory;
-use go_model::text::Text;
+use go_base::characters::is_exported;
+use go_base::memory::NoMemory;
+use go_base::text::Text;
 use itoa::Buffer;
 use std::alloc::Global;
 

@@ -1,7 +1,7 @@
 //! The names that the files of a tree declare, and those of their packages.
 ghost use Rattle.std.specs.Prelude.{◌≡◌, List, IfOk, true, false};
 ghost use Rattle.std.specs.Cmp.{partial_equiv_from_equiv};
-ghost use Rattle.go_model.specs.Lists.{Has, Once};
+ghost use Rattle.go_base.specs.Lists.{Has, Once};
 ghost use Rattle.api_gate.specs.declared.reading.FileSource.{FileSource};
 ghost use Rattle.api_gate.specs.Growing.{Grows};
 ghost use Rattle.api_gate.specs.NamesReading.{Adds, TellsOnce};
@@ -9,8 +9,8 @@ ghost use Rattle.api_gate.specs.Pairs.{pair_writes, same_pair, same_pair_equiv, 
 ghost use Rattle.api_gate.specs.Sources.{AreOfOnePackage, ArePackages, declared, declared_in};
 
 use crate::reading::FileSource;
-use go_model::memory::NoMemory;
-use go_model::text::Text;
+use go_base::memory::NoMemory;
+use go_base::text::Text;
 use indexmap::IndexSet;
 use std::alloc::Global;
 use std::collections::BTreeSet;

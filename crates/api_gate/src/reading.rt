@@ -1,12 +1,12 @@
 //! The files of a tree that a platform chooses, and what they declare.
 ghost use Rattle.std.specs.Prelude.{◌≡◌, ◌≤◌, ℕ, IfOk, IfErr, List, length};
-ghost use Rattle.go_model.specs.Lists.{Each};
-ghost use Rattle.go_model.specs.Trees.{IsTreeFile};
-ghost use Rattle.go_model.specs.declared.platform.Platform.{Platform};
-ghost use Rattle.go_model.specs.declared.tree.TreeFile.{TreeFile};
+ghost use Rattle.go_base.specs.Lists.{Each};
+ghost use Rattle.go_model.specs.files.Trees.{IsTreeFile};
+ghost use Rattle.go_model.specs.declared.files.platform.Platform.{Platform};
+ghost use Rattle.go_model.specs.declared.files.tree.TreeFile.{TreeFile};
 ghost use Rattle.go_tags.specs.HeaderCauses.{IsOwnCause};
 ghost use Rattle.go_tags.specs.declared.error.TagError.{TagError};
-ghost use Rattle.go_model.specs.Lexemes.{IsBadPlace};
+ghost use Rattle.go_syntax.specs.lexical.Lexemes.{IsBadPlace};
 ghost use Rattle.api_gate.specs.Outlines.{IsNotInGrammar};
 ghost use Rattle.api_gate.specs.Faults.{HasBadHeader, IsChosen, IsFaulty, IsSound};
 ghost use Rattle.api_gate.specs.FilesReading.{Added, FileCause, Gives, ReadAs, ReadCause, Tells};
@@ -16,11 +16,11 @@ ghost use Rattle.api_gate.specs.declared.reading.FileSource.{FileSource};
 
 use crate::refusals::{FileFault, NEW_SIDE, file_line};
 use crate::source::{Source, SourceError, one_outline, one_source, read_source};
-use go_model::list::List;
-use go_model::memory::NoMemory;
-use go_model::platform::Platform;
-use go_model::text::Text;
-use go_model::tree::TreeFile;
+use go_base::list::List;
+use go_base::memory::NoMemory;
+use go_model::files::platform::Platform;
+use go_base::text::Text;
+use go_model::files::tree::TreeFile;
 use go_tags::choice::chosen;
 use go_tags::error::TagError;
 use go_tags::header::{header, one_header};

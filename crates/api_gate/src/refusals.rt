@@ -7,10 +7,10 @@ ghost use Rattle.api_gate.specs.declared.refusals.FileFault.TheVariants as fault
 
 use go_load::error::LoadError;
 use go_load::names::under;
-use go_model::memory::NoMemory;
-use go_model::platform::Platform;
-use go_model::text::Text;
-use go_model::tree::{LimitName, TreeFile};
+use go_base::memory::NoMemory;
+use go_model::files::platform::Platform;
+use go_base::text::Text;
+use go_model::files::tree::{LimitName, TreeFile};
 use go_tags::error::TagError;
 use itoa::Buffer;
 use std::alloc::Global;

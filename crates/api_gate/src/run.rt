@@ -1,8 +1,8 @@
 //! The top call.
 ghost use Rattle.std.specs.Prelude.{◌≡◌, ◌⊎◌, List, [], ℕ, map, string_bytes, Ok, Err};
-ghost use Rattle.go_model.specs.Trees.{IsTree};
-ghost use Rattle.go_model.specs.declared.platform.Platform.{Platform};
-ghost use Rattle.go_model.specs.declared.tree.Tree.{Tree};
+ghost use Rattle.go_model.specs.files.Trees.{IsTree};
+ghost use Rattle.go_model.specs.declared.files.platform.Platform.{Platform};
+ghost use Rattle.go_model.specs.declared.files.tree.Tree.{Tree};
 ghost use Rattle.go_outside.specs.Faults.{Told, Rose};
 ghost use Rattle.go_outside.specs.Sinks.{Takes};
 ghost use Rattle.go_outside.specs.Stores.{Contents};
@@ -25,11 +25,11 @@ use crate::words::{Request, one_request, read_words};
 use go_lex::scan::one_list;
 use go_load::error::LoadError;
 use go_load::load::{load_module, one_answer};
-use go_model::memory::NoMemory;
-use go_model::platform::Platform;
-use go_model::steps::Steps;
-use go_model::text::Text;
-use go_model::tree::Tree;
+use go_base::memory::NoMemory;
+use go_model::files::platform::Platform;
+use go_base::steps::Steps;
+use go_base::text::Text;
+use go_model::files::tree::Tree;
 use go_outside::files::Files;
 use go_outside::gate::Gate;
 use go_outside::sink::Sink;

@@ -1,8 +1,8 @@
 //! What a source file declares.
 ghost use Rattle.std.specs.Prelude.{◌≡◌, ◌≤◌, ℕ, List, IfOk, IfErr, length};
-ghost use Rattle.go_model.specs.Lexemes.{IsBadPlace};
-ghost use Rattle.go_model.specs.declared.syntax.declaration.File.{File};
-ghost use Rattle.go_model.specs.SourceFiles.{HasOutline};
+ghost use Rattle.go_syntax.specs.lexical.Lexemes.{IsBadPlace};
+ghost use Rattle.go_syntax.specs.declared.declaration.File.{File};
+ghost use Rattle.go_syntax.specs.grammar.SourceFiles.{HasOutline};
 ghost use Rattle.api_gate.specs.declared.source.Source.{Source};
 ghost use Rattle.api_gate.specs.FilesReading.{FormCause, OutlineCause, SourceCause, SyntaxCause};
 ghost use Rattle.api_gate.specs.Outlines.{IsNotInGrammar, IsOutlineOf};
@@ -11,11 +11,11 @@ ghost use Rattle.api_gate.specs.Sources.{Declares, IsSource};
 use crate::constants::{Constant, constants_of};
 use go_lex::error::LexError;
 use go_lex::scan::{one_list, scan};
-use go_model::list::List;
-use go_model::memory::NoMemory;
-use go_model::syntax::declaration::File;
-use go_model::text::Text;
-use go_model::token::Token;
+use go_base::list::List;
+use go_base::memory::NoMemory;
+use go_syntax::declaration::File;
+use go_base::text::Text;
+use go_syntax::token::Token;
 use go_parse::error::ParseError;
 use go_parse::outline::{one_tree, parse_outline};
 use std::alloc::Global;

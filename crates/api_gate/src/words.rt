@@ -1,6 +1,6 @@
 //! The words of the command line.
 ghost use Rattle.std.specs.Prelude.{◌≡◌, ◌≤◌, ◌∷◌, [], ℕ, List, map, string_bytes, MatchOption, IfOk, Decides, codes, length, ◌↔◌, IsTrue};
-ghost use Rattle.go_model.specs.declared.platform.Platform.{Platform};
+ghost use Rattle.go_model.specs.declared.files.platform.Platform.{Platform};
 ghost use Rattle.api_gate.specs.Words.{AreSettings, AsksFor, IsPlatform, IsRequest, IsSetting, IsValue, spelling, values_of};
 ghost use Rattle.api_gate.specs.WordsReading.{IsGiven, optional};
 ghost use Rattle.api_gate.specs.declared.words.OptionName.{OptionName};
@@ -8,10 +8,10 @@ ghost use Rattle.api_gate.specs.declared.words.OptionName.TheVariants as option;
 ghost use Rattle.api_gate.specs.declared.words.Request.{Request};
 ghost use Rattle.api_gate.specs.declared.words.Setting.{Setting};
 
-use go_model::list::List;
-use go_model::memory::NoMemory;
-use go_model::platform::Platform;
-use go_model::text::Text;
+use go_base::list::List;
+use go_base::memory::NoMemory;
+use go_model::files::platform::Platform;
+use go_base::text::Text;
 use go_tags::platforms::{one_platform, platform};
 use std::alloc::Global;
 

@@ -5,11 +5,11 @@ mod references;
 
 use api_gate::run::run;
 use api_gate::status::Status;
-use go_model::boxed::Box;
-use go_model::list::List;
-use go_model::memory::NoMemory;
-use go_model::steps::Steps;
-use go_model::text::Text;
+use go_base::boxed::Box;
+use go_base::list::List;
+use go_base::memory::NoMemory;
+use go_base::steps::Steps;
+use go_base::text::Text;
 use go_outside::failing_files::FailingFiles;
 use go_outside::failing_sink::FailingSink;
 use go_outside::files::{Entry, Files, FilesError};

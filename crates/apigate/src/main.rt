@@ -3,7 +3,7 @@
 #![tactic(auto)]
 
 use api_gate::run::run;
-use go_model::steps::Steps;
+use go_base::steps::Steps;
 use go_outside::gate::OpenGate;
 use go_outside::host_files::HostFiles;
 use go_outside::host_sink::HostSink;

@@ -4,7 +4,7 @@ use go_const::comparison::compare_values;
 use go_const::conversion::convert;
 use go_const::operation::{binary, shift, unary};
 use go_const::representation::representable;
-use go_model::value::Value;
+use go_model::constants::value::Value;
 use std::alloc::{AllocError, Global};
 
 /// What an operation gives.

@@ -1,8 +1,8 @@
 //! The words of an operation.
-use go_model::memory::NoMemory;
-use go_model::syntax::operator::CompareOp;
-use go_model::text::Text;
-use go_model::value::{Basic, BinaryOp, Kind, UnaryOp, Untyped, Value};
+use go_base::memory::NoMemory;
+use go_base::operator::CompareOp;
+use go_base::text::Text;
+use go_model::constants::value::{Basic, BinaryOp, Kind, UnaryOp, Untyped, Value};
 use hex::FromHexError;
 use std::alloc::Global;
 

@@ -5,7 +5,7 @@ use Rattle.std.specs.Int.RustNames.{bit_and, bit_or, bit_xor}
 use Rattle.std.proofs.lemmas.Nat.{and_le_l, or_lt, xor_lt}
 use Rattle.std.proofs.lemmas.Int.{ints}
 use Rattle.std.proofs.lemmas.Nat.Bits.{bit_at-lt, bit_at_and, bit_at_not, bit_at_or, bit_at_xor, same_from_bits_below}
-use Rattle.go_model.specs.Bits.{and_not_numbers, and_numbers, bit_of, bits_without, complement, or_numbers, xor_numbers}
+use Rattle.go_model.specs.constants.Bits.{and_not_numbers, and_numbers, bit_of, bits_without, complement, or_numbers, xor_numbers}
 
 complement_pos : (n : ℕ) → complement (pos n) ≡ negsuc n
 complement_pos zero = refl

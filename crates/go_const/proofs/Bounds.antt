@@ -9,8 +9,8 @@ use Rattle.std.proofs.Math.Dec.{leb-suc-suc}
 use Rattle.std.proofs.lemmas.Bool.{cases_lt, lt-leb}
 use Rattle.std.proofs.lemmas.Bool.Decides.{nat_tests}
 use Rattle.go_const.specs.Bounds.{bounded}
-use Rattle.go_model.specs.Constants.{is_number_of}
-use Rattle.go_model.specs.declared.class.Integer.TheVariants as i
+use Rattle.go_model.specs.constants.Constants.{is_number_of}
+use Rattle.go_model.specs.declared.constants.class.Integer.TheVariants as i
 
 pub in_bounds : (x : ℤ) → FitsSigned w128 x → bounded (Some x) ≡ Some x
 in_bounds (pos n) h = ap (λ b. cond b (Some (pos n)) None) (le-leb n 170141183460469231731687303715884105727 (omega (arith, h.sfits)))

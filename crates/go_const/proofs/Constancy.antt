@@ -4,18 +4,18 @@ use Rattle.std.specs.Char.{encode_utf8, len_utf8}
 use Rattle.std.proofs.lemmas.Str.{length-encode}
 use Rattle.std.proofs.lemmas.Bool.Decides.{nat_tests}
 use Rattle.std.specs.Bool.{if◌then◌else◌}
-use Rattle.go_model.specs.Classes.{class_of, class_of_basic, is_inexact, is_string}
-use Rattle.go_model.specs.Constants.{IsConstant, as_text, binary_value, character_of, converted, is_in_range, is_of, is_representable, kept, shift_value, unary_value}
-use Rattle.go_model.specs.Operators.{binary_applies, shift_applies, unary_applies}
-use Rattle.go_model.specs.declared.class.Class.{Class}
-use Rattle.go_model.specs.declared.class.Class.TheVariants as c
-use Rattle.go_model.specs.declared.value.Basic.{Basic}
-use Rattle.go_model.specs.declared.value.BinaryOp.{BinaryOp}
-use Rattle.go_model.specs.declared.value.Kind.{Kind}
-use Rattle.go_model.specs.declared.value.Kind.TheVariants.{Typed}
-use Rattle.go_model.specs.declared.value.UnaryOp.{UnaryOp}
-use Rattle.go_model.specs.declared.value.Value.{Value}
-use Rattle.go_model.specs.declared.value.Value.TheVariants as v
+use Rattle.go_model.specs.constants.Classes.{class_of, class_of_basic, is_inexact, is_string}
+use Rattle.go_model.specs.constants.Constants.{IsConstant, as_text, binary_value, character_of, converted, is_in_range, is_of, is_representable, kept, shift_value, unary_value}
+use Rattle.go_model.specs.constants.Operators.{binary_applies, shift_applies, unary_applies}
+use Rattle.go_model.specs.declared.constants.class.Class.{Class}
+use Rattle.go_model.specs.declared.constants.class.Class.TheVariants as c
+use Rattle.go_model.specs.declared.constants.value.Basic.{Basic}
+use Rattle.go_model.specs.declared.constants.value.BinaryOp.{BinaryOp}
+use Rattle.go_model.specs.declared.constants.value.Kind.{Kind}
+use Rattle.go_model.specs.declared.constants.value.Kind.TheVariants.{Typed}
+use Rattle.go_model.specs.declared.constants.value.UnaryOp.{UnaryOp}
+use Rattle.go_model.specs.declared.constants.value.Value.{Value}
+use Rattle.go_model.specs.declared.constants.value.Value.TheVariants as v
 
 both : (a b : Bool) → (a && b) ≡ true → (a ≡ true) × (b ≡ true)
 both true b e = (refl, e)

@@ -3,10 +3,10 @@ use Rattle.std.proofs.Common.{◌≡◌, ℕ, Bool, true, false, ◌&&◌, refl,
 use Rattle.std.specs.Bool.{if◌then◌else◌}
 use Rattle.std.specs.Option.{option_map}
 use Rattle.go_const.specs.Bounds.{bounded}
-use Rattle.go_model.specs.Constants.{fits_128_bits, is_of, kept}
-use Rattle.go_model.specs.declared.value.Kind.{Kind}
-use Rattle.go_model.specs.declared.value.Value.{Value}
-use Rattle.go_model.specs.declared.value.Value.TheVariants as v
+use Rattle.go_model.specs.constants.Constants.{fits_128_bits, is_of, kept}
+use Rattle.go_model.specs.declared.constants.value.Kind.{Kind}
+use Rattle.go_model.specs.declared.constants.value.Value.{Value}
+use Rattle.go_model.specs.declared.constants.value.Value.TheVariants as v
 
 kept_test : (kind : Kind) (bits : ℕ) (x : ℤ) (t : Bool) → t ≡ fits_128_bits x → kept kind bits (option_map v.Int (if t then Some x else None)) ≡ kept kind bits (Some (v.Int x))
 unfolding kept

@@ -3,7 +3,7 @@ use Rattle.std.proofs.Common.{◌≡◌, ℕ, ◌+◌, ◌-◌, ◌*◌, ◌/◌
 use Rattle.std.proofs.Math.Nat.{zero-mod}
 use Rattle.std.specs.Int.RustNames.{int_rem, unsigned_abs}
 use Rattle.std.proofs.lemmas.Int.{ints}
-use Rattle.go_model.specs.Constants.{exact_shift}
+use Rattle.go_model.specs.constants.Constants.{exact_shift}
 
 pub remainder_sign : (m : ℕ) (y : ℤ) → (int_rem (pos m) y ≡ pos (m % unsigned_abs y)) × (int_rem (neg_ℤ (pos m)) y ≡ neg_ℤ (pos (m % unsigned_abs y)))
 remainder_sign zero y = (refl, rw zero-mod refl)

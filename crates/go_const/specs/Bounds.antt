@@ -1,6 +1,6 @@
 -- Whole numbers of 128 bits.
 use Rattle.std.specs.Prelude.{if◌then◌else◌, ℤ, Option, None, Some}
-use Rattle.go_model.specs.Constants.{fits_128_bits}
+use Rattle.go_model.specs.constants.Constants.{fits_128_bits}
 
 -- the number, where it fits into 128 bits, with sign
 abbrev pub bounded : Option ℤ → Option ℤ

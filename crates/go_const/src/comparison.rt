@@ -1,9 +1,9 @@
 //! Comparisons of constants.
 ghost use Rattle.std.specs.Prelude.{◌≡◌};
-ghost use Rattle.go_model.specs.Constants.{comparison, holds_at};
+ghost use Rattle.go_model.specs.constants.Constants.{comparison, holds_at};
 
-use go_model::syntax::operator::CompareOp;
-use go_model::value::Value;
+use go_base::operator::CompareOp;
+use go_model::constants::value::Value;
 use std::cmp::Ordering;
 
 /// Whether the operator holds of two values in this order.
@@ -22,7 +22,7 @@ fn holds(op: CompareOp, ordering: Ordering) -> bool
 
 /// The truth of a comparison. It is None exactly where the values are of different variants, or are
 /// truth values and the operator is an order.
-#[tactic(auto, unfolding(go_model::specs::Constants::comparison))]
+#[tactic(auto, unfolding(go_model::specs::constants::Constants::comparison))]
 pub fn compare_values(op: CompareOp, left: &Value, right: &Value) -> Option<bool>
     ensures { result ≡ comparison op left.now right.now }
 {

@@ -1,13 +1,13 @@
 //! Conversions of constants.
 ghost use Rattle.std.specs.Prelude.{◌≡◌, IfOk};
 ghost use Rattle.std.specs.Char.{encode_utf8};
-ghost use Rattle.go_model.specs.Constants.{as_text, character_of, converted};
+ghost use Rattle.go_model.specs.constants.Constants.{as_text, character_of, converted};
 
 use crate::representation::{is_constant, representable};
-use go_model::class::Class;
-use go_model::memory::NoMemory;
-use go_model::text::Text;
-use go_model::value::{Basic, Kind, Value};
+use go_model::constants::class::Class;
+use go_base::memory::NoMemory;
+use go_base::text::Text;
+use go_model::constants::value::{Basic, Kind, Value};
 use std::alloc::Global;
 
 /// The character of that number, or U+FFFD where there is none.
@@ -47,7 +47,7 @@ fn text_of(alloc: Global, value: &Value, from: Class, to: Class) -> Result<Optio
 /// The value of one kind, converted to a type. For a constant's value of the kind it is None exactly
 /// where the type is a float or complex one, or the value isn't representable in it and isn't a whole
 /// number converted to a string type.
-#[tactic(auto, unfolding(go_model::specs::Constants::converted))]
+#[tactic(auto, unfolding(go_model::specs::constants::Constants::converted))]
 pub fn convert(
     alloc: Global,
     value: &Value,

@@ -1,13 +1,13 @@
 //! Laws of the definition of constant values.
 ghost use Rattle.std.specs.Prelude.{◌≡◌, ℕ, ◌+◌, ◌-◌, ◌%◌, ◌^◌, ◌<◌, min, max, false, ℤ, pos, neg_ℤ, ◌+ℤ◌, ◌*ℤ◌, unsigned_abs, int_div, int_rem, Bool, Some};
-ghost use Rattle.go_model.specs.Bits.{and_not_numbers, and_numbers, bit_of, complement, or_numbers, xor_numbers};
-ghost use Rattle.go_model.specs.Constants.{IsConstant, binary_value, converted, exact_shift, shift_value, unary_value};
-ghost use Rattle.go_model.specs.declared.value.Basic.{Basic};
-ghost use Rattle.go_model.specs.declared.value.BinaryOp.{BinaryOp};
-ghost use Rattle.go_model.specs.declared.value.Kind.{Kind};
-ghost use Rattle.go_model.specs.declared.value.Kind.TheVariants.{Typed};
-ghost use Rattle.go_model.specs.declared.value.UnaryOp.{UnaryOp};
-ghost use Rattle.go_model.specs.declared.value.Value.{Value};
+ghost use Rattle.go_model.specs.constants.Bits.{and_not_numbers, and_numbers, bit_of, complement, or_numbers, xor_numbers};
+ghost use Rattle.go_model.specs.constants.Constants.{IsConstant, binary_value, converted, exact_shift, shift_value, unary_value};
+ghost use Rattle.go_model.specs.declared.constants.value.Basic.{Basic};
+ghost use Rattle.go_model.specs.declared.constants.value.BinaryOp.{BinaryOp};
+ghost use Rattle.go_model.specs.declared.constants.value.Kind.{Kind};
+ghost use Rattle.go_model.specs.declared.constants.value.Kind.TheVariants.{Typed};
+ghost use Rattle.go_model.specs.declared.constants.value.UnaryOp.{UnaryOp};
+ghost use Rattle.go_model.specs.declared.constants.value.Value.{Value};
 
 /// The bitwise operators work on each bit by itself.
 pub fn bits_by_themselves()

@@ -1,11 +1,11 @@
 //! Exact arithmetic on whole numbers of 128 bits.
 ghost use Rattle.std.specs.Prelude.{◌≡◌, ◌-◌, ◌^◌, ◌-ℤ◌, min, Some, pos, true, false};
 ghost use Rattle.std.specs.Int.Signed.{mag};
-ghost use Rattle.go_model.specs.Constants.{complement_of, binary_number, exact_shift, is_number_of, unary_number};
+ghost use Rattle.go_model.specs.constants.Constants.{complement_of, binary_number, exact_shift, is_number_of, unary_number};
 ghost use Rattle.go_const.specs.Bounds.{bounded};
 
-use go_model::class::Integer;
-use go_model::value::{BinaryOp, UnaryOp};
+use go_model::constants::class::Integer;
+use go_model::constants::value::{BinaryOp, UnaryOp};
 
 /// 2^bits - 1, or the greatest number where that is past it.
 fn ones(bits: u32) -> i128

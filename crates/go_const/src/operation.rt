@@ -1,14 +1,14 @@
 //! The operators of constant expressions.
 ghost use Rattle.std.specs.Prelude.{◌≡◌, IfOk, Ok, Some};
-ghost use Rattle.go_model.specs.Classes.{integer_of_kind};
-ghost use Rattle.go_model.specs.Constants.{binary_truth, binary_value, exact_binary, exact_shift, exact_unary, kept, shift_value, unary_truth, unary_value};
-ghost use Rattle.go_model.specs.declared.value.Value.TheVariants as v;
+ghost use Rattle.go_model.specs.constants.Classes.{integer_of_kind};
+ghost use Rattle.go_model.specs.constants.Constants.{binary_truth, binary_value, exact_binary, exact_shift, exact_unary, kept, shift_value, unary_truth, unary_value};
+ghost use Rattle.go_model.specs.declared.constants.value.Value.TheVariants as v;
 
 use crate::number::{changed, combined, shifted_left, shifted_right};
 use crate::results::{number_result, text_result, truth_result};
-use go_model::class::Class;
-use go_model::memory::NoMemory;
-use go_model::value::{BinaryOp, Kind, UnaryOp, Value};
+use go_model::constants::class::Class;
+use go_base::memory::NoMemory;
+use go_model::constants::value::{BinaryOp, Kind, UnaryOp, Value};
 use std::alloc::Global;
 
 fn truth_changed(op: UnaryOp, truth: bool) -> Option<bool>
@@ -31,7 +31,7 @@ fn truth_combined(op: BinaryOp, left: bool, right: bool) -> Option<bool>
 }
 
 /// The result of an operator that the kind has, before a value.
-#[tactic(auto, using(crate::proofs::Keeping::kept_from), unfolding(go_model::specs::Constants::kept))]
+#[tactic(auto, using(crate::proofs::Keeping::kept_from), unfolding(go_model::specs::constants::Constants::kept))]
 fn unary_result(op: UnaryOp, value: &Value, kind: Kind, bits: u32) -> Option<Value>
     ensures { result ≡ kept kind bits (exact_unary op (integer_of_kind kind bits) value.now) }
 {
@@ -43,7 +43,7 @@ fn unary_result(op: UnaryOp, value: &Value, kind: Kind, bits: u32) -> Option<Val
 }
 
 /// The result of an operator that the kind has, between two values.
-#[tactic(auto, unfolding(go_model::specs::Constants::kept))]
+#[tactic(auto, unfolding(go_model::specs::constants::Constants::kept))]
 fn binary_result(
     alloc: Global,
     op: BinaryOp,
@@ -75,7 +75,7 @@ fn binary_result(
 /// The value of an operator before a value. For a value of the kind it is None exactly where the kind
 /// hasn't the operator, or the exact value is out of range or not of the kind. The answer is always Ok,
 /// since no result is a text.
-#[tactic(auto, unfolding(go_model::specs::Constants::unary_value))]
+#[tactic(auto, unfolding(go_model::specs::constants::Constants::unary_value))]
 pub fn unary(op: UnaryOp, value: &Value, kind: Kind, bits: u32) -> Result<Option<Value>, NoMemory>
     ensures { result ≡ Ok (unary_value op value.now kind bits) }
 {
@@ -87,7 +87,7 @@ pub fn unary(op: UnaryOp, value: &Value, kind: Kind, bits: u32) -> Result<Option
 
 /// The value of an operator between two values. For values of the kind it is None exactly where the kind
 /// hasn't the operator, the divisor is 0, or the exact value is out of range or not of the kind.
-#[tactic(auto, unfolding(go_model::specs::Constants::binary_value))]
+#[tactic(auto, unfolding(go_model::specs::constants::Constants::binary_value))]
 pub fn binary(
     alloc: Global,
     op: BinaryOp,
@@ -118,7 +118,7 @@ fn shift_result(left: bool, number: i128, count: u128, kind: Kind, bits: u32) ->
 /// The value, shifted to the left or to the right by the count. For a value of the kind, and a count that
 /// is an Int, it is None exactly where the kind has no shifts, the count is below 0, or the exact value is
 /// out of range or not of the kind.
-#[tactic(auto, unfolding(go_model::specs::Constants::shift_value))]
+#[tactic(auto, unfolding(go_model::specs::constants::Constants::shift_value))]
 pub fn shift(left: bool, value: &Value, count: &Value, kind: Kind, bits: u32) -> Option<Value>
     ensures { result ≡ shift_value left value.now count.now kind bits }
 {

@@ -1,10 +1,10 @@
 //! Which values are representable in a type, and which are of a kind.
 ghost use Rattle.std.specs.Prelude.{◌≡◌};
-ghost use Rattle.go_model.specs.Constants.{is_in_range, is_of, is_of_untyped, is_representable};
+ghost use Rattle.go_model.specs.constants.Constants.{is_in_range, is_of, is_of_untyped, is_representable};
 
 use crate::number::is_number;
-use go_model::class::Class;
-use go_model::value::{Basic, Kind, Untyped, Value};
+use go_model::constants::class::Class;
+use go_model::constants::value::{Basic, Kind, Untyped, Value};
 
 /// The most bytes of a text that is a constant's.
 pub const MOST_BYTES: usize = 65536;
@@ -25,7 +25,7 @@ pub fn is_constant(value: &Value) -> bool
 }
 
 /// Whether the value is representable in the type.
-#[tactic(auto, unfolding(go_model::specs::Constants::is_representable))]
+#[tactic(auto, unfolding(go_model::specs::constants::Constants::is_representable))]
 pub fn representable(value: &Value, basic: Basic, bits: u32) -> bool
     ensures { result ≡ is_representable value.now basic bits }
 {
@@ -51,7 +51,7 @@ fn is_untyped(value: &Value, untyped: Untyped) -> bool
 }
 
 /// Whether the value is of the kind.
-#[tactic(auto, unfolding(go_model::specs::Constants::is_of))]
+#[tactic(auto, unfolding(go_model::specs::constants::Constants::is_of))]
 pub fn is_of_kind(value: &Value, kind: Kind, bits: u32) -> bool
     ensures { result ≡ is_of value.now kind bits }
 {

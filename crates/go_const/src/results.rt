@@ -1,17 +1,17 @@
 //! Exact values as results of an operation on values of a kind.
 ghost use Rattle.std.specs.Prelude.{◌≡◌, ◌++◌, IfOk, Some};
 ghost use Rattle.std.specs.Option.{option_map};
-ghost use Rattle.go_model.specs.Constants.{kept};
-ghost use Rattle.go_model.specs.declared.value.Value.TheVariants as v;
+ghost use Rattle.go_model.specs.constants.Constants.{kept};
+ghost use Rattle.go_model.specs.declared.constants.value.Value.TheVariants as v;
 
 use crate::representation::{MOST_BYTES, is_constant, is_of_kind};
-use go_model::memory::NoMemory;
-use go_model::text::Text;
-use go_model::value::{Kind, Value};
+use go_base::memory::NoMemory;
+use go_base::text::Text;
+use go_model::constants::value::{Kind, Value};
 use std::alloc::Global;
 
 /// The value, where it is a constant's and of the kind.
-#[tactic(auto, unfolding(go_model::specs::Constants::kept))]
+#[tactic(auto, unfolding(go_model::specs::constants::Constants::kept))]
 fn result_of(value: Value, kind: Kind, bits: u32) -> Option<Value>
     ensures { result ≡ kept kind bits (Some value) }
 {
@@ -23,7 +23,7 @@ fn result_of(value: Value, kind: Kind, bits: u32) -> Option<Value>
 }
 
 /// The number, where there is one and it is of the kind.
-#[tactic(auto, unfolding(go_model::specs::Constants::kept))]
+#[tactic(auto, unfolding(go_model::specs::constants::Constants::kept))]
 pub fn number_result(number: Option<i128>, kind: Kind, bits: u32) -> Option<Value>
     ensures { result ≡ kept kind bits (option_map v.Int number) }
 {
@@ -31,7 +31,7 @@ pub fn number_result(number: Option<i128>, kind: Kind, bits: u32) -> Option<Valu
 }
 
 /// The truth value, where there is one and it is of the kind.
-#[tactic(auto, unfolding(go_model::specs::Constants::kept))]
+#[tactic(auto, unfolding(go_model::specs::constants::Constants::kept))]
 pub fn truth_result(truth: Option<bool>, kind: Kind, bits: u32) -> Option<Value>
     ensures { result ≡ kept kind bits (option_map v.Truth truth) }
 {
@@ -48,7 +48,7 @@ fn joined(alloc: Global, left: &[u8], right: &[u8]) -> Result<Text, NoMemory>
 }
 
 /// Two texts, one after the other, where they are no longer than a constant's and of the kind.
-#[tactic(auto, unfolding(go_model::specs::Constants::kept))]
+#[tactic(auto, unfolding(go_model::specs::constants::Constants::kept))]
 pub fn text_result(
     alloc: Global,
     left: &[u8],

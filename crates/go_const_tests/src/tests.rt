@@ -2,10 +2,10 @@ use go_const::comparison::compare_values;
 use go_const::conversion::convert;
 use go_const::operation::{binary, shift, unary};
 use go_const::representation::representable;
-use go_model::memory::NoMemory;
-use go_model::syntax::operator::CompareOp;
-use go_model::text::Text;
-use go_model::value::{Basic, BinaryOp, Kind, UnaryOp, Untyped, Value};
+use go_base::memory::NoMemory;
+use go_base::operator::CompareOp;
+use go_base::text::Text;
+use go_model::constants::value::{Basic, BinaryOp, Kind, UnaryOp, Untyped, Value};
 use std::alloc::Global;
 
 const INT_KIND: Kind = Kind::Loose(Untyped::IntKind);

@@ -1,7 +1,7 @@
 -- Which characters of ASCII are letters.
 use Rattle.std.proofs.Common.{◌≡◌, ℕ, zero, suc, ◌<◌, Bool, true, false, ◌||◌, ◌&&◌, not, refl, sym, subst, arith, ◌⊎◌, inl, inr}
 use Rattle.ucd_category.proofs.Computing.{ucd_category}
-use Rattle.go_model.specs.Characters.{is_letter}
+use Rattle.go_base.specs.Characters.{is_letter}
 use Rattle.go_lex.specs.Starts.{is_name_start}
 
 all_below : (ℕ → Bool) → ℕ → Bool

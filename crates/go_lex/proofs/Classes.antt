@@ -4,19 +4,19 @@ use Rattle.std.specs.List.{list_all}
 use Rattle.std.specs.Char.{encode_utf8}
 use Rattle.std.proofs.lemmas.Bool.Decides.{nat_tests}
 use Rattle.std.proofs.lemmas.Str.{char_from_byte, length-encode, len_utf8_bounds}
-use Rattle.go_model.specs.declared.token.Meaning.{Meaning}
-use Rattle.go_model.specs.declared.token.TokenKind.{TokenKind}
-use Rattle.go_model.specs.declared.token.TokenKind.TheVariants as token
-use Rattle.go_model.specs.declared.token.TokenValue.{TokenValue}
-use Rattle.go_model.specs.declared.token.TokenValue.TheVariants as value
-use Rattle.go_model.specs.declared.token.LexemeKind.{LexemeKind}
-use Rattle.go_model.specs.declared.token.LexemeKind.TheVariants as lexeme
-use Rattle.go_model.specs.Characters.{is_letter}
-use Rattle.go_model.specs.Headers.{is_text}
-use Rattle.go_model.specs.Numbers.{is_digit_of, AreDigits, one_digit, digit_more, digit_apart, IsInteger, decimal_integer, octal_integer, prefixed_integer, IsFloat, pointed, pointless, point_first, hexadecimal, IsMultiple, digits_multiple, integer_multiple, float_multiple}
-use Rattle.go_model.specs.Quotes.{meaning_number, IsCharacter, AreCharacters, raw_bytes}
-use Rattle.go_model.specs.Words.{kind_in, operators, operators_of_three, operators_of_two, operators_of_one, name_kind}
-use Rattle.go_model.specs.Lexemes.{is_blank, plain_value, quoted, opens_comment, IsLexeme, blank, newline, name, operator, integer, float, imaginary, rune, string, raw_string}
+use Rattle.go_syntax.specs.declared.token.Meaning.{Meaning}
+use Rattle.go_syntax.specs.declared.token.TokenKind.{TokenKind}
+use Rattle.go_syntax.specs.declared.token.TokenKind.TheVariants as token
+use Rattle.go_syntax.specs.declared.token.TokenValue.{TokenValue}
+use Rattle.go_syntax.specs.declared.token.TokenValue.TheVariants as value
+use Rattle.go_syntax.specs.declared.token.LexemeKind.{LexemeKind}
+use Rattle.go_syntax.specs.declared.token.LexemeKind.TheVariants as lexeme
+use Rattle.go_base.specs.Characters.{is_letter}
+use Rattle.go_base.specs.Comments.{is_text}
+use Rattle.go_syntax.specs.lexical.Numbers.{is_digit_of, AreDigits, one_digit, digit_more, digit_apart, IsInteger, decimal_integer, octal_integer, prefixed_integer, IsFloat, pointed, pointless, point_first, hexadecimal, IsMultiple, digits_multiple, integer_multiple, float_multiple}
+use Rattle.go_syntax.specs.lexical.Quotes.{meaning_number, IsCharacter, AreCharacters, raw_bytes}
+use Rattle.go_syntax.specs.lexical.Words.{kind_in, operators, operators_of_three, operators_of_two, operators_of_one, name_kind}
+use Rattle.go_syntax.specs.lexical.Lexemes.{is_blank, plain_value, quoted, opens_comment, IsLexeme, blank, newline, name, operator, integer, float, imaginary, rune, string, raw_string}
 use Rattle.go_lex.specs.declared.front.Start.{Start}
 use Rattle.go_lex.specs.declared.front.Start.TheVariants.{Blank, Newline, Comment, Number, Rune, Quoted, Raw, Name, Sign}
 use Rattle.go_lex.specs.Digits.{begins_digit}

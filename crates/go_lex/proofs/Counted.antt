@@ -4,9 +4,9 @@ use Rattle.std.specs.Char.{digit_value}
 use Rattle.std.proofs.Math.Nat.{pow-suc, mul-le-mul_right, mul-le-mul_left, suc-mul}
 use Rattle.std.proofs.lemmas.Bool.Decides.{nat_tests}
 use Rattle.std.proofs.lemmas.List.{take_at}
-use Rattle.go_model.specs.Lists.{Passes}
-use Rattle.go_model.specs.Numbers.{is_digit_of, value_from}
-use Rattle.go_model.specs.Quotes.{AreCounted}
+use Rattle.go_base.specs.Lists.{Passes}
+use Rattle.go_syntax.specs.lexical.Numbers.{is_digit_of, value_from}
+use Rattle.go_syntax.specs.lexical.Quotes.{AreCounted}
 
 lt_from : (a b : ℕ) → nat_lt a b ≡ true → a < b
 lt_from a b h = grind (arith, nat_tests)

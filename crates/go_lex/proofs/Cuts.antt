@@ -1,8 +1,8 @@
 -- A text has one cut into lexemes, which ends at its one bad place or at the end.
 use Rattle.std.proofs.Common.{◌≡◌, inl, inr, ℕ, ◌≤◌, List, [], ◌∷◌, ◌++◌, length, refl, sym, ap, ◌∙◌, subst, arith, length-append, false}
-use Rattle.go_model.specs.declared.token.TokenValue.{TokenValue}
-use Rattle.go_model.specs.declared.token.LexemeKind.{LexemeKind}
-use Rattle.go_model.specs.Lexemes.{IsLexeme, opens_comment, comment_kind, Lexeme, Stands, Begins, BeginsLongest, BeginsNone, CutTo, here, next}
+use Rattle.go_syntax.specs.declared.token.TokenValue.{TokenValue}
+use Rattle.go_syntax.specs.declared.token.LexemeKind.{LexemeKind}
+use Rattle.go_syntax.specs.lexical.Lexemes.{IsLexeme, opens_comment, comment_kind, Lexeme, Stands, Begins, BeginsLongest, BeginsNone, CutTo, here, next}
 use Rattle.go_lex.specs.Starts.{start_of}
 use Rattle.go_lex.proofs.Escapes.{head_same, tail_same}
 use Rattle.go_lex.proofs.Classes.{Class, classed}

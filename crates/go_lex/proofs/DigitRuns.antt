@@ -1,7 +1,7 @@
 -- Digits at the front of some bytes.
 use Rattle.std.proofs.Common.{◌≡◌, ℕ, zero, suc, ◌+◌, ◌<◌, ◌≤◌, Bool, true, false, ◌||◌, ◌&&◌, ◌==◌, List, [], ◌∷◌, ◌++◌, length, take, drop, refl, sym, ap, ◌∙◌, subst, arith}
 use Rattle.std.proofs.lemmas.Bool.Decides.{nat_tests}
-use Rattle.go_model.specs.Numbers.{is_digit_of, AreDigits, one_digit, digit_more, digit_apart, AreBehind, directly, apart}
+use Rattle.go_syntax.specs.lexical.Numbers.{is_digit_of, AreDigits, one_digit, digit_more, digit_apart, AreBehind, directly, apart}
 use Rattle.go_lex.specs.Digits.{begins_digit, goes_on, more_len, digits_len}
 
 or_right : (a b : Bool) → b ≡ true → (a || b) ≡ true

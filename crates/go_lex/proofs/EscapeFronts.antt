@@ -5,9 +5,9 @@ use Rattle.std.specs.Prelude.{IfNone}
 use Rattle.std.specs.Char.{encode_utf8}
 use Rattle.std.proofs.lemmas.List.{take_at, take-append-drop}
 use Rattle.std.proofs.lemmas.Str.{encode_same}
-use Rattle.go_model.specs.declared.token.Meaning.{Meaning}
-use Rattle.go_model.specs.declared.token.Meaning.TheVariants.{Character}
-use Rattle.go_model.specs.Quotes.{is_plain, sign_of, count_of, IsCharacter, plain, sign, octal, hexadecimal, point}
+use Rattle.go_syntax.specs.declared.token.Meaning.{Meaning}
+use Rattle.go_syntax.specs.declared.token.Meaning.TheVariants.{Character}
+use Rattle.go_syntax.specs.lexical.Quotes.{is_plain, sign_of, count_of, IsCharacter, plain, sign, octal, hexadecimal, point}
 use Rattle.go_lex.specs.declared.quote.Character.{Character as CharacterFront}
 use Rattle.go_lex.specs.CharacterFronts.{HasNoCounted, IsOctal, HasNoOctal, IsHexadecimal, IsPoint, HasNoPoint, IsPlain, HasNoPlain, BeginsCharacter, BeginsNoCharacter}
 use Rattle.go_lex.proofs.Escapes.{Form, Hex, Point, Octal, form_of, form_after, form_counted, Meant, IsQuote, meant, head_same, character_some, Split, is_plain_one, is_escape, split_of}

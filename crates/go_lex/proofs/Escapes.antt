@@ -3,10 +3,10 @@ use Rattle.std.proofs.Common.{◌≡◌, ◌⊎◌, inl, inr, ℕ, ◌<◌, ◌�
 use Rattle.std.specs.Char.{IsScalar, encode_utf8}
 use Rattle.std.proofs.lemmas.Bool.Decides.{nat_tests}
 use Rattle.std.proofs.lemmas.Str.{encode_same, length-encode, len_utf8_bounds}
-use Rattle.go_model.specs.declared.token.Meaning.{Meaning}
-use Rattle.go_model.specs.declared.token.Meaning.TheVariants.{Character, Byte}
-use Rattle.go_model.specs.Numbers.{is_digit_of, value_from}
-use Rattle.go_model.specs.Quotes.{is_plain, sign_of, count_of, AreCounted, IsCharacter, plain, sign, octal, hexadecimal, point}
+use Rattle.go_syntax.specs.declared.token.Meaning.{Meaning}
+use Rattle.go_syntax.specs.declared.token.Meaning.TheVariants.{Character, Byte}
+use Rattle.go_syntax.specs.lexical.Numbers.{is_digit_of, value_from}
+use Rattle.go_syntax.specs.lexical.Quotes.{is_plain, sign_of, count_of, AreCounted, IsCharacter, plain, sign, octal, hexadecimal, point}
 use Rattle.go_lex.proofs.Counted.{front_counted}
 
 pub tail_same : (a b : ℕ) (xs ys : List ℕ) → a ∷ xs ≡ b ∷ ys → xs ≡ ys

@@ -1,8 +1,8 @@
 -- A look-up in a table of parts, one part after the other.
 use Rattle.std.proofs.Common.{◌≡◌, ℕ, Bool, true, false, cond, List, [], ◌∷◌, ◌++◌, Option, Some, None, refl, sym, ap, ◌∙◌}
 use Rattle.std.specs.Prelude.{bytes_eq}
-use Rattle.go_model.specs.declared.token.TokenKind.{TokenKind}
-use Rattle.go_model.specs.Words.{KindTable, kind_in, keywords}
+use Rattle.go_syntax.specs.declared.token.TokenKind.{TokenKind}
+use Rattle.go_syntax.specs.lexical.Words.{KindTable, kind_in, keywords}
 use Rattle.go_lex.specs.Keywords.{short_keywords, keywords_of_four, keywords_of_five, keywords_of_six, long_keywords}
 
 -- the first answer, or else the second

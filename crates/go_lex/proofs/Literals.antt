@@ -6,11 +6,11 @@ use Rattle.std.proofs.lemmas.Bool.Decides.{nat_tests}
 use Rattle.std.proofs.lemmas.Str.{encode_same}
 use Rattle.std.proofs.lemmas.List.{append-nil, drop-drop, drop_at, take_at, take-append-drop}
 use Rattle.std.proofs.Math.Seq.{take-add}
-use Rattle.go_model.specs.declared.token.Meaning.{Meaning}
-use Rattle.go_model.specs.Headers.{is_text, text_len}
-use Rattle.go_model.specs.Quotes.{is_plain, meaning_bytes, IsCharacter, AreCharacters, no_character, character_more}
-use Rattle.go_model.specs.Lexemes.{quoted}
-use Rattle.go_model.proofs.Lists.{length_take}
+use Rattle.go_syntax.specs.declared.token.Meaning.{Meaning}
+use Rattle.go_base.specs.Comments.{is_text, text_len}
+use Rattle.go_syntax.specs.lexical.Quotes.{is_plain, meaning_bytes, IsCharacter, AreCharacters, no_character, character_more}
+use Rattle.go_syntax.specs.lexical.Lexemes.{quoted}
+use Rattle.go_base.proofs.Lists.{length_take}
 use Rattle.go_lex.specs.declared.quote.Character.{Character as CharacterFront}
 use Rattle.go_lex.specs.CharacterFronts.{BeginsCharacter, BeginsNoCharacter}
 use Rattle.go_lex.specs.Starts.{begins_byte}

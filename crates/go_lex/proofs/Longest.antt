@@ -3,17 +3,17 @@ use Rattle.std.proofs.Common.{◌≡◌, inl, inr, ℕ, ◌<◌, ◌≤◌, Bool
 use Rattle.std.specs.Prelude.{codes, if◌then◌else◌}
 use Rattle.std.specs.List.{list_any}
 use Rattle.std.proofs.lemmas.List.{take-append-drop}
-use Rattle.go_model.specs.declared.token.TokenKind.{TokenKind}
-use Rattle.go_model.specs.declared.token.TokenKind.TheVariants as token
-use Rattle.go_model.specs.declared.token.TokenValue.{TokenValue}
-use Rattle.go_model.specs.declared.token.TokenValue.TheVariants as value
-use Rattle.go_model.specs.declared.token.LexemeKind.{LexemeKind}
-use Rattle.go_model.specs.declared.token.LexemeKind.TheVariants as lexeme
-use Rattle.go_model.specs.Headers.{starts_with, comment_len}
-use Rattle.go_model.specs.Quotes.{meaning_number, raw_bytes}
-use Rattle.go_model.specs.Words.{kind_in, operators, name_kind}
-use Rattle.go_model.specs.Lexemes.{plain_value, opens_comment, comment_kind, IsLexeme, blank, newline, name, operator, integer, float, imaginary, rune, string, raw_string, Lexeme, Begins, BeginsNone}
-use Rattle.go_model.proofs.Lists.{length_take}
+use Rattle.go_syntax.specs.declared.token.TokenKind.{TokenKind}
+use Rattle.go_syntax.specs.declared.token.TokenKind.TheVariants as token
+use Rattle.go_syntax.specs.declared.token.TokenValue.{TokenValue}
+use Rattle.go_syntax.specs.declared.token.TokenValue.TheVariants as value
+use Rattle.go_syntax.specs.declared.token.LexemeKind.{LexemeKind}
+use Rattle.go_syntax.specs.declared.token.LexemeKind.TheVariants as lexeme
+use Rattle.go_base.specs.Comments.{starts_with, comment_len}
+use Rattle.go_syntax.specs.lexical.Quotes.{meaning_number, raw_bytes}
+use Rattle.go_syntax.specs.lexical.Words.{kind_in, operators, name_kind}
+use Rattle.go_syntax.specs.lexical.Lexemes.{plain_value, opens_comment, comment_kind, IsLexeme, blank, newline, name, operator, integer, float, imaginary, rune, string, raw_string, Lexeme, Begins, BeginsNone}
+use Rattle.go_base.proofs.Lists.{length_take}
 use Rattle.go_lex.specs.declared.front.Start.{Start}
 use Rattle.go_lex.specs.declared.front.Start.TheVariants.{Blank, Newline, Comment, Number, Rune, Quoted, Raw, Name, Sign}
 use Rattle.go_lex.specs.declared.front.Front.{Front}

@@ -4,8 +4,8 @@ use Rattle.std.specs.Prelude.{IsTrue, ◌↔◌}
 use Rattle.std.specs.Char.{encode_utf8}
 use Rattle.std.proofs.lemmas.Str.{encode_same, length-encode, len_utf8_bounds}
 use Rattle.std.proofs.lemmas.List.{take-append-drop}
-use Rattle.go_model.specs.Characters.{is_letter, is_name_character, BeginsPassing, IsRun, run_end, run_more}
-use Rattle.go_model.proofs.Lists.{length_take}
+use Rattle.go_base.specs.Characters.{is_letter, is_name_character, BeginsPassing, IsRun, run_end, run_more}
+use Rattle.go_base.proofs.Lists.{length_take}
 use Rattle.go_lex.specs.Names.{IsName, IsLongestName, HasNoName}
 
 or_left : (a b : Bool) → a ≡ true → (a || b) ≡ true

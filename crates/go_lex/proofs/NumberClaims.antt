@@ -2,9 +2,9 @@
 use Rattle.std.proofs.Common.{◌≡◌, ◌⊎◌, inl, inr, ℕ, zero, suc, ◌+◌, ◌<◌, ◌≤◌, Bool, true, false, ◌||◌, ◌==◌, List, [], ◌∷◌, ◌++◌, length, drop, refl, sym, ap, ◌∙◌, subst, arith, length-append, append_assoc, Some, nat_lt}
 use Rattle.std.proofs.lemmas.Bool.Decides.{nat_tests}
 use Rattle.std.proofs.lemmas.List.{drop_at, append-nil}
-use Rattle.go_model.specs.declared.token.TokenKind.{TokenKind}
-use Rattle.go_model.specs.declared.token.TokenKind.TheVariants.{IntLit, FloatLit, ImagLit}
-use Rattle.go_model.specs.Numbers.{is_digit_of, is_first_digit, AreDigits, one_digit, digit_more, digit_apart, AreBehind, Optional, IsExponent}
+use Rattle.go_syntax.specs.declared.token.TokenKind.{TokenKind}
+use Rattle.go_syntax.specs.declared.token.TokenKind.TheVariants.{IntLit, FloatLit, ImagLit}
+use Rattle.go_syntax.specs.lexical.Numbers.{is_digit_of, is_first_digit, AreDigits, one_digit, digit_more, digit_apart, AreBehind, Optional, IsExponent}
 use Rattle.go_lex.specs.declared.number.Number.{Number}
 use Rattle.go_lex.specs.Digits.{more_len, digits_len}
 use Rattle.go_lex.specs.NumberLengths.{is_mark, exponent_len, fraction_len, tail_len, joined_len, imaginary_len, number_kind, number_of, integer_len, decimal_number, prefixed_number, if_digits}

@@ -2,8 +2,8 @@
 use Rattle.std.proofs.Common.{◌≡◌, ◌⊎◌, inl, inr, ℕ, suc, ◌+◌, ◌<◌, ◌≤◌, Bool, true, false, ◌||◌, ◌&&◌, ◌==◌, List, [], ◌∷◌, ◌++◌, length, take, drop, refl, sym, ap, ◌∙◌, subst, arith, length-drop, append_assoc, Option, Some, None, nat_lt}
 use Rattle.std.proofs.lemmas.Bool.Decides.{nat_tests}
 use Rattle.std.proofs.Math.Seq.{take-add}
-use Rattle.go_model.specs.declared.token.TokenKind.{TokenKind}
-use Rattle.go_model.specs.Numbers.{is_digit_of, is_first_digit, is_x, base_of, AreDigits, AreBehind, Optional, IsExponent, IsInteger, decimal_integer, octal_integer, prefixed_integer, IsMantissa, whole_mantissa, pointed_mantissa, point_first_mantissa, IsFloat, pointed, pointless, point_first, hexadecimal, IsMultiple, digits_multiple, integer_multiple, float_multiple}
+use Rattle.go_syntax.specs.declared.token.TokenKind.{TokenKind}
+use Rattle.go_syntax.specs.lexical.Numbers.{is_digit_of, is_first_digit, is_x, base_of, AreDigits, AreBehind, Optional, IsExponent, IsInteger, decimal_integer, octal_integer, prefixed_integer, IsMantissa, whole_mantissa, pointed_mantissa, point_first_mantissa, IsFloat, pointed, pointless, point_first, hexadecimal, IsMultiple, digits_multiple, integer_multiple, float_multiple}
 use Rattle.go_lex.specs.declared.number.Number.{Number}
 use Rattle.go_lex.specs.Digits.{begins_digit, goes_on, more_len, digits_len}
 use Rattle.go_lex.specs.NumberLengths.{is_mark, exponent_len, fraction_len, tail_len, joined_len, imaginary_len, integer_len, number_of, number_kind, decimal_number, prefixed_number, if_digits, prefix_of, number_at, behind_of, IsNumber, int_number, float_number, imaginary_number}

@@ -3,17 +3,17 @@ use Rattle.std.proofs.Common.{◌≡◌, inl, inr, ℕ, List, [], ◌∷◌, ◌
 use Rattle.std.proofs.lemmas.List.{append-nil, drop_at}
 use Rattle.std.specs.Char.{encode_utf8}
 use Rattle.std.proofs.lemmas.Str.{length-encode, len_utf8_bounds}
-use Rattle.go_model.specs.declared.token.Meaning.{Meaning}
-use Rattle.go_model.specs.declared.token.TokenKind.{TokenKind}
-use Rattle.go_model.specs.declared.token.TokenKind.TheVariants as token
-use Rattle.go_model.specs.declared.token.TokenValue.{TokenValue}
-use Rattle.go_model.specs.declared.token.TokenValue.TheVariants as value
-use Rattle.go_model.specs.declared.token.LexemeKind.{LexemeKind}
-use Rattle.go_model.specs.declared.token.LexemeKind.TheVariants as lexeme
-use Rattle.go_model.specs.Quotes.{meaning_number, meaning_bytes, AreCharacters, no_character, character_more, raw_bytes}
-use Rattle.go_model.specs.Words.{kind_in, operators, operators_of_three, operators_of_two, operators_of_one}
-use Rattle.go_model.specs.Headers.{comment_len}
-use Rattle.go_model.specs.Lexemes.{IsLexeme, blank, newline, name, operator, integer, float, imaginary, rune, string, raw_string, plain_value, quoted, Lexeme, Begins}
+use Rattle.go_syntax.specs.declared.token.Meaning.{Meaning}
+use Rattle.go_syntax.specs.declared.token.TokenKind.{TokenKind}
+use Rattle.go_syntax.specs.declared.token.TokenKind.TheVariants as token
+use Rattle.go_syntax.specs.declared.token.TokenValue.{TokenValue}
+use Rattle.go_syntax.specs.declared.token.TokenValue.TheVariants as value
+use Rattle.go_syntax.specs.declared.token.LexemeKind.{LexemeKind}
+use Rattle.go_syntax.specs.declared.token.LexemeKind.TheVariants as lexeme
+use Rattle.go_syntax.specs.lexical.Quotes.{meaning_number, meaning_bytes, AreCharacters, no_character, character_more, raw_bytes}
+use Rattle.go_syntax.specs.lexical.Words.{kind_in, operators, operators_of_three, operators_of_two, operators_of_one}
+use Rattle.go_base.specs.Comments.{comment_len}
+use Rattle.go_syntax.specs.lexical.Lexemes.{IsLexeme, blank, newline, name, operator, integer, float, imaginary, rune, string, raw_string, plain_value, quoted, Lexeme, Begins}
 use Rattle.go_lex.specs.declared.front.Start.{Start}
 use Rattle.go_lex.specs.declared.front.Start.TheVariants.{Blank, Newline, Comment, Number, Rune, Quoted, Raw, Name, Sign}
 use Rattle.go_lex.specs.NumberLengths.{number_at, IsNumber, int_number, float_number, imaginary_number}

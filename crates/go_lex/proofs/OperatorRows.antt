@@ -4,8 +4,8 @@ use Rattle.std.specs.Prelude.{bytes_eq}
 use Rattle.std.specs.List.{list_all}
 use Rattle.std.proofs.lemmas.Bool.Decides.{nat_tests}
 use Rattle.std.proofs.lemmas.Slice.Eq.{bytes_eq-Decides}
-use Rattle.go_model.specs.declared.token.TokenKind.{TokenKind}
-use Rattle.go_model.specs.Words.{KindTable, kind_in, operators, operators_of_three, operators_of_two, operators_of_one}
+use Rattle.go_syntax.specs.declared.token.TokenKind.{TokenKind}
+use Rattle.go_syntax.specs.lexical.Words.{KindTable, kind_in, operators, operators_of_three, operators_of_two, operators_of_one}
 use Rattle.go_lex.specs.declared.operator.Operator.{Operator}
 use Rattle.go_lex.specs.Operators.{or_shorter, operator_at}
 use Rattle.go_lex.proofs.KeywordParts.{or_else, found, missed, kind_in-append}

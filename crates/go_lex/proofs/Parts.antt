@@ -2,7 +2,7 @@
 use Rattle.std.proofs.Common.{◌≡◌, ◌⊎◌, inl, inr, ℕ, suc, ◌+◌, ◌<◌, ◌≤◌, true, false, ◌||◌, ◌==◌, List, [], ◌∷◌, ◌++◌, length, take, drop, refl, sym, ap, ◌∙◌, subst, arith, length-append, length-drop, append_assoc}
 use Rattle.std.proofs.lemmas.Bool.Decides.{nat_tests}
 use Rattle.std.proofs.lemmas.List.{drop_at, append-nil}
-use Rattle.go_model.specs.Numbers.{is_digit_of, is_e, is_p, is_sign, AreDigits, one_digit, digit_more, digit_apart, Optional, IsExponent, plain_exponent, signed_exponent}
+use Rattle.go_syntax.specs.lexical.Numbers.{is_digit_of, is_e, is_p, is_sign, AreDigits, one_digit, digit_more, digit_apart, Optional, IsExponent, plain_exponent, signed_exponent}
 use Rattle.go_lex.specs.Digits.{begins_digit, goes_on, more_len, digits_len}
 use Rattle.go_lex.specs.NumberLengths.{is_mark, sign_len, with_digits, exponent_len, fraction_len, imaginary_len}
 use Rattle.go_lex.proofs.DigitRuns.{digits_first, digits_bound, digits_exact, digits_are_more, no_digits, stops_no_digit, digits_some, digits_stand, digits_within}

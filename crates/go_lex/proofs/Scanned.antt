@@ -1,12 +1,12 @@
 -- What the pass over the bytes keeps.
 use Rattle.std.proofs.Common.{◌≡◌, ℕ, ◌+◌, ◌-◌, ◌<◌, ◌≤◌, List, [], ◌∷◌, ◌++◌, length, take, drop, Option, None, refl, sym, ap, ◌∙◌, subst, append_assoc, arith, length-drop, drop-drop}
-use Rattle.go_model.specs.declared.token.Token.{Token}
-use Rattle.go_model.specs.declared.token.TokenValue.{TokenValue}
-use Rattle.go_model.specs.declared.token.LexemeKind.{LexemeKind}
-use Rattle.go_model.specs.Headers.{without_mark}
-use Rattle.go_model.specs.Lexemes.{BeginsNone, Lexeme, CutTo, here, next, IsBadPlace}
-use Rattle.go_model.specs.Tokens.{inserted, lexeme_tokens, pending_after, tokens_of, IsTokens}
-use Rattle.go_model.proofs.Lists.{length_take, drop_past}
+use Rattle.go_syntax.specs.declared.token.Token.{Token}
+use Rattle.go_syntax.specs.declared.token.TokenValue.{TokenValue}
+use Rattle.go_syntax.specs.declared.token.LexemeKind.{LexemeKind}
+use Rattle.go_base.specs.Comments.{without_mark}
+use Rattle.go_syntax.specs.lexical.Lexemes.{BeginsNone, Lexeme, CutTo, here, next, IsBadPlace}
+use Rattle.go_syntax.specs.lexical.Tokens.{inserted, lexeme_tokens, pending_after, tokens_of, IsTokens}
+use Rattle.go_base.proofs.Lists.{length_take, drop_past}
 use Rattle.go_lex.specs.Fronts.{Says, lexeme_of, IsFront}
 
 -- however the rest is cut, the tokens so far come before those of the rest; the cut begins at `from`

@@ -2,8 +2,8 @@
 use Rattle.std.proofs.Common.{◌≡◌, ℕ, ◌+◌, ◌*◌, ◌<◌, ◌≤◌, zero, suc, false, ◌==◌, true, List, [], ◌∷◌, ◌++◌, length, get_or, take, drop, refl, sym, ap, ◌∙◌, subst, arith, length-drop, append_assoc}
 use Rattle.std.proofs.lemmas.List.{append-nil, drop-drop, take-append-drop}
 use Rattle.std.proofs.Math.Nat.{mul-le-mul_left}
-use Rattle.go_model.specs.Numbers.{value_from}
-use Rattle.go_model.specs.Quotes.{meaning_bytes, AreCharacters, no_character, character_more}
+use Rattle.go_syntax.specs.lexical.Numbers.{value_from}
+use Rattle.go_syntax.specs.lexical.Quotes.{meaning_bytes, AreCharacters, no_character, character_more}
 use Rattle.go_lex.specs.declared.quote.Character.{Character as CharacterFront}
 use Rattle.go_lex.specs.CharacterFronts.{BeginsCharacter, BeginsNoCharacter}
 use Rattle.go_lex.specs.Values.{value_more}

@@ -4,15 +4,15 @@ use Rattle.std.proofs.Common.{Result, Ok, Err, IfOk}
 use Rattle.std.specs.Prelude.{bytes_eq, unwrap_or}
 use Rattle.std.specs.List.{list_all}
 use Rattle.std.proofs.lemmas.List.{take_at}
-use Rattle.go_model.specs.declared.token.TokenKind.{TokenKind}
-use Rattle.go_model.specs.declared.token.TokenKind.TheVariants as token
-use Rattle.go_model.specs.declared.token.TokenValue.{TokenValue}
-use Rattle.go_model.specs.declared.token.TokenValue.TheVariants as value
-use Rattle.go_model.specs.declared.token.LexemeKind.{LexemeKind}
-use Rattle.go_model.specs.declared.token.LexemeKind.TheVariants as lexeme
-use Rattle.go_model.specs.Quotes.{meaning_number, AreCharacters, raw_bytes}
-use Rattle.go_model.specs.Words.{KindTable, kind_in, keywords, operators, operators_of_three, operators_of_two, operators_of_one, name_kind}
-use Rattle.go_model.specs.Lexemes.{plain_value, quoted, IsLexeme, blank, newline, name, operator, integer, float, imaginary, rune, string, raw_string}
+use Rattle.go_syntax.specs.declared.token.TokenKind.{TokenKind}
+use Rattle.go_syntax.specs.declared.token.TokenKind.TheVariants as token
+use Rattle.go_syntax.specs.declared.token.TokenValue.{TokenValue}
+use Rattle.go_syntax.specs.declared.token.TokenValue.TheVariants as value
+use Rattle.go_syntax.specs.declared.token.LexemeKind.{LexemeKind}
+use Rattle.go_syntax.specs.declared.token.LexemeKind.TheVariants as lexeme
+use Rattle.go_syntax.specs.lexical.Quotes.{meaning_number, AreCharacters, raw_bytes}
+use Rattle.go_syntax.specs.lexical.Words.{KindTable, kind_in, keywords, operators, operators_of_three, operators_of_two, operators_of_one, name_kind}
+use Rattle.go_syntax.specs.lexical.Lexemes.{plain_value, quoted, IsLexeme, blank, newline, name, operator, integer, float, imaginary, rune, string, raw_string}
 use Rattle.go_lex.specs.declared.quote.Character.{Character as CharacterFront}
 use Rattle.go_lex.specs.CharacterFronts.{BeginsCharacter, BeginsNoCharacter}
 use Rattle.go_lex.specs.Starts.{begins_byte}

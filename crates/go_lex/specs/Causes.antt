@@ -1,6 +1,6 @@
 -- Why a file has no tokens.
 use Rattle.std.specs.Prelude.{ℕ, List}
-use Rattle.go_model.specs.Lexemes.{IsBadPlace}
+use Rattle.go_syntax.specs.lexical.Lexemes.{IsBadPlace}
 use Rattle.go_lex.specs.declared.error.LexError.{LexError}
 use Rattle.go_lex.specs.declared.error.LexError.TheVariants.{BadToken, NoMemory}
 

@@ -1,10 +1,10 @@
 -- The characters and escapes at the front of some bytes.
 use Rattle.std.specs.Prelude.{◌≡◌, ◌<◌, ◌≤◌, ◌+◌, true, ℕ, List, ◌∷◌, ◌++◌, length, take}
-use Rattle.go_model.specs.declared.token.Meaning.{Meaning}
-use Rattle.go_model.specs.declared.token.Meaning.TheVariants.{Character, Byte}
+use Rattle.go_syntax.specs.declared.token.Meaning.{Meaning}
+use Rattle.go_syntax.specs.declared.token.Meaning.TheVariants.{Character, Byte}
 use Rattle.std.specs.Char.{IsScalar, encode_utf8}
-use Rattle.go_model.specs.Numbers.{value_from}
-use Rattle.go_model.specs.Quotes.{AreCounted, IsCharacter, is_plain}
+use Rattle.go_syntax.specs.lexical.Numbers.{value_from}
+use Rattle.go_syntax.specs.lexical.Quotes.{AreCounted, IsCharacter, is_plain}
 use Rattle.go_lex.specs.declared.quote.Character.{Character as CharacterFront}
 
 -- so many digits at the front have this value

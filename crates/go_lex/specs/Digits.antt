@@ -1,6 +1,6 @@
 -- How far digits go at the front of some bytes.
 use Rattle.std.specs.Prelude.{ℕ, suc, Bool, false, ◌||◌, ◌&&◌, ◌==◌, if◌then◌else◌, List, [], ◌∷◌}
-use Rattle.go_model.specs.Numbers.{is_digit_of}
+use Rattle.go_syntax.specs.lexical.Numbers.{is_digit_of}
 
 -- the bytes begin with a digit
 abbrev pub begins_digit : ℕ → List ℕ → Bool

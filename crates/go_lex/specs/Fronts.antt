@@ -1,11 +1,11 @@
 -- The longest lexeme at the front of some bytes.
 use Rattle.std.specs.Prelude.{◌≡◌, ◌<◌, ◌≤◌, ℕ, Some, List, length, take, drop}
-use Rattle.go_model.specs.declared.token.LexemeKind.{LexemeKind}
-use Rattle.go_model.specs.declared.token.LexemeKind.TheVariants as lexeme
-use Rattle.go_model.specs.declared.token.TokenValue.{TokenValue}
-use Rattle.go_model.specs.declared.token.TokenValue.TheVariants as value
-use Rattle.go_model.specs.Lexemes.{IsLexeme, Lexeme, BeginsLongest, comment_kind}
-use Rattle.go_model.specs.Headers.{comment_len}
+use Rattle.go_syntax.specs.declared.token.LexemeKind.{LexemeKind}
+use Rattle.go_syntax.specs.declared.token.LexemeKind.TheVariants as lexeme
+use Rattle.go_syntax.specs.declared.token.TokenValue.{TokenValue}
+use Rattle.go_syntax.specs.declared.token.TokenValue.TheVariants as value
+use Rattle.go_syntax.specs.lexical.Lexemes.{IsLexeme, Lexeme, BeginsLongest, comment_kind}
+use Rattle.go_base.specs.Comments.{comment_len}
 use Rattle.go_lex.specs.declared.front.Front.{Front}
 
 -- what a lexeme of this kind and text says: white space and comments say nothing

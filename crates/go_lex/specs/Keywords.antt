@@ -1,7 +1,7 @@
 -- The table of keywords in parts, which are looked up one after the other.
 use Rattle.std.specs.Prelude.{[], ◌∷◌, codes}
-use Rattle.go_model.specs.declared.token.TokenKind.TheVariants as token
-use Rattle.go_model.specs.Words.{KindTable}
+use Rattle.go_syntax.specs.declared.token.TokenKind.TheVariants as token
+use Rattle.go_syntax.specs.lexical.Words.{KindTable}
 
 -- the keywords of two and three letters
 abbrev pub short_keywords : KindTable

@@ -1,7 +1,7 @@
 -- Names at the front of some bytes.
 use Rattle.std.specs.Prelude.{◌≡◌, ◌<◌, ◌≤◌, true, ℕ, List, [], ◌++◌, length, take}
 use Rattle.std.specs.Char.{IsScalar, encode_utf8}
-use Rattle.go_model.specs.Characters.{is_letter, is_name_character, IsRun}
+use Rattle.go_base.specs.Characters.{is_letter, is_name_character, IsRun}
 
 -- a name: a letter, and letters and digits
 abbrev pub IsName : List ℕ → Type 0

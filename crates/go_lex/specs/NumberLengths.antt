@@ -1,8 +1,8 @@
 -- How far the parts of a number literal go at the front of some bytes.
 use Rattle.std.specs.Prelude.{◌≡◌, ◌<◌, ◌≤◌, ℕ, ◌+◌, nat_lt, Bool, ◌||◌, ◌&&◌, ◌==◌, if◌then◌else◌, Option, None, Some, List, [], ◌∷◌, ◌++◌, length, take, drop}
-use Rattle.go_model.specs.Numbers.{is_e, is_p, is_sign, base_of, IsInteger, IsFloat, IsMultiple}
-use Rattle.go_model.specs.declared.token.TokenKind.{TokenKind}
-use Rattle.go_model.specs.declared.token.TokenKind.TheVariants.{IntLit, FloatLit, ImagLit}
+use Rattle.go_syntax.specs.lexical.Numbers.{is_e, is_p, is_sign, base_of, IsInteger, IsFloat, IsMultiple}
+use Rattle.go_syntax.specs.declared.token.TokenKind.{TokenKind}
+use Rattle.go_syntax.specs.declared.token.TokenKind.TheVariants.{IntLit, FloatLit, ImagLit}
 use Rattle.go_lex.specs.declared.number.Number.{Number}
 use Rattle.go_lex.specs.Digits.{more_len, digits_len}
 

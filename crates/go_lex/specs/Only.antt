@@ -1,10 +1,10 @@
 -- The one text of a kind at the front of some bytes.
 use Rattle.std.specs.Prelude.{◌≡◌, ◌<◌, ◌≤◌, not, ◌==◌, true, ℕ, List, ◌++◌, length, take}
 use Rattle.std.specs.List.{list_all}
-use Rattle.go_model.specs.declared.token.Meaning.{Meaning}
-use Rattle.go_model.specs.Headers.{is_text}
-use Rattle.go_model.specs.Quotes.{meaning_number, IsCharacter, AreCharacters}
-use Rattle.go_model.specs.Lexemes.{quoted}
+use Rattle.go_syntax.specs.declared.token.Meaning.{Meaning}
+use Rattle.go_base.specs.Comments.{is_text}
+use Rattle.go_syntax.specs.lexical.Quotes.{meaning_number, IsCharacter, AreCharacters}
+use Rattle.go_syntax.specs.lexical.Lexemes.{quoted}
 
 -- a text of this kind has this many bytes at the front, and no other begins the bytes
 pub record IsOnly (P : List ℕ → Type 0) (bytes : List ℕ) (n : ℕ) : Type 0 where

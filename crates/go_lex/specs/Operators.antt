@@ -1,7 +1,7 @@
 -- The operators at the front of some bytes.
 use Rattle.std.specs.Prelude.{ℕ, Option, None, Some, List, [], ◌∷◌}
-use Rattle.go_model.specs.Words.{kind_in, operators_of_three, operators_of_two, operators_of_one}
-use Rattle.go_model.specs.declared.token.TokenKind.{TokenKind}
+use Rattle.go_syntax.specs.lexical.Words.{kind_in, operators_of_three, operators_of_two, operators_of_one}
+use Rattle.go_syntax.specs.declared.token.TokenKind.{TokenKind}
 use Rattle.go_lex.specs.declared.operator.Operator.{Operator}
 
 -- an operator of so many bytes, if it is one, or else the other

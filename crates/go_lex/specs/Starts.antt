@@ -1,7 +1,7 @@
 -- What the first bytes tell of a lexeme.
 use Rattle.std.specs.Prelude.{ℕ, nat_lt, Bool, false, ◌||◌, ◌&&◌, ◌==◌, if◌then◌else◌, List, [], ◌∷◌}
-use Rattle.go_model.specs.Lexemes.{is_blank}
-use Rattle.go_model.specs.Numbers.{is_digit_of}
+use Rattle.go_syntax.specs.lexical.Lexemes.{is_blank}
+use Rattle.go_syntax.specs.lexical.Numbers.{is_digit_of}
 use Rattle.go_lex.specs.Digits.{begins_digit}
 use Rattle.go_lex.specs.declared.front.Start.{Start}
 use Rattle.go_lex.specs.declared.front.Start.TheVariants.{Blank, Newline, Comment, Number, Rune, Quoted, Raw, Name, Sign}

@@ -1,7 +1,7 @@
 //! Digits at the front of some bytes.
 ghost use Rattle.std.specs.Prelude.{◌≡◌, ◌≤◌, length};
 ghost use Rattle.std.specs.Char.{digit_value};
-ghost use Rattle.go_model.specs.Numbers.{is_digit_of};
+ghost use Rattle.go_syntax.specs.lexical.Numbers.{is_digit_of};
 ghost use Rattle.go_lex.specs.Digits.{begins_digit, goes_on, more_len, digits_len};
 
 use crate::bytes::past;

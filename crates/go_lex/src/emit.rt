@@ -1,19 +1,19 @@
 //! The tokens so far.
 ghost use Rattle.std.specs.Prelude.{◌≡◌, ◌≤◌, ◌+◌, ◌-◌, ◌++◌, length, take, drop, None, IfOk, OnOk};
-ghost use Rattle.go_model.specs.declared.token.LexemeKind.TheVariants as lexeme;
-ghost use Rattle.go_model.specs.declared.token.TokenKind.TheVariants as token;
-ghost use Rattle.go_model.specs.declared.token.TokenValue.TheVariants as value;
-ghost use Rattle.go_model.specs.declared.token.TokenValue.{TokenValue};
-ghost use Rattle.go_model.specs.Lexemes.{IsLexeme};
-ghost use Rattle.go_model.specs.Tokens.{ends_line, inserted, lexeme_tokens, pending_after};
+ghost use Rattle.go_syntax.specs.declared.token.LexemeKind.TheVariants as lexeme;
+ghost use Rattle.go_syntax.specs.declared.token.TokenKind.TheVariants as token;
+ghost use Rattle.go_syntax.specs.declared.token.TokenValue.TheVariants as value;
+ghost use Rattle.go_syntax.specs.declared.token.TokenValue.{TokenValue};
+ghost use Rattle.go_syntax.specs.lexical.Lexemes.{IsLexeme};
+ghost use Rattle.go_syntax.specs.lexical.Tokens.{ends_line, inserted, lexeme_tokens, pending_after};
 ghost use Rattle.go_lex.specs.Fronts.{Says};
 
 use crate::bytes::begins_byte;
 use crate::value::{integer_value, raw_bytes, rune_number, string_bytes};
-use go_model::list::List;
-use go_model::memory::NoMemory;
-use go_model::text::Text;
-use go_model::token::{LexemeKind, Token, TokenKind, TokenValue};
+use go_base::list::List;
+use go_base::memory::NoMemory;
+use go_base::text::Text;
+use go_syntax::token::{LexemeKind, Token, TokenKind, TokenValue};
 use std::alloc::Global;
 
 /// The tokens so far, and the end of the line's last token, where a newline after that inserts a

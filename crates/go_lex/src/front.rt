@@ -1,9 +1,9 @@
 //! The longest lexeme at the front of some bytes.
 ghost use Rattle.std.specs.Prelude.{◌≡◌, ◌<◌, ◌≤◌, length, IfSome, IfNone, None, ◌==◌};
-ghost use Rattle.go_model.specs.declared.token.LexemeKind.TheVariants as lexeme;
+ghost use Rattle.go_syntax.specs.declared.token.LexemeKind.TheVariants as lexeme;
 ghost use Rattle.std.specs.List.{list_any};
-ghost use Rattle.go_model.specs.Headers.{comment_len};
-ghost use Rattle.go_model.specs.Lexemes.{comment_kind, BeginsNone};
+ghost use Rattle.go_base.specs.Comments.{comment_len};
+ghost use Rattle.go_syntax.specs.lexical.Lexemes.{comment_kind, BeginsNone};
 ghost use Rattle.go_lex.specs.Starts.{start_of};
 ghost use Rattle.go_lex.specs.Fronts.{IsFront, IsCommentFront};
 
@@ -14,8 +14,8 @@ use crate::literal::{raw_len, rune_len, string_len};
 use crate::name::name_len;
 use crate::number::number_at;
 use crate::operator::operator_at;
-use go_model::front::comment_len;
-use go_model::token::{LexemeKind, TokenKind};
+use go_base::comments::comment_len;
+use go_syntax::token::{LexemeKind, TokenKind};
 
 /// What the first bytes tell of a lexeme: its class.
 #[derive(Clone, Copy)]

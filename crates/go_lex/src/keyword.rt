@@ -1,9 +1,9 @@
 //! The keywords.
 ghost use Rattle.std.specs.Prelude.{◌≡◌};
-ghost use Rattle.go_model.specs.Words.{kind_in, keywords, name_kind};
+ghost use Rattle.go_syntax.specs.lexical.Words.{kind_in, keywords, name_kind};
 ghost use Rattle.go_lex.specs.Keywords.{short_keywords, keywords_of_four, keywords_of_five, keywords_of_six, long_keywords};
 
-use go_model::token::TokenKind;
+use go_syntax::token::TokenKind;
 
 /// The kind of a name: a keyword, or else an identifier.
 pub fn name_kind(name: &[u8]) -> TokenKind

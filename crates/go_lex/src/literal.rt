@@ -5,7 +5,7 @@ ghost use Rattle.go_lex.specs.Only.{IsOnly, HasNone, IsRune, IsString, IsRaw};
 
 use crate::bytes::{begins_byte, past};
 use crate::quote::character_at;
-use go_model::front::text_len;
+use go_base::comments::text_len;
 
 /// The length of the rune literal.
 pub fn rune_len(behind: &[u8]) -> Option<usize>

@@ -2,7 +2,7 @@
 ghost use Rattle.std.specs.Prelude.{IfSome, IfNone};
 ghost use Rattle.go_lex.specs.Names.{IsLongestName, HasNoName};
 
-use go_model::characters::{Alphabet, begins_with_letter, run_len};
+use go_base::characters::{Alphabet, begins_with_letter, run_len};
 
 /// The length of the longest name.
 pub fn name_len(bytes: &[u8]) -> Option<usize>

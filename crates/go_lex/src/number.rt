@@ -1,11 +1,11 @@
 //! Number literals at the front of some bytes.
 ghost use Rattle.std.specs.Prelude.{◌≡◌, ◌<◌, ◌≤◌, ◌+◌, ℕ, length, drop, IfSome};
-ghost use Rattle.go_model.specs.Numbers.{base_of};
+ghost use Rattle.go_syntax.specs.lexical.Numbers.{base_of};
 ghost use Rattle.go_lex.specs.NumberLengths.{is_mark, sign_len, exponent_len, fraction_len, joined_len, tail_len, imaginary_len, prefix_of, integer_len, number_kind, number_of, decimal_number, prefixed_number, number_at};
 
 use crate::bytes::past;
 use crate::digits::{digits_len, more_len};
-use go_model::token::TokenKind;
+use go_syntax::token::TokenKind;
 
 /// A number literal: its kind and its length in bytes.
 #[derive(Clone, Copy)]

@@ -1,9 +1,9 @@
 //! Operators and punctuation at the front of some bytes.
 ghost use Rattle.std.specs.Prelude.{◌≡◌, ◌≤◌, ◌<◌, [], ◌∷◌, length, take, IfSome};
-ghost use Rattle.go_model.specs.Words.{kind_in, operators_of_three, operators_of_two, operators_of_one};
+ghost use Rattle.go_syntax.specs.lexical.Words.{kind_in, operators_of_three, operators_of_two, operators_of_one};
 ghost use Rattle.go_lex.specs.Operators.{operator_at};
 
-use go_model::token::TokenKind;
+use go_syntax::token::TokenKind;
 
 /// An operator: its kind and its length in bytes.
 #[derive(Clone, Copy)]
@@ -33,7 +33,7 @@ pub fn operator_at(bytes: &[u8]) -> Option<Operator>
     }
 }
 
-#[tactic(auto, unfolding(go_model::specs::Words::operators_of_three))]
+#[tactic(auto, unfolding(go_syntax::specs::lexical::Words::operators_of_three))]
 fn operator_of_three(a: u8, b: u8, c: u8) -> Option<TokenKind>
     ensures { result ≡ kind_in operators_of_three (a ∷ (b ∷ (c ∷ []))) }
 {
@@ -47,7 +47,7 @@ fn operator_of_three(a: u8, b: u8, c: u8) -> Option<TokenKind>
 }
 
 /// The operators of two bytes of which the second is `=`.
-#[tactic(auto, unfolding(go_model::specs::Words::operators_of_two))]
+#[tactic(auto, unfolding(go_syntax::specs::lexical::Words::operators_of_two))]
 fn operator_with_equals(a: u8) -> Option<TokenKind>
     ensures { result ≡ kind_in operators_of_two (a ∷ (61 ∷ [])) }
 {
@@ -69,7 +69,7 @@ fn operator_with_equals(a: u8) -> Option<TokenKind>
     }
 }
 
-#[tactic(auto, unfolding(go_model::specs::Words::operators_of_two))]
+#[tactic(auto, unfolding(go_syntax::specs::lexical::Words::operators_of_two))]
 fn operator_of_two(a: u8, b: u8) -> Option<TokenKind>
     ensures { result ≡ kind_in operators_of_two (a ∷ (b ∷ [])) }
 {
@@ -87,7 +87,7 @@ fn operator_of_two(a: u8, b: u8) -> Option<TokenKind>
     }
 }
 
-#[tactic(auto, unfolding(go_model::specs::Words::operators_of_one))]
+#[tactic(auto, unfolding(go_syntax::specs::lexical::Words::operators_of_one))]
 fn operator_of_one(a: u8) -> Option<TokenKind>
     ensures { result ≡ kind_in operators_of_one (a ∷ []) }
 {

@@ -1,11 +1,11 @@
 //! Characters and escapes at the front of some bytes.
 ghost use Rattle.std.specs.Prelude.{◌≡◌, ◌<◌, ◌≤◌, ◌^◌, ◌∷◌, ◌⊎◌, length, take, IfSome, IsNone, IfNone, option_map};
-ghost use Rattle.go_model.specs.Quotes.{is_plain, sign_of, count_of};
+ghost use Rattle.go_syntax.specs.lexical.Quotes.{is_plain, sign_of, count_of};
 ghost use Rattle.go_lex.specs.CharacterFronts.{HasCounted, HasNoCounted, IsOctal, HasNoOctal, IsHexadecimal, IsPoint, HasNoPoint, IsPlain, HasNoPlain, BeginsCharacter, BeginsEscape, BeginsNoCharacter};
 
 use crate::digits::{digit_value, is_digit_of};
-use go_model::characters::first_char;
-use go_model::token::Meaning;
+use go_base::characters::first_char;
+use go_syntax::token::Meaning;
 
 /// A character or an escape: its length in bytes and what it stands for.
 #[derive(Clone, Copy)]

@@ -1,17 +1,17 @@
 //! The scanner, which goes over the bytes once.
 ghost use Rattle.std.specs.Prelude.{◌≡◌, ◌≤◌, ◌-◌, ℕ, List, length, drop, IfOk, IfErr};
-ghost use Rattle.go_model.specs.declared.token.Token.{Token};
-ghost use Rattle.go_model.specs.Headers.{without_mark};
-ghost use Rattle.go_model.specs.Lexemes.{CutTo, Lexeme, IsBadPlace};
-ghost use Rattle.go_model.specs.Tokens.{IsTokens};
+ghost use Rattle.go_syntax.specs.declared.token.Token.{Token};
+ghost use Rattle.go_base.specs.Comments.{without_mark};
+ghost use Rattle.go_syntax.specs.lexical.Lexemes.{CutTo, Lexeme, IsBadPlace};
+ghost use Rattle.go_syntax.specs.lexical.Tokens.{IsTokens};
 ghost use Rattle.go_lex.specs.Causes.{HasCause};
 
 use crate::bytes::past;
 use crate::emit::Emitter;
 use crate::error::LexError;
 use crate::front::front_of;
-use go_model::list::List;
-use go_model::token::Token;
+use go_base::list::List;
+use go_syntax::token::Token;
 use std::alloc::Global;
 
 /// The tokens of a file of at most 4,194,304 bytes, with the semicolons that newlines insert. A byte

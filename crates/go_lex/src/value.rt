@@ -1,9 +1,9 @@
 //! The values of tokens.
 ghost use Rattle.std.specs.Prelude.{◌≡◌, ◌≤◌, ◌<◌, ◌+◌, ◌*◌, ◌^◌, ◌++◌, ◌==◌, ℕ, List, not, length, IfOk, OnOk, SomeIff};
 ghost use Rattle.std.specs.List.{filter};
-ghost use Rattle.go_model.specs.Numbers.{value_from, integer_value};
-ghost use Rattle.go_model.specs.Quotes.{meaning_bytes, meaning_number, AreCharacters, raw_bytes};
-ghost use Rattle.go_model.specs.Lexemes.{number_value};
+ghost use Rattle.go_syntax.specs.lexical.Numbers.{value_from, integer_value};
+ghost use Rattle.go_syntax.specs.lexical.Quotes.{meaning_bytes, meaning_number, AreCharacters, raw_bytes};
+ghost use Rattle.go_syntax.specs.lexical.Lexemes.{number_value};
 ghost use Rattle.go_lex.specs.Only.{IsRune, IsRuneOf};
 ghost use Rattle.go_lex.specs.Values.{value_more};
 
@@ -11,9 +11,9 @@ use crate::bytes::past;
 use crate::digits::digit_value;
 use crate::number::base_of;
 use crate::quote::character_at;
-use go_model::memory::NoMemory;
-use go_model::text::Text;
-use go_model::token::{Meaning, TokenValue};
+use go_base::memory::NoMemory;
+use go_base::text::Text;
+use go_syntax::token::{Meaning, TokenValue};
 use std::alloc::Global;
 
 const LIMIT: u128 = 1 << 127;

@@ -1,8 +1,8 @@
 //! Places and values from Go's scanner, but for the rows that say otherwise.
 use go_lex::error::LexError;
 use go_lex::scan::scan;
-use go_model::list::List;
-use go_model::token::{Token, TokenValue};
+use go_base::list::List;
+use go_syntax::token::{Token, TokenValue};
 use std::alloc::Global;
 use std::test::Fail;
 

@@ -1,9 +1,9 @@
 -- Counting events, and the files that are taken.
 use Rattle.std.proofs.Common.{◌≡◌, ℕ, ◌≤◌, Bool, true, false, nat_le, if◌then◌else◌, Option, Some, None, List, [], ◌∷◌, ◌++◌, length, refl, sym, ap, ◌∙◌, subst, inl, inr, Result, Ok, Err, append_assoc}
-use Rattle.go_model.specs.Lists.{Has, Each}
-use Rattle.go_model.specs.Trees.{most, IsTreeFile}
-use Rattle.go_model.specs.declared.tree.TreeFile.{TreeFile}
-use Rattle.go_model.specs.declared.tree.LimitName.TheVariants as limit
+use Rattle.go_base.specs.Lists.{Has, Each}
+use Rattle.go_model.specs.files.Trees.{most, IsTreeFile}
+use Rattle.go_model.specs.declared.files.tree.TreeFile.{TreeFile}
+use Rattle.go_model.specs.declared.files.tree.LimitName.TheVariants as limit
 use Rattle.go_outside.specs.Paths.{Path}
 use Rattle.go_outside.specs.Stores.{Contents}
 use Rattle.go_load.specs.Names.{under}

@@ -3,8 +3,8 @@ use Rattle.std.proofs.Common.{◌≡◌, ℕ, Bool, true, false, not, ◌&&◌, 
 use mathlib.Core.Bool.{true≢false}
 use Rattle.std.specs.List.{list_any, list_all, slice_split, onto_first}
 use Rattle.std.proofs.lemmas.Bool.Decides.{Decides-eqb}
-use Rattle.go_model.specs.Lists.{Has, Ascending}
-use Rattle.go_model.specs.Trees.{is_element, is_element_byte, is_within, begins_element, are_elements, IsFolderPath}
+use Rattle.go_base.specs.Lists.{Has, Ascending}
+use Rattle.go_model.specs.files.Trees.{is_element, is_element_byte, is_within, begins_element, are_elements, IsFolderPath}
 use Rattle.go_outside.specs.declared.files.Entry.{Entry}
 use Rattle.go_outside.specs.declared.files.EntryKind.TheVariants as entry
 use Rattle.go_outside.specs.Paths.{Path, not_slash}

@@ -12,7 +12,7 @@ use Rattle.std.specs.declared.cmp.Ordering.TheVariants.{Less, Equal, Greater}
 use Rattle.std.specs.Cmp.Lexicographic.{slice_cmp}
 use Rattle.std.specs.FinMap.{slice_cmp-IsAntisymmetric, nat_cmp-IsAntisymmetric}
 use Rattle.std.specs.BTreeSet.{insert_key}
-use Rattle.go_model.specs.Lists.{Has, Each, Before, Ascending}
+use Rattle.go_base.specs.Lists.{Has, Each, Before, Ascending}
 use Rattle.go_outside.specs.Paths.{Path}
 use Rattle.go_outside.specs.declared.files.Entry.{Entry}
 use Rattle.go_load.specs.Steps.{Grows, IsAny}

@@ -6,7 +6,7 @@ use Rattle.std.specs.List.{list_all, slice_split, onto_first, prefix_len}
 use Rattle.std.proofs.Math.Seq.{take-append_seam}
 use Rattle.std.proofs.lemmas.List.{take-append-drop, length-append}
 use Rattle.std.proofs.lemmas.Slice.Eq.{bytes_eq-Decides}
-use Rattle.go_model.specs.Trees.{is_element_byte, is_element, is_within, begins_element, are_elements, IsModulePath}
+use Rattle.go_model.specs.files.Trees.{is_element_byte, is_element, is_within, begins_element, are_elements, IsModulePath}
 use Rattle.go_load.specs.GoMod.{second_word, IsWritten, before_comment}
 use Rattle.go_load.specs.Steps.{IsUnquoted, NamesModule}
 use Rattle.go_load.specs.Names.{begins}

@@ -1,9 +1,9 @@
 -- The answers of the loads over one store agree.
 use Rattle.std.proofs.Common.{◌≡◌, ℕ, ◌<◌, ◌≤◌, Option, Some, None, List, [], ◌∷◌, ◌++◌, length, get_or, refl, sym, ap, ◌∙◌, subst, inl, inr, Result, Ok, Err, arith}
-use Rattle.go_model.specs.Trees.{most, IsModulePath}
-use Rattle.go_model.specs.declared.tree.Tree.{Tree}
-use Rattle.go_model.specs.declared.tree.LimitName.{LimitName}
-use Rattle.go_model.specs.declared.tree.LimitName.TheVariants as limit
+use Rattle.go_model.specs.files.Trees.{most, IsModulePath}
+use Rattle.go_model.specs.declared.files.tree.Tree.{Tree}
+use Rattle.go_model.specs.declared.files.tree.LimitName.{LimitName}
+use Rattle.go_model.specs.declared.files.tree.LimitName.TheVariants as limit
 use Rattle.go_outside.specs.Paths.{Path}
 use Rattle.go_outside.specs.Stores.{Contents}
 use Rattle.go_load.specs.Names.{go_mod}

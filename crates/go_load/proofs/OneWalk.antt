@@ -7,8 +7,8 @@ use Rattle.std.specs.Cmp.Lexicographic.{slice_cmp}
 use Rattle.std.specs.FinMap.{slice_cmp-IsAntisymmetric, nat_cmp-IsAntisymmetric}
 use Rattle.std.proofs.lemmas.Cmp.{nat_list_cmp_total}
 use Rattle.std.proofs.lemmas.List.{length-append}
-use Rattle.go_model.specs.Lists.{Has, Each, Before, Ascending}
-use Rattle.go_model.specs.declared.tree.TreeFile.{TreeFile}
+use Rattle.go_base.specs.Lists.{Has, Each, Before, Ascending}
+use Rattle.go_model.specs.declared.files.tree.TreeFile.{TreeFile}
 use Rattle.go_outside.specs.Paths.{Path}
 use Rattle.go_outside.specs.Stores.{Contents}
 use Rattle.go_load.specs.Walk.{AreCandidates, IsNext, Event, folder_event, events_of, files_of, package_events, file_events, Walked, start, next, Reaches, before, within, IsWhole, Refusal, first_refusal, no_counts}

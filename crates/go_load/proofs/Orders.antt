@@ -8,8 +8,8 @@ use Rattle.std.specs.declared.cmp.Ordering.{Ordering}
 use Rattle.std.specs.declared.cmp.Ordering.TheVariants.{Less, Equal, Greater}
 use Rattle.std.specs.Cmp.Lexicographic.{slice_cmp}
 use Rattle.std.proofs.lemmas.Cmp.{nat_cmp_total, nat_list_cmp_total, tied_itself}
-use Rattle.go_model.specs.Lists.{Has, Before}
-use Rattle.go_model.specs.Trees.{is_element, begins_element}
+use Rattle.go_base.specs.Lists.{Has, Before}
+use Rattle.go_model.specs.files.Trees.{is_element, begins_element}
 use Rattle.go_outside.specs.Paths.{Path}
 use Rattle.go_load.specs.Names.{is_walked, under, place, entry_place}
 

@@ -7,7 +7,7 @@ use Rattle.std.proofs.lemmas.List.{take-append-drop, length-append}
 use Rattle.std.proofs.lemmas.Slice.Eq.{bytes_eq-Decides}
 use Rattle.std.proofs.lemmas.Bool.{ne_eqb}
 use Rattle.std.proofs.lemmas.Bool.Decides.{Decides-eqb}
-use Rattle.go_model.specs.Lists.{Has}
+use Rattle.go_base.specs.Lists.{Has}
 use Rattle.go_outside.specs.declared.files.Entry.{Entry}
 use Rattle.go_outside.specs.declared.files.EntryKind.TheVariants as kind
 use Rattle.go_outside.specs.Paths.{Path, after, after_slash, within, not_slash, entry_at, entry_of_rest, entry_of}

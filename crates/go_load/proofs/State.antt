@@ -1,7 +1,7 @@
 -- What the walk knows between two folders.
 use Rattle.std.proofs.Common.{◌≡◌, Option, Some, None, List, [], ◌∷◌, ◌++◌, refl, sym, ap, ◌∙◌, subst, ◌⊎◌, inl, inr, Ok, Err, append_assoc}
-use Rattle.go_model.specs.Lists.{Has, Before}
-use Rattle.go_model.specs.declared.tree.TreeFile.{TreeFile}
+use Rattle.go_base.specs.Lists.{Has, Before}
+use Rattle.go_model.specs.declared.files.tree.TreeFile.{TreeFile}
 use Rattle.go_outside.specs.Paths.{Path}
 use Rattle.go_outside.specs.Stores.{Contents, IsTold}
 use Rattle.go_load.specs.Names.{under, place}

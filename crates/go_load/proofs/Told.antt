@@ -4,9 +4,9 @@ use Rattle.std.specs.Prelude.{All}
 use Rattle.std.specs.Ordering.{nat_cmp}
 use Rattle.std.specs.declared.cmp.Ordering.TheVariants.{Less}
 use Rattle.std.specs.Cmp.Lexicographic.{slice_cmp}
-use Rattle.go_model.specs.Lists.{Has, Each, Ascending}
-use Rattle.go_model.specs.Trees.{most, IsTreeFile, IsFolderPath}
-use Rattle.go_model.specs.declared.tree.LimitName.TheVariants as limit
+use Rattle.go_base.specs.Lists.{Has, Each, Ascending}
+use Rattle.go_model.specs.files.Trees.{most, IsTreeFile, IsFolderPath}
+use Rattle.go_model.specs.declared.files.tree.LimitName.TheVariants as limit
 use Rattle.go_outside.specs.Faults.{Told}
 use Rattle.go_outside.specs.Paths.{Path, entry_of}
 use Rattle.go_outside.specs.Stores.{Contents, IsTold, AnswersList}

@@ -1,6 +1,6 @@
 -- That the answers of the loads over one store agree, but for a fault and want of memory.
 use Rattle.std.specs.Prelude.{◌≡◌, ◌⊎◌, Result, Ok, Err}
-use Rattle.go_model.specs.declared.tree.Tree.{Tree}
+use Rattle.go_model.specs.declared.files.tree.Tree.{Tree}
 use Rattle.go_load.specs.declared.error.LoadError.{LoadError}
 use Rattle.go_load.specs.declared.error.LoadError.TheVariants as error
 

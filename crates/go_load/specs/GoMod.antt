@@ -3,7 +3,7 @@
 -- in the form of one line; only newlines end lines, so a carriage return belongs to its line.
 use Rattle.std.specs.Prelude.{◌≡◌, ◌⊎◌, ℕ, Bool, true, not, ◌||◌, nat_eq, if◌then◌else◌, List, [], ◌∷◌, ◌++◌, take, drop, filter, codes}
 use Rattle.std.specs.List.{prefix_len, slice_split, list_all}
-use Rattle.go_model.specs.Trees.{IsModulePath}
+use Rattle.go_model.specs.files.Trees.{IsModulePath}
 use Rattle.go_load.specs.Names.{begins, is_text}
 
 -- a blank is a space or a tab

@@ -1,11 +1,11 @@
 -- What the loads of one tree answer.
 use Rattle.std.specs.Prelude.{◌≡◌, ◌≤◌, ◌<◌, ◌⊎◌, ℕ, Option, Some, None, List, [], length, Result, Ok, Err}
 use Rattle.std.specs.FinMap.{get}
-use Rattle.go_model.specs.Trees.{most}
-use Rattle.go_model.specs.declared.tree.Tree.{Tree}
-use Rattle.go_model.specs.declared.tree.TreeFile.{TreeFile}
-use Rattle.go_model.specs.declared.tree.LimitName.{LimitName}
-use Rattle.go_model.specs.declared.tree.LimitName.TheVariants as limit
+use Rattle.go_model.specs.files.Trees.{most}
+use Rattle.go_model.specs.declared.files.tree.Tree.{Tree}
+use Rattle.go_model.specs.declared.files.tree.TreeFile.{TreeFile}
+use Rattle.go_model.specs.declared.files.tree.LimitName.{LimitName}
+use Rattle.go_model.specs.declared.files.tree.LimitName.TheVariants as limit
 use Rattle.go_outside.specs.Faults.{Rose}
 use Rattle.go_outside.specs.Paths.{Path}
 use Rattle.go_outside.specs.Stores.{Contents}

@@ -4,7 +4,7 @@
 use Rattle.std.specs.Prelude.{Bool, not, ◌&&◌, ◌||◌, nat_eq, [], ◌∷◌, ◌++◌, codes}
 use Rattle.std.specs.Cmp.Lexicographic.{pointwise}
 use Rattle.std.specs.List.{starts_with, ends_with, list_any}
-use Rattle.go_model.specs.Trees.{is_element}
+use Rattle.go_model.specs.files.Trees.{is_element}
 use Rattle.go_outside.specs.Paths.{Path}
 
 -- a text begins or ends with another

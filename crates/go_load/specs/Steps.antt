@@ -1,10 +1,10 @@
 -- What the steps of a load do: words of the contracts inside this crate.
 use Rattle.std.specs.Prelude.{◌≡◌, ◌≢◌, ◌≤◌, ◌<◌, ◌⊎◌, ℕ, Bool, true, Option, Some, None, List, [], ◌∷◌, ◌++◌, length, map, Result, Ok, Err}
 use Rattle.std.specs.FinMap.{get}
-use Rattle.go_model.specs.Lists.{Has, Each, Ascending}
-use Rattle.go_model.specs.Trees.{most, IsModulePath, IsTreeFile, IsFolderPath}
-use Rattle.go_model.specs.declared.tree.TreeFile.{TreeFile}
-use Rattle.go_model.specs.declared.tree.LimitName.TheVariants as limit
+use Rattle.go_base.specs.Lists.{Has, Each, Ascending}
+use Rattle.go_model.specs.files.Trees.{most, IsModulePath, IsTreeFile, IsFolderPath}
+use Rattle.go_model.specs.declared.files.tree.TreeFile.{TreeFile}
+use Rattle.go_model.specs.declared.files.tree.LimitName.TheVariants as limit
 use Rattle.go_outside.specs.Paths.{Path}
 use Rattle.go_outside.specs.Stores.{Contents, IsListing, IsTold}
 use Rattle.go_outside.specs.declared.files.Entry.{Entry}

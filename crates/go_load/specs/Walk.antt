@@ -3,11 +3,11 @@
 -- That the answers over one store agree is stated at the public calls.
 use Rattle.std.specs.Prelude.{◌≡◌, ℕ, ◌+◌, Bool, true, false, nat_le, if◌then◌else◌, Option, Some, None, unwrap_or, List, [], ◌∷◌, ◌++◌, length, map}
 use Rattle.std.specs.FinMap.{get}
-use Rattle.go_model.specs.Lists.{Has, Ascending, Before}
-use Rattle.go_model.specs.Trees.{most}
-use Rattle.go_model.specs.declared.tree.TreeFile.{TreeFile}
-use Rattle.go_model.specs.declared.tree.LimitName.{LimitName}
-use Rattle.go_model.specs.declared.tree.LimitName.TheVariants as limit
+use Rattle.go_base.specs.Lists.{Has, Ascending, Before}
+use Rattle.go_model.specs.files.Trees.{most}
+use Rattle.go_model.specs.declared.files.tree.TreeFile.{TreeFile}
+use Rattle.go_model.specs.declared.files.tree.LimitName.{LimitName}
+use Rattle.go_model.specs.declared.files.tree.LimitName.TheVariants as limit
 use Rattle.go_outside.specs.Paths.{Path}
 use Rattle.go_outside.specs.Stores.{Contents, IsTold}
 use Rattle.go_load.specs.Names.{is_walked, is_candidate, go_mod, under, entry_place}

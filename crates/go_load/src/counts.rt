@@ -1,9 +1,9 @@
 //! What was counted of a tree so far.
 ghost use Rattle.std.specs.Prelude.{◌≡◌, ◌≤◌, ◌<◌, ◌+◌, ◌-◌, ◌^◌, min, true, false};
-ghost use Rattle.go_model.specs.Trees.{most};
+ghost use Rattle.go_model.specs.files.Trees.{most};
 ghost use Rattle.go_load.specs.Walk.{count_with, counts_with, no_counts};
 
-use go_model::tree::{
+use go_model::files::tree::{
     LimitName, MOST_BYTES, MOST_FILE_BYTES, MOST_FILES, MOST_FOLDERS, MOST_PACKAGES,
 };
 

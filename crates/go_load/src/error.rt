@@ -1,7 +1,7 @@
 //! Why a tree isn't loaded.
-use go_model::memory::NoMemory;
-use go_model::text::Text;
-use go_model::tree::LimitName;
+use go_base::memory::NoMemory;
+use go_base::text::Text;
+use go_model::files::tree::LimitName;
 use thiserror::Error;
 
 /// Why a tree isn't loaded. Paths are those below the root of the tree.

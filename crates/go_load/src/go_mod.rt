@@ -1,13 +1,13 @@
 //! The module line of a file `go.mod`.
 ghost use Rattle.std.specs.Prelude.{◌≡◌, ◌≤◌, ℕ, true, false, length, [], ◌∷◌, ◌++◌, IfSome, IfNone, List};
 ghost use Rattle.std.specs.List.{prefix_len, list_all};
-ghost use Rattle.go_model.specs.Trees.{IsModulePath};
+ghost use Rattle.go_model.specs.files.Trees.{IsModulePath};
 ghost use Rattle.go_load.specs.GoMod.{is_blank, is_visible, from_word, first_word, after_word, before_comment, is_module_line, module_lines, second_word, after_second, IsModuleOf};
 ghost use Rattle.go_load.specs.Steps.{IsUnquoted, NamesModule};
 
 use crate::error::LoadError;
 use crate::names::{cut, is_module_path};
-use go_model::text::Text;
+use go_base::text::Text;
 use std::alloc::Global;
 
 fn is_blank(byte: u8) -> bool

@@ -1,13 +1,13 @@
 //! The loads of trees.
 ghost use Rattle.std.specs.Prelude.{◌≡◌, [], List, ℕ, Result, Err, IfOk, IfErr};
-ghost use Rattle.go_model.specs.Trees.{IsTree, IsModulePath};
+ghost use Rattle.go_model.specs.files.Trees.{IsTree, IsModulePath};
 ghost use Rattle.go_outside.specs.Faults.{Told};
 ghost use Rattle.go_load.specs.Loads.{LoadsModule, LoadsFiles, LoadCause};
 ghost use Rattle.go_load.specs.Steps.{Parses, LacksModule, ReadsModule, IsOfWalk};
 ghost use Rattle.go_load.specs.Answers.{Agree};
 ghost use Rattle.go_outside.specs.Paths.{Path};
 ghost use Rattle.go_outside.specs.Stores.{Contents};
-ghost use Rattle.go_model.specs.declared.tree.Tree.{Tree};
+ghost use Rattle.go_model.specs.declared.files.tree.Tree.{Tree};
 ghost use Rattle.go_load.specs.declared.error.LoadError.{LoadError};
 ghost use Rattle.go_load.specs.declared.kind.TreeKind.{TreeKind};
 ghost use Rattle.go_load.specs.declared.kind.TreeKind.TheVariants as kind;
@@ -17,8 +17,8 @@ use crate::go_mod::module_of;
 use crate::kind::TreeKind;
 use crate::reads::{list, read};
 use crate::walk::walk;
-use go_model::text::Text;
-use go_model::tree::Tree;
+use go_base::text::Text;
+use go_model::files::tree::Tree;
 use go_outside::files::Files;
 use std::alloc::Global;
 

@@ -1,11 +1,11 @@
 //! Which names of entries the walk takes, and the paths of a tree in its store.
 ghost use Rattle.std.specs.Prelude.{◌≡◌, ◌<◌, ◌≤◌, ◌↔◌, ◌++◌, [], ◌∷◌, length, nat_eq, not, IsTrue, IfOk, IfSome, IfNone};
 ghost use Rattle.std.specs.List.{slice_split, prefix_len, list_all};
-ghost use Rattle.go_model.specs.Trees.{is_element_byte, begins_element, is_element, are_elements, IsModulePath};
+ghost use Rattle.go_model.specs.files.Trees.{is_element_byte, begins_element, is_element, are_elements, IsModulePath};
 ghost use Rattle.go_load.specs.Names.{is_hidden, is_walked, is_candidate, under, place};
 
-use go_model::memory::NoMemory;
-use go_model::text::Text;
+use go_base::memory::NoMemory;
+use go_base::text::Text;
 use std::alloc::Global;
 
 fn length_before(bytes: &[u8], separator: u8) -> usize
@@ -30,14 +30,14 @@ pub(crate) fn cut(bytes: &[u8], separator: u8) -> Option<(&[u8], &[u8])>
     Some((front, rest))
 }
 
-#[tactic(auto, unfolding(go_model::specs::Trees::is_element_byte, go_model::specs::Trees::is_within))]
+#[tactic(auto, unfolding(go_model::specs::files::Trees::is_element_byte, go_model::specs::files::Trees::is_within))]
 fn is_element_byte(byte: u8) -> bool
     ensures { result ≡ is_element_byte byte }
 {
     matches!(byte, b'a'..=b'z' | b'A'..=b'Z' | b'0'..=b'9' | b'-' | b'.' | b'_' | b'~')
 }
 
-#[tactic(auto, unfolding(go_model::specs::Trees::begins_element))]
+#[tactic(auto, unfolding(go_model::specs::files::Trees::begins_element))]
 fn begins_element(name: &[u8]) -> bool
     ensures { result ≡ begins_element name.now }
 {
@@ -51,7 +51,7 @@ fn has_element_bytes(name: &[u8]) -> bool
 }
 
 /// Whether a name is an element of a path.
-#[tactic(auto, unfolding(go_model::specs::Trees::is_element))]
+#[tactic(auto, unfolding(go_model::specs::files::Trees::is_element))]
 fn is_element(name: &[u8]) -> bool
     ensures { result ≡ is_element name.now }
 {

@@ -5,13 +5,13 @@ ghost use Rattle.go_outside.specs.Faults.{Told};
 ghost use Rattle.go_load.specs.Names.{under};
 ghost use Rattle.go_load.specs.Loads.{LoadCause};
 ghost use Rattle.go_load.specs.Steps.{Reads, Lists, IsOfWalk, IsRefusal};
-ghost use Rattle.go_model.specs.declared.tree.TheConstants.{MOST_FILE_BYTES};
+ghost use Rattle.go_model.specs.declared.files.tree.TheConstants.{MOST_FILE_BYTES};
 
 use crate::error::LoadError;
 use crate::names::{joined, under};
-use go_model::list::List;
-use go_model::text::Text;
-use go_model::tree::{LimitName, MOST_FILE_BYTES};
+use go_base::list::List;
+use go_base::text::Text;
+use go_model::files::tree::{LimitName, MOST_FILE_BYTES};
 use go_outside::files::{Entry, Files, FilesError};
 use std::alloc::Global;
 

@@ -1,23 +1,23 @@
 //! The walk over the folders of a tree.
 ghost use Rattle.std.specs.Prelude.{◌≡◌, ◌≤◌, ◌≢◌, ◌++◌, ◌↔◌, [], ◌∷◌, length, true, false, IsTrue, IfOk, IfErr, OnOk};
-ghost use Rattle.go_model.specs.Lists.{Has, Each, Ascending};
-ghost use Rattle.go_model.specs.Trees.{IsTreeFile, IsFolderPath, most};
+ghost use Rattle.go_base.specs.Lists.{Has, Each, Ascending};
+ghost use Rattle.go_model.specs.files.Trees.{IsTreeFile, IsFolderPath, most};
 ghost use Rattle.go_outside.specs.Faults.{Told};
 ghost use Rattle.go_load.specs.Names.{under, go_mod};
 ghost use Rattle.go_load.specs.Walk.{event, file_events, count_with, counts_with};
 ghost use Rattle.go_load.specs.Loads.{LoadCause, Walks};
 ghost use Rattle.go_load.specs.Steps.{IsOfWalk, Counted, Grows, is_wanted, IsNameOf, IsName, IsWalked, IsSubOf, IsSub, Enters, ListsModule, package_of, Takes, TakesAll, IsKept, Visits, ArePlaced, file_entry};
-ghost use Rattle.go_model.specs.declared.tree.TheConstants.{MOST_FILES};
+ghost use Rattle.go_model.specs.declared.files.tree.TheConstants.{MOST_FILES};
 
 use crate::counts::Counts;
 use crate::error::LoadError;
 use crate::kind::TreeKind;
 use crate::names::{is_candidate, is_walked, place, under};
 use crate::reads::{list, read};
-use go_model::list::List;
-use go_model::memory::NoMemory;
-use go_model::text::Text;
-use go_model::tree::{LimitName, TreeFile};
+use go_base::list::List;
+use go_base::memory::NoMemory;
+use go_base::text::Text;
+use go_model::files::tree::{LimitName, TreeFile};
 use go_outside::files::{Entry, EntryKind, Files};
 use std::alloc::Global;
 use std::collections::BTreeSet;

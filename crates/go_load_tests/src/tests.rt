@@ -3,10 +3,10 @@ ghost use Rattle.std.specs.Prelude.{◌≡◌, None};
 
 use go_load::error::LoadError;
 use go_load::load::{load_client, load_module, load_std};
-use go_model::list::List;
-use go_model::memory::NoMemory;
-use go_model::text::Text;
-use go_model::tree::{LimitName, MOST_FILE_BYTES, MOST_FILES, MOST_FOLDERS, MOST_PACKAGES, Tree};
+use go_base::list::List;
+use go_base::memory::NoMemory;
+use go_base::text::Text;
+use go_model::files::tree::{LimitName, MOST_FILE_BYTES, MOST_FILES, MOST_FOLDERS, MOST_PACKAGES, Tree};
 use go_outside::failing_files::FailingFiles;
 use go_outside::files::{Entry, EntryKind, Files, FilesError};
 use go_outside::memory_files::{FilePair, MemoryFiles};

@@ -3,10 +3,10 @@ use Rattle.std.proofs.Common.{◌≡◌, ℕ, Bool, true, false, List, refl, sym
 use mathlib.Core.Bool.{true≢false}
 use Rattle.std.specs.declared.result.Result.{Result}
 use Rattle.std.specs.declared.result.Result.TheVariants.{Ok, Err}
-use Rattle.go_model.specs.declared.memory.NoMemory.{NoMemory}
+use Rattle.go_base.specs.declared.memory.NoMemory.{NoMemory}
 use Rattle.go_model.specs.declared.types.package.Package.{Package}
-use Rattle.go_model.specs.Keys.{placed}
-use Rattle.go_model.specs.Worlds.{Packages, IsWorld, with_package, path_of}
+use Rattle.go_base.specs.Keys.{placed}
+use Rattle.go_model.specs.worlds.Worlds.{Packages, IsWorld, with_package, path_of}
 
 abbrev pub made : List Package → List (List ℕ) → Packages
 made packages publics = record { packages = packages; publics = publics }

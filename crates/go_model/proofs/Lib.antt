@@ -1,5 +1,1 @@
 pub mod AddedPackages
-pub mod Fronts
-pub mod Lists
-pub mod Ordered
-pub mod Runs

@@ -1,19 +1,7 @@
-//! The vocabulary of the gate: small containers, characters, tokens, the syntax of Go, values, kinds and types,
-//! platforms and trees of files, which its layers share.
+//! What the layers above tokens and trees speak of: constants, types and packages after typing, and trees of
+//! files with their platforms and headers.
 #![tactic(auto)]
 
-pub mod boxed;
-pub mod build;
-pub mod characters;
-pub mod class;
-pub mod front;
-pub mod list;
-pub mod memory;
-pub mod platform;
-pub mod steps;
-pub mod syntax;
-pub mod text;
-pub mod token;
-pub mod tree;
+pub mod constants;
+pub mod files;
 pub mod types;
-pub mod value;

@@ -4,7 +4,7 @@ use Rattle.std.proofs.Common.{◌≡◌, ◌≢◌, ℕ, zero, suc, ◌<◌, ◌
 use Rattle.std.specs.List.Sorted.{IsPermutation}
 use Rattle.std.proofs.lemmas.Bool.Decides.{Decides-eqb}
 use Rattle.std.proofs.lemmas.List.Sorted.{Contains-permutation}
-use Rattle.go_model.specs.Lists.{Has, Once}
+use Rattle.go_base.specs.Lists.{Has, Once}
 
 -- two places stand one below the other, or not
 pub by_place : (j at : ℕ) → (j < at) ⊎ (at ≤ j)

@@ -5,7 +5,7 @@ use Rattle.std.specs.List.Sorted.{IsPermutation}
 use Rattle.std.proofs.lemmas.List.Sorted.{IsPermutation-sym, sum_by-IsPermutation}
 use Rattle.std.specs.Cmp.Lexicographic.{pointwise}
 use Rattle.std.proofs.Common.{cond, nat_eq}
-use Rattle.go_model.specs.Lists.{Has}
+use Rattle.go_base.specs.Lists.{Has}
 use Rattle.go_outside.specs.declared.files.Entry.{Entry}
 use Rattle.go_outside.specs.declared.memory_files.FilePair.{FilePair}
 use Rattle.go_outside.specs.Paths.{Path, entry_of}

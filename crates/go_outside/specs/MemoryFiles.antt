@@ -2,7 +2,7 @@
 use Rattle.std.specs.Prelude.{◌≡◌, ◌≢◌, ◌≤◌, ◌⊎◌, ◌↔◌, ℕ, nat_eq, Some, None, List, map, count_by}
 use Rattle.std.specs.Cmp.Lexicographic.{pointwise}
 use Rattle.std.specs.FinMap.{get, from_entries}
-use Rattle.go_model.specs.Lists.{Has, Before}
+use Rattle.go_base.specs.Lists.{Has, Before}
 use Rattle.go_outside.specs.declared.memory_files.FilePair.{FilePair}
 use Rattle.go_outside.specs.declared.memory_files.MemoryFilesError.{MemoryFilesError}
 use Rattle.go_outside.specs.declared.memory_files.MemoryFilesError.TheVariants as error

@@ -3,7 +3,7 @@ use Rattle.std.specs.Prelude.{◌≡◌, ◌≢◌, ◌≤◌, ◌<◌, ℕ, Opt
 use Rattle.std.specs.Ordering.{nat_cmp}
 use Rattle.std.specs.Cmp.Lexicographic.{slice_cmp}
 use Rattle.std.specs.FinMap.{FinMap, get}
-use Rattle.go_model.specs.Lists.{Has, Once}
+use Rattle.go_base.specs.Lists.{Has, Once}
 use Rattle.go_outside.specs.declared.files.Entry.{Entry}
 use Rattle.go_outside.specs.declared.files.FilesError.{FilesError}
 use Rattle.go_outside.specs.declared.files.FilesError.TheVariants.{Missing, TooLarge, Failed, NoMemory}

@@ -7,8 +7,8 @@ ghost use Rattle.go_outside.specs.Failing.{fails_next, called};
 use crate::call_numbers::count_call;
 use crate::files::{Entry, Files, FilesError};
 use crate::memory_files::MemoryFiles;
-use go_model::list::List;
-use go_model::text::Text;
+use go_base::list::List;
+use go_base::text::Text;
 use std::alloc::Global;
 use std::marker::Model;
 

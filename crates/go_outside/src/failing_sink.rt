@@ -6,7 +6,7 @@ ghost use Rattle.go_outside.specs.Failing.{fails_next, all_faults, wrote};
 use crate::call_numbers::count_call;
 use crate::memory_sink::MemorySink;
 use crate::sink::{Sink, SinkError};
-use go_model::list::List;
+use go_base::list::List;
 use std::marker::Model;
 
 /// A sink in memory that fails the writes whose numbers, from 1, it was given, and those that pass

@@ -4,9 +4,9 @@ ghost use Rattle.std.specs.FinMap as map;
 ghost use Rattle.go_outside.specs.Faults.{Told};
 ghost use Rattle.go_outside.specs.Stores.{Contents, AnswersList, AnswersRead, FilesCause};
 
-use go_model::list::List;
-use go_model::memory::NoMemory;
-use go_model::text::Text;
+use go_base::list::List;
+use go_base::memory::NoMemory;
+use go_base::text::Text;
 use std::alloc::Global;
 use thiserror::Error;
 

@@ -3,8 +3,8 @@ ghost use Rattle.std.specs.Prelude.{◌≡◌, ◌≢◌, ◌≤◌, ℕ, None, 
 ghost use Rattle.go_outside.specs.Faults.{one_more};
 
 use crate::files::{Entry, EntryKind, Files, FilesError};
-use go_model::list::List;
-use go_model::text::Text;
+use go_base::list::List;
+use go_base::text::Text;
 use std::alloc::Global;
 use std::fs::{DirEntry, File};
 use std::io::{ErrorKind, Read};

@@ -10,9 +10,9 @@ mod listing;
 mod search;
 
 use crate::files::{Entry, Files, FilesError};
-use go_model::list::List;
-use go_model::memory::NoMemory;
-use go_model::text::Text;
+use go_base::list::List;
+use go_base::memory::NoMemory;
+use go_base::text::Text;
 use std::alloc::Global;
 use std::marker::Model;
 use thiserror::Error;

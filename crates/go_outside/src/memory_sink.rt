@@ -4,7 +4,7 @@ ghost use Rattle.go_outside.specs.Sinks.{AnswersWrite, SinkCause};
 ghost use Rattle.go_outside.specs.MemorySink.{State, IsWithin, empty, written};
 
 use crate::sink::{Sink, SinkError};
-use go_model::memory::NoMemory;
+use go_base::memory::NoMemory;
 use std::alloc::Global;
 use std::marker::Model;
 

@@ -4,8 +4,8 @@ ghost use Rattle.std.specs.List.{prefix_len};
 ghost use Rattle.go_outside.specs.Paths.{within, entry_of, entry_of_rest, entry_at, not_slash};
 
 use crate::files::{Entry, EntryKind};
-use go_model::memory::NoMemory;
-use go_model::text::Text;
+use go_base::memory::NoMemory;
+use go_base::text::Text;
 use std::alloc::Global;
 
 // What follows the folder's name and a slash.

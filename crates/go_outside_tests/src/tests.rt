@@ -1,7 +1,7 @@
 //! Stores and sinks in memory, failing ones, and those of the host.
 mod memory_files {
-    use go_model::list::List;
-    use go_model::text::Text;
+    use go_base::list::List;
+    use go_base::text::Text;
     use go_outside::files::{Entry, EntryKind, Files, FilesError};
     use go_outside::memory_files::{FilePair, MemoryFiles, MemoryFilesError};
     use std::alloc::Global;
@@ -135,8 +135,8 @@ mod memory_sink {
 }
 
 mod failing_files {
-    use go_model::list::List;
-    use go_model::text::Text;
+    use go_base::list::List;
+    use go_base::text::Text;
     use go_outside::failing_files::FailingFiles;
     use go_outside::files::Files;
     use go_outside::memory_files::{FilePair, MemoryFiles};
@@ -164,7 +164,7 @@ mod failing_files {
 }
 
 mod failing_sink {
-    use go_model::list::List;
+    use go_base::list::List;
     use go_outside::failing_sink::FailingSink;
     use go_outside::memory_sink::MemorySink;
     use go_outside::sink::Sink;

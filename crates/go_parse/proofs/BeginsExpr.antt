@@ -1,19 +1,19 @@
 -- With what terminals an expression begins.
 use Rattle.std.proofs.Common.{◌≡◌, ℕ, List, [], ◌∷◌, Bool, true, false, not, Some, None, refl, ap}
-use Rattle.go_model.specs.declared.syntax.expression.Element.{Element}
-use Rattle.go_model.specs.declared.syntax.expression.ElementValue.{ElementValue}
-use Rattle.go_model.specs.declared.syntax.expression.Expr.{Expr}
-use Rattle.go_model.specs.declared.syntax.expression.Literal.{Literal}
-use Rattle.go_model.specs.declared.syntax.name.Name.{Name}
-use Rattle.go_model.specs.declared.syntax.operator.PrefixOperator.{PrefixOperator}
-use Rattle.go_model.specs.declared.syntax.statement.Block.{Block}
-use Rattle.go_model.specs.declared.syntax.types.«Type».{«Type» as Typ}
-use Rattle.go_model.specs.declared.token.TokenKind.{TokenKind}
-use Rattle.go_model.specs.declared.token.TokenKind.TheVariants as kind
-use Rattle.go_model.specs.Grammar as grammar
-use Rattle.go_model.specs.Grammar.{prefix_operator, is_receive_type}
-use Rattle.go_model.specs.Symbols.{Rule, takes, takes_name, takes_literal, begins, closes, sign_at}
-use Rattle.go_model.specs.Terminals.{Terminal, Sign, Identifier, Basic, Extent}
+use Rattle.go_syntax.specs.declared.expression.Element.{Element}
+use Rattle.go_syntax.specs.declared.expression.ElementValue.{ElementValue}
+use Rattle.go_syntax.specs.declared.expression.Expr.{Expr}
+use Rattle.go_syntax.specs.declared.expression.Literal.{Literal}
+use Rattle.go_syntax.specs.declared.name.Name.{Name}
+use Rattle.go_base.specs.declared.operator.PrefixOperator.{PrefixOperator}
+use Rattle.go_syntax.specs.declared.statement.Block.{Block}
+use Rattle.go_syntax.specs.declared.types.«Type».{«Type» as Typ}
+use Rattle.go_syntax.specs.declared.token.TokenKind.{TokenKind}
+use Rattle.go_syntax.specs.declared.token.TokenKind.TheVariants as kind
+use Rattle.go_syntax.specs.grammar.Grammar as grammar
+use Rattle.go_syntax.specs.grammar.Grammar.{prefix_operator, is_receive_type}
+use Rattle.go_syntax.specs.grammar.Symbols.{Rule, takes, takes_name, takes_literal, begins, closes, sign_at}
+use Rattle.go_syntax.specs.grammar.Terminals.{Terminal, Sign, Identifier, Basic, Extent}
 use Rattle.go_parse.specs.Rules.{begins_receive, operator_at}
 
 -- the first terminal of an operand

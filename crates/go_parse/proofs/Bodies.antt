@@ -1,11 +1,11 @@
 -- What is known of bodies that are balanced, and so of those that are skipped.
 use Rattle.std.proofs.Common.{◌≡◌, ℕ, List, true, Some, refl}
-use Rattle.go_model.specs.declared.syntax.statement.Block.{Block}
-use Rattle.go_model.specs.declared.token.TokenKind.TheVariants as kind
-use Rattle.go_model.specs.Brackets.{IsSkipped, skipped}
-use Rattle.go_model.specs.SourceFiles.{Skips}
-use Rattle.go_model.specs.Symbols.{Rule, begins}
-use Rattle.go_model.specs.Terminals.{Terminal}
+use Rattle.go_syntax.specs.declared.statement.Block.{Block}
+use Rattle.go_syntax.specs.declared.token.TokenKind.TheVariants as kind
+use Rattle.go_syntax.specs.grammar.Brackets.{IsSkipped, skipped}
+use Rattle.go_syntax.specs.grammar.SourceFiles.{Skips}
+use Rattle.go_syntax.specs.grammar.Symbols.{Rule, begins}
+use Rattle.go_syntax.specs.grammar.Terminals.{Terminal}
 use Rattle.go_parse.specs.Skipping.{skipped_body}
 use Rattle.go_parse.proofs.Ahead.{composite_ahead}
 use Rattle.go_parse.proofs.Balanced.{Balances}

@@ -4,27 +4,27 @@ use Rattle.std.specs.Bool.{Decides}
 use Rattle.std.specs.Prelude.{codes}
 use Rattle.std.proofs.Common.{◌≡◌, ◌≢◌, ℕ, zero, suc, ◌≤◌, ◌<◌, List, [], ◌∷◌, ◌++◌, length, Bool, true, false, Option, Some, None, refl, sym, ap, ◌∙◌, append_assoc, append-nil, arith}
 use Rattle.std.proofs.lemmas.Slice.Eq.{bytes_eq-Decides}
-use Rattle.go_model.specs.declared.syntax.declaration.ConstSpec.{ConstSpec}
-use Rattle.go_model.specs.declared.syntax.declaration.Decl.{Decl}
-use Rattle.go_model.specs.declared.syntax.declaration.Decl.TheVariants as decl
-use Rattle.go_model.specs.declared.syntax.declaration.File.{File}
-use Rattle.go_model.specs.declared.syntax.declaration.Func.{Func}
-use Rattle.go_model.specs.declared.syntax.declaration.ImportSpec.{ImportSpec}
-use Rattle.go_model.specs.declared.syntax.declaration.TypeSpec.{TypeSpec}
-use Rattle.go_model.specs.declared.syntax.declaration.VarSpec.{VarSpec}
-use Rattle.go_model.specs.declared.syntax.expression.Expr.{Expr}
-use Rattle.go_model.specs.declared.syntax.name.Name.{Name}
-use Rattle.go_model.specs.declared.syntax.statement.Block.{Block}
-use Rattle.go_model.specs.declared.syntax.types.ParameterDecl.{ParameterDecl}
-use Rattle.go_model.specs.declared.token.TokenKind.TheVariants as kind
-use Rattle.go_model.specs.Declarations.{constants, variables, IsSpecs, specs_none, specs_more, IsGroup, group_one, group_specs, IsConstSpec, const_names, const_values, const_typed, IsVarSpec, var_type, var_values, var_typed, IsTypeSpec, type_definition, type_alias, IsReceiver, receiver_none, receiver_some, IsOptionalBody, body_none, body_some, IsFunc, IsDecl, decl_const, decl_var, decl_type, decl_func}
-use Rattle.go_model.specs.Declarations as d
-use Rattle.go_model.specs.Grammar as g
-use Rattle.go_model.specs.Grammar.{IsNames, IsType, IsExprs, IsParameters, IsSignature, is_variadic, at_most_one}
-use Rattle.go_model.specs.SourceFiles.{source_file, IsImportSpec, import_plain, import_named, IsImports, imports_none, imports_more, IsDecls, decls_none, decls_more, IsSourceFile}
-use Rattle.go_model.specs.SourceFiles as f
-use Rattle.go_model.specs.Symbols.{Rule, Takes, takes, TakesName, takes_name, takes_string, Ends, ends_semicolon, ends_closing, begins, begins_type, closes}
-use Rattle.go_model.specs.Terminals.{Terminal, Sign, Identifier}
+use Rattle.go_syntax.specs.declared.declaration.ConstSpec.{ConstSpec}
+use Rattle.go_syntax.specs.declared.declaration.Decl.{Decl}
+use Rattle.go_syntax.specs.declared.declaration.Decl.TheVariants as decl
+use Rattle.go_syntax.specs.declared.declaration.File.{File}
+use Rattle.go_syntax.specs.declared.declaration.Func.{Func}
+use Rattle.go_syntax.specs.declared.declaration.ImportSpec.{ImportSpec}
+use Rattle.go_syntax.specs.declared.declaration.TypeSpec.{TypeSpec}
+use Rattle.go_syntax.specs.declared.declaration.VarSpec.{VarSpec}
+use Rattle.go_syntax.specs.declared.expression.Expr.{Expr}
+use Rattle.go_syntax.specs.declared.name.Name.{Name}
+use Rattle.go_syntax.specs.declared.statement.Block.{Block}
+use Rattle.go_syntax.specs.declared.types.ParameterDecl.{ParameterDecl}
+use Rattle.go_syntax.specs.declared.token.TokenKind.TheVariants as kind
+use Rattle.go_syntax.specs.grammar.Declarations.{constants, variables, IsSpecs, specs_none, specs_more, IsGroup, group_one, group_specs, IsConstSpec, const_names, const_values, const_typed, IsVarSpec, var_type, var_values, var_typed, IsTypeSpec, type_definition, type_alias, IsReceiver, receiver_none, receiver_some, IsOptionalBody, body_none, body_some, IsFunc, IsDecl, decl_const, decl_var, decl_type, decl_func}
+use Rattle.go_syntax.specs.grammar.Declarations as d
+use Rattle.go_syntax.specs.grammar.Grammar as g
+use Rattle.go_syntax.specs.grammar.Grammar.{IsNames, IsType, IsExprs, IsParameters, IsSignature, is_variadic, at_most_one}
+use Rattle.go_syntax.specs.grammar.SourceFiles.{source_file, IsImportSpec, import_plain, import_named, IsImports, imports_none, imports_more, IsDecls, decls_none, decls_more, IsSourceFile}
+use Rattle.go_syntax.specs.grammar.SourceFiles as f
+use Rattle.go_syntax.specs.grammar.Symbols.{Rule, Takes, takes, TakesName, takes_name, takes_string, Ends, ends_semicolon, ends_closing, begins, begins_type, closes}
+use Rattle.go_syntax.specs.grammar.Terminals.{Terminal, Sign, Identifier}
 use Rattle.go_parse.specs.Declarations.{spec_item, specs, alone, group, values, typed_const, const_end, const_spec, typed_var, var_end, var_spec, type_end, type_spec, only_receiver, receiver, optional_body, func_end, func, with_semicolon, decl_item, decls, import_path, import_spec, import_item, put_all, step_all, imports, package_name, package_clause, file}
 use Rattle.go_parse.specs.Reading.{Found, Reader, Next, Stop, More, bind, after, turn, loop, step_of, expect, close, ended}
 use Rattle.go_parse.specs.Rules.{Parts, names, exprs, parameters}

@@ -1,11 +1,11 @@
 -- The readers of trees of a height below a number find each of them.
 use Rattle.std.proofs.Common.{◌≡◌, ℕ, zero, suc, List, Bool, false, Some, refl}
-use Rattle.go_model.specs.declared.syntax.expression.Expr.{Expr}
-use Rattle.go_model.specs.declared.syntax.statement.Block.{Block}
-use Rattle.go_model.specs.declared.syntax.types.ParameterDecl.{ParameterDecl}
-use Rattle.go_model.specs.Grammar as grammar
-use Rattle.go_model.specs.Symbols.{Rule}
-use Rattle.go_model.specs.Terminals.{Terminal}
+use Rattle.go_syntax.specs.declared.expression.Expr.{Expr}
+use Rattle.go_syntax.specs.declared.statement.Block.{Block}
+use Rattle.go_syntax.specs.declared.types.ParameterDecl.{ParameterDecl}
+use Rattle.go_syntax.specs.grammar.Grammar as grammar
+use Rattle.go_syntax.specs.grammar.Symbols.{Rule}
+use Rattle.go_syntax.specs.grammar.Terminals.{Terminal}
 use Rattle.go_parse.specs.Reading.{Reader, goes_on}
 use Rattle.go_parse.specs.Rules.{Parts, parts, parameters, exprs, expr_of, typ_of}
 use Rattle.go_parse.proofs.CompleteLiterals.{literal_read}

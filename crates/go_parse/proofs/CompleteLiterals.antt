@@ -1,12 +1,12 @@
 -- Each composite literal's braces, with the elements in them, are found.
 use Rattle.std.proofs.Common.{◌≡◌, ℕ, suc, List, [], ◌∷◌, ◌++◌, true, false, not, Some, refl, ap, arith}
-use Rattle.go_model.specs.declared.syntax.expression.Element.{Element}
-use Rattle.go_model.specs.declared.syntax.expression.ElementValue.{ElementValue}
-use Rattle.go_model.specs.declared.syntax.statement.Block.{Block}
-use Rattle.go_model.specs.declared.token.TokenKind.TheVariants as kind
-use Rattle.go_model.specs.Grammar as grammar
-use Rattle.go_model.specs.Symbols.{Rule, Takes, takes, MayTake, takes_none, takes_one, begins}
-use Rattle.go_model.specs.Terminals.{Terminal, Sign}
+use Rattle.go_syntax.specs.declared.expression.Element.{Element}
+use Rattle.go_syntax.specs.declared.expression.ElementValue.{ElementValue}
+use Rattle.go_syntax.specs.declared.statement.Block.{Block}
+use Rattle.go_syntax.specs.declared.token.TokenKind.TheVariants as kind
+use Rattle.go_syntax.specs.grammar.Grammar as grammar
+use Rattle.go_syntax.specs.grammar.Symbols.{Rule, Takes, takes, MayTake, takes_none, takes_one, begins}
+use Rattle.go_syntax.specs.grammar.Terminals.{Terminal, Sign}
 use Rattle.go_parse.specs.Reading.{after, step_of, expect}
 use Rattle.go_parse.specs.Rules.{Parts, element_value, element_of, element_item, elements, literal_value_of}
 use Rattle.go_parse.proofs.Begins.{read, if_so, if_not, Gives, gives_stop, gives_more, runs, comma_stops_brace, closing_comma_brace}

@@ -1,11 +1,11 @@
 -- Each list of names, each type's name and each tag is found.
 use Rattle.std.proofs.Common.{◌≡◌, ℕ, List, [], ◌∷◌, ◌++◌, false, Option, Some, None, refl, ap, arith}
-use Rattle.go_model.specs.declared.syntax.name.Name.{Name}
-use Rattle.go_model.specs.declared.syntax.name.QualifiedName.{QualifiedName}
-use Rattle.go_model.specs.declared.token.TokenKind.TheVariants as kind
-use Rattle.go_model.specs.Grammar as grammar
-use Rattle.go_model.specs.Symbols.{takes, takes_name, takes_string, begins}
-use Rattle.go_model.specs.Terminals.{Terminal, Sign, Identifier}
+use Rattle.go_syntax.specs.declared.name.Name.{Name}
+use Rattle.go_syntax.specs.declared.name.QualifiedName.{QualifiedName}
+use Rattle.go_syntax.specs.declared.token.TokenKind.TheVariants as kind
+use Rattle.go_syntax.specs.grammar.Grammar as grammar
+use Rattle.go_syntax.specs.grammar.Symbols.{takes, takes_name, takes_string, begins}
+use Rattle.go_syntax.specs.grammar.Terminals.{Terminal, Sign, Identifier}
 use Rattle.go_parse.specs.Reading.{step_of, string_at}
 use Rattle.go_parse.specs.Rules.{name_item, names, type_name, tag_of, tag}
 use Rattle.go_parse.proofs.Begins.{if_not, Gives, gives_stop, gives_more, runs}

@@ -1,16 +1,16 @@
 -- What it is for readers of parts to find each tree, and what must not follow an expression.
 use Rattle.std.proofs.Common.{◌≡◌, ℕ, zero, suc, List, [], ◌∷◌, Bool, true, false, if◌then◌else◌, Some, None, refl}
-use Rattle.go_model.specs.declared.syntax.expression.Element.{Element}
-use Rattle.go_model.specs.declared.syntax.expression.Expr.{Expr}
-use Rattle.go_model.specs.declared.syntax.statement.Block.{Block}
-use Rattle.go_model.specs.declared.syntax.types.Signature.{Signature}
-use Rattle.go_model.specs.declared.syntax.types.«Type».{«Type» as Typ}
-use Rattle.go_model.specs.declared.token.TokenKind.TheVariants as kind
-use Rattle.go_model.specs.Brackets.{IsSkipped, skipped}
-use Rattle.go_model.specs.SourceFiles.{Skips}
-use Rattle.go_model.specs.Grammar.{IsType, IsCompositeType, IsSignature, IsExpr, IsUnary, IsLiteralValue, comparison, sum_operator, product_operator}
-use Rattle.go_model.specs.Symbols.{Rule, takes, Ends, ends_semicolon, ends_closing, begins, closes, sign_at}
-use Rattle.go_model.specs.Terminals.{Terminal, Sign, Extent}
+use Rattle.go_syntax.specs.declared.expression.Element.{Element}
+use Rattle.go_syntax.specs.declared.expression.Expr.{Expr}
+use Rattle.go_syntax.specs.declared.statement.Block.{Block}
+use Rattle.go_syntax.specs.declared.types.Signature.{Signature}
+use Rattle.go_syntax.specs.declared.types.«Type».{«Type» as Typ}
+use Rattle.go_syntax.specs.declared.token.TokenKind.TheVariants as kind
+use Rattle.go_syntax.specs.grammar.Brackets.{IsSkipped, skipped}
+use Rattle.go_syntax.specs.grammar.SourceFiles.{Skips}
+use Rattle.go_syntax.specs.grammar.Grammar.{IsType, IsCompositeType, IsSignature, IsExpr, IsUnary, IsLiteralValue, comparison, sum_operator, product_operator}
+use Rattle.go_syntax.specs.grammar.Symbols.{Rule, takes, Ends, ends_semicolon, ends_closing, begins, closes, sign_at}
+use Rattle.go_syntax.specs.grammar.Terminals.{Terminal, Sign, Extent}
 use Rattle.go_parse.specs.Rules.{Parts, operator_at, begins_type_switch}
 use Rattle.go_parse.specs.Skipping.{is_composite}
 use Rattle.go_parse.proofs.Shorter.{Shortens, skipped_shorter}

@@ -1,15 +1,15 @@
 -- Each list of parameters and each signature is found.
 use Rattle.std.proofs.Common.{◌≡◌, ℕ, List, [], ◌∷◌, ◌++◌, true, false, not, if◌then◌else◌, Some, refl, ap, ◌∙◌, arith}
-use Rattle.go_model.specs.declared.syntax.name.Name.{Name}
-use Rattle.go_model.specs.declared.syntax.statement.Block.{Block}
-use Rattle.go_model.specs.declared.syntax.types.ParameterDecl.{ParameterDecl}
-use Rattle.go_model.specs.declared.syntax.types.Signature.{Signature}
-use Rattle.go_model.specs.declared.syntax.types.«Type».{«Type» as Typ}
-use Rattle.go_model.specs.declared.token.TokenKind.TheVariants as kind
-use Rattle.go_model.specs.Grammar as grammar
-use Rattle.go_model.specs.Grammar.{last_variadic}
-use Rattle.go_model.specs.Symbols.{Rule, Takes, takes, MayTake, takes_none, takes_one, takes_name, begins, begins_type, closes}
-use Rattle.go_model.specs.Terminals.{Terminal, Sign, Identifier, Extent}
+use Rattle.go_syntax.specs.declared.name.Name.{Name}
+use Rattle.go_syntax.specs.declared.statement.Block.{Block}
+use Rattle.go_syntax.specs.declared.types.ParameterDecl.{ParameterDecl}
+use Rattle.go_syntax.specs.declared.types.Signature.{Signature}
+use Rattle.go_syntax.specs.declared.types.«Type».{«Type» as Typ}
+use Rattle.go_syntax.specs.declared.token.TokenKind.TheVariants as kind
+use Rattle.go_syntax.specs.grammar.Grammar as grammar
+use Rattle.go_syntax.specs.grammar.Grammar.{last_variadic}
+use Rattle.go_syntax.specs.grammar.Symbols.{Rule, Takes, takes, MayTake, takes_none, takes_one, takes_name, begins, begins_type, closes}
+use Rattle.go_syntax.specs.grammar.Terminals.{Terminal, Sign, Identifier, Extent}
 use Rattle.go_parse.specs.Reading.{Reader, after, step_of, expect, goes_on}
 use Rattle.go_parse.specs.Rules.{Parts, is_named, parameter_of, unnamed_item, unnamed, named_parameter, named_item, named, some_parameters, parameters, result_parameters, signature_end, signature_of}
 use Rattle.go_parse.proofs.Begins.{read, if_so, if_not, Gives, gives_stop, gives_more, runs, comma_stops, closing_comma_paren, type_begins, parameters_begin, type_not_ellipsis, type_not_comma, type_not_closing, no_type_no_paren, not_closing_right_paren}

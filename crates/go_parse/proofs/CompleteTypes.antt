@@ -1,14 +1,14 @@
 -- Each type is found.
 use Rattle.std.proofs.Common.{◌≡◌, ℕ, suc, ◌<◌, List, [], ◌∷◌, ◌++◌, length, drop, true, false, if◌then◌else◌, Option, Some, refl, ap, ◌∙◌, arith}
-use Rattle.go_model.specs.declared.syntax.name.Name.{Name}
-use Rattle.go_model.specs.declared.syntax.statement.Block.{Block}
-use Rattle.go_model.specs.declared.syntax.types.FieldDecl.{FieldDecl}
-use Rattle.go_model.specs.declared.syntax.types.InterfaceElem.{InterfaceElem}
-use Rattle.go_model.specs.declared.syntax.types.«Type».{«Type» as Typ}
-use Rattle.go_model.specs.declared.token.TokenKind.TheVariants as kind
-use Rattle.go_model.specs.Grammar as grammar
-use Rattle.go_model.specs.Symbols.{Rule, takes, takes_name, takes_string, Ends, begins, begins_type, closes}
-use Rattle.go_model.specs.Terminals.{Terminal, Sign, Identifier}
+use Rattle.go_syntax.specs.declared.name.Name.{Name}
+use Rattle.go_syntax.specs.declared.statement.Block.{Block}
+use Rattle.go_syntax.specs.declared.types.FieldDecl.{FieldDecl}
+use Rattle.go_syntax.specs.declared.types.InterfaceElem.{InterfaceElem}
+use Rattle.go_syntax.specs.declared.types.«Type».{«Type» as Typ}
+use Rattle.go_syntax.specs.declared.token.TokenKind.TheVariants as kind
+use Rattle.go_syntax.specs.grammar.Grammar as grammar
+use Rattle.go_syntax.specs.grammar.Symbols.{Rule, takes, takes_name, takes_string, Ends, begins, begins_type, closes}
+use Rattle.go_syntax.specs.grammar.Terminals.{Terminal, Sign, Identifier}
 use Rattle.go_parse.specs.Reading.{after, step_of, expect, close}
 use Rattle.go_parse.specs.Rules.{Parts, names_field, embedded_field, named_field, field_of, field_item, fields, struct_type, slice_or_array, map_type, composite_type, chan_type, method_of, interface_elem, interface_item, interface_elems, interface_type, receive_type, typ_of}
 use Rattle.go_parse.proofs.Begins.{read, if_so, if_not, Gives, gives_stop, gives_more, runs, ends_here, ends_string, ends_paren, ends_comma, ends_type, type_begins, signature_begins, type_not_comma}

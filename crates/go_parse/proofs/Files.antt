@@ -1,12 +1,12 @@
 -- The laws of the reader of files: what it finds with nothing left is a source file, each source file is found
 -- with nothing left, and so a list of terminals is at most one.
 use Rattle.std.proofs.Common.{◌≡◌, ◌≢◌, ℕ, suc, List, [], Some, None, refl, sym, ap, ◌∙◌, subst}
-use Rattle.go_model.specs.declared.syntax.declaration.File.{File}
-use Rattle.go_model.specs.declared.syntax.statement.Block.{Block}
-use Rattle.go_model.specs.declared.token.Token.{Token}
-use Rattle.go_model.specs.SourceFiles.{Skips, IsSourceFile, HasOutline}
-use Rattle.go_model.specs.Symbols.{Rule}
-use Rattle.go_model.specs.Terminals.{Terminal, terminals}
+use Rattle.go_syntax.specs.declared.declaration.File.{File}
+use Rattle.go_syntax.specs.declared.statement.Block.{Block}
+use Rattle.go_syntax.specs.declared.token.Token.{Token}
+use Rattle.go_syntax.specs.grammar.SourceFiles.{Skips, IsSourceFile, HasOutline}
+use Rattle.go_syntax.specs.grammar.Symbols.{Rule}
+use Rattle.go_syntax.specs.grammar.Terminals.{Terminal, terminals}
 use Rattle.go_parse.specs.Declarations.{file}
 use Rattle.go_parse.specs.Reading.{Found, Reader}
 use Rattle.go_parse.specs.Rules.{parts}

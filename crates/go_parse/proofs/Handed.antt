@@ -1,7 +1,7 @@
 -- An error that a reader hands on.
 use Rattle.std.proofs.Common.{◌≡◌, List, Some, None, Result, Ok, Err}
 use Rattle.std.specs.Result.{IsErrAnd}
-use Rattle.go_model.specs.declared.token.Token.{Token}
+use Rattle.go_syntax.specs.declared.token.Token.{Token}
 use Rattle.go_parse.specs.declared.error.ParseError.{ParseError}
 use Rattle.go_parse.specs.declared.error.ParseError.TheVariants.{Syntax, NoMemory}
 use Rattle.go_parse.specs.Reading.{Found}

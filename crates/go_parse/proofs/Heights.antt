@@ -1,7 +1,7 @@
 -- The readers at height 0, and above it.
 use Rattle.std.proofs.Common.{◌≡◌, ℕ, zero, suc, Bool, true, false, List, None, ap, sym, ◌∙◌, refl}
-use Rattle.go_model.specs.declared.syntax.statement.Block.{Block}
-use Rattle.go_model.specs.Terminals.{Terminal}
+use Rattle.go_syntax.specs.declared.statement.Block.{Block}
+use Rattle.go_syntax.specs.grammar.Terminals.{Terminal}
 use Rattle.go_parse.specs.Reading.{Reader}
 use Rattle.go_parse.specs.Rules.{Parts, no_parts, whole_parts, parts}
 use Rattle.go_parse.specs.Skipping.{skipped_body}

@@ -1,6 +1,6 @@
 -- A turn of a loop that takes one item more, after a comma say, where a test holds.
 use Rattle.std.proofs.Common.{◌≡◌, ℕ, suc, ◌-◌, ◌∙◌, ◌++◌, ◌∷◌, [], Bool, true, false, if◌then◌else◌, List, length, drop, None, Some, ap, sym, arith}
-use Rattle.go_model.specs.Terminals.{Terminal}
+use Rattle.go_syntax.specs.grammar.Terminals.{Terminal}
 use Rattle.go_parse.specs.Reading.{Found, Reader, Next, Stop, Fail, More, run, loop, put, after, step_of}
 use Rattle.go_parse.proofs.Turns.{turn_stops, turn_fails, turn_goes_on}
 

@@ -1,10 +1,10 @@
 -- What a look-ahead finds where a name is next, and where none is.
 use Rattle.std.proofs.Common.{◌≡◌, ◌-◌, ◌≤◌, List, [], ◌∷◌, length, drop, Bool, true, false, if◌then◌else◌, refl, sym, ap, ◌∙◌, arith}
 use Rattle.std.proofs.lemmas.List.{length-drop}
-use Rattle.go_model.specs.declared.syntax.name.Name.{Name}
-use Rattle.go_model.specs.declared.token.TokenKind.TheVariants as kind
-use Rattle.go_model.specs.Symbols.{Takes, takes, begins, begins_type, begins_selector}
-use Rattle.go_model.specs.Terminals.{Terminal, Sign, Identifier, Basic, Odd}
+use Rattle.go_syntax.specs.declared.name.Name.{Name}
+use Rattle.go_syntax.specs.declared.token.TokenKind.TheVariants as kind
+use Rattle.go_syntax.specs.grammar.Symbols.{Takes, takes, begins, begins_type, begins_selector}
+use Rattle.go_syntax.specs.grammar.Terminals.{Terminal, Sign, Identifier, Basic, Odd}
 use Rattle.go_parse.specs.Reading.{begins_name}
 use Rattle.go_parse.specs.Rules.{is_named, names_field, names_method, names_composite}
 use Rattle.go_parse.specs.Skipping.{past_name}

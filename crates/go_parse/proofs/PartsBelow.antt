@@ -1,8 +1,8 @@
 -- What is read of a part at height 0, and above it.
 use Rattle.std.proofs.Common.{◌≡◌, ℕ, suc, true, List, Result, Err, sym, subst, refl}
-use Rattle.go_model.specs.declared.syntax.statement.Block.{Block}
-use Rattle.go_model.specs.declared.token.Token.{Token}
-use Rattle.go_model.specs.Terminals.{Terminal}
+use Rattle.go_syntax.specs.declared.statement.Block.{Block}
+use Rattle.go_syntax.specs.declared.token.Token.{Token}
+use Rattle.go_syntax.specs.grammar.Terminals.{Terminal}
 use Rattle.go_parse.specs.declared.error.ParseError.{ParseError}
 use Rattle.go_parse.specs.declared.error.ParseError.TheVariants.{Syntax}
 use Rattle.go_parse.specs.declared.grammar.Part.{Part}

@@ -2,14 +2,14 @@
 use Rattle.std.specs.Prelude.{◌≡◌, ℕ, Bool, true, false, if◌then◌else◌, List, [], ◌∷◌, Option, Some, None}
 use Rattle.std.proofs.Common.{refl, sym, ap, ◌∙◌, subst, ◌≤◌, length, arith}
 use denote.Enum.Bare.{same_true, true_same}
-use Rattle.go_model.specs.contracts.token.TokenKind.{the_type}
-use Rattle.go_model.specs.declared.syntax.statement.Block.{Block}
-use Rattle.go_model.specs.declared.syntax.statement.Block.TheVariants as block
-use Rattle.go_model.specs.declared.token.TokenKind.{TokenKind}
-use Rattle.go_model.specs.declared.token.TokenKind.TheVariants as kind
-use Rattle.go_model.specs.Brackets.{IsRun, run_none, run_plain, run_nest, IsSkipped, skipped, is_plain, no_bracket, closer}
-use Rattle.go_model.specs.Symbols.{Takes, takes, same_kind, begins}
-use Rattle.go_model.specs.Terminals.{Terminal, Sign, Identifier, Basic, Odd, Extent}
+use Rattle.go_syntax.specs.contracts.token.TokenKind.{the_type}
+use Rattle.go_syntax.specs.declared.statement.Block.{Block}
+use Rattle.go_syntax.specs.declared.statement.Block.TheVariants as block
+use Rattle.go_syntax.specs.declared.token.TokenKind.{TokenKind}
+use Rattle.go_syntax.specs.declared.token.TokenKind.TheVariants as kind
+use Rattle.go_syntax.specs.grammar.Brackets.{IsRun, run_none, run_plain, run_nest, IsSkipped, skipped, is_plain, no_bracket, closer}
+use Rattle.go_syntax.specs.grammar.Symbols.{Takes, takes, same_kind, begins}
+use Rattle.go_syntax.specs.grammar.Terminals.{Terminal, Sign, Identifier, Basic, Odd, Extent}
 use Rattle.go_parse.specs.Reading.{Found, bind}
 use Rattle.go_parse.specs.Skipping.{after_terminal, after_opening, after_closing, skip_on, skip, bracketed, bracketed_by, start_at, skipped_body}
 use Rattle.go_parse.proofs.Steps.{with_bind, branch, same, taken}

@@ -3,12 +3,12 @@ use Rattle.std.proofs.Common.{◌≡◌, ◌<◌, ◌≤◌, ◌==◌, List, [],
 use Rattle.std.specs.Result.{IsErrAnd}
 use Rattle.std.proofs.lemmas.Bool.{eqb-true}
 use Rattle.std.proofs.lemmas.List.{reverse-append, length-reverse}
-use Rattle.go_model.specs.declared.token.Token.{Token}
-use Rattle.go_model.specs.declared.token.TokenKind.{TokenKind}
-use Rattle.go_model.specs.declared.token.TokenKind.TheVariants as kind
-use Rattle.go_model.specs.Brackets.{closer}
-use Rattle.go_model.specs.Symbols.{sign_at, same_kind}
-use Rattle.go_model.specs.Terminals.{Terminal, Sign, Identifier, Basic, Odd, Extent}
+use Rattle.go_syntax.specs.declared.token.Token.{Token}
+use Rattle.go_syntax.specs.declared.token.TokenKind.{TokenKind}
+use Rattle.go_syntax.specs.declared.token.TokenKind.TheVariants as kind
+use Rattle.go_syntax.specs.grammar.Brackets.{closer}
+use Rattle.go_syntax.specs.grammar.Symbols.{sign_at, same_kind}
+use Rattle.go_syntax.specs.grammar.Terminals.{Terminal, Sign, Identifier, Basic, Odd, Extent}
 use Rattle.go_parse.specs.declared.error.ParseError.{ParseError}
 use Rattle.go_parse.specs.declared.error.ParseError.TheVariants.{Syntax, NoMemory}
 use Rattle.go_parse.specs.Reading.{Found, Next, Fail, begins_odd}

@@ -4,21 +4,21 @@ use Rattle.std.proofs.Common.{◌≡◌, ◌≢◌, ℕ, zero, suc, List, [], �
 use Rattle.std.specs.Prelude.{codes}
 use Rattle.std.proofs.lemmas.Slice.Eq.{bytes_eq-Decides}
 use Rattle.std.proofs.lemmas.Bool.Decides.{not_from_Decides}
-use Rattle.go_model.specs.declared.syntax.declaration.Decl.{Decl}
-use Rattle.go_model.specs.declared.syntax.declaration.Decl.TheVariants as decl
-use Rattle.go_model.specs.declared.syntax.declaration.File.{File}
-use Rattle.go_model.specs.declared.syntax.declaration.Func.{Func}
-use Rattle.go_model.specs.declared.syntax.declaration.ImportSpec.{ImportSpec}
-use Rattle.go_model.specs.declared.syntax.expression.Expr.{Expr}
-use Rattle.go_model.specs.declared.syntax.name.Name.{Name}
-use Rattle.go_model.specs.declared.syntax.statement.Block.{Block}
-use Rattle.go_model.specs.declared.syntax.types.ParameterDecl.{ParameterDecl, out-ParameterDecl}
-use Rattle.go_model.specs.declared.token.TokenKind.TheVariants as kind
-use Rattle.go_model.specs.Declarations.{constants, variables, IsSpecs, specs_none, specs_more, IsGroup, group_one, group_specs, IsConstSpec, const_names, const_values, const_typed, IsVarSpec, var_type, var_values, var_typed, IsTypeSpec, type_definition, type_alias, IsReceiver, receiver_none, receiver_some, IsOptionalBody, body_none, body_some, IsFunc, func as is_func, IsDecl, decl_const, decl_var, decl_type, decl_func}
-use Rattle.go_model.specs.Grammar.{is_variadic, at_most_one, IsExprs, IsParameters}
-use Rattle.go_model.specs.SourceFiles.{IsImportSpec, import_plain, import_named, IsImports, imports_none, imports_more, IsDecls, decls_none, decls_more, IsSourceFile, file as is_file}
-use Rattle.go_model.specs.Symbols.{Rule, Takes, TakesName, begins, begins_type}
-use Rattle.go_model.specs.Terminals.{Terminal}
+use Rattle.go_syntax.specs.declared.declaration.Decl.{Decl}
+use Rattle.go_syntax.specs.declared.declaration.Decl.TheVariants as decl
+use Rattle.go_syntax.specs.declared.declaration.File.{File}
+use Rattle.go_syntax.specs.declared.declaration.Func.{Func}
+use Rattle.go_syntax.specs.declared.declaration.ImportSpec.{ImportSpec}
+use Rattle.go_syntax.specs.declared.expression.Expr.{Expr}
+use Rattle.go_syntax.specs.declared.name.Name.{Name}
+use Rattle.go_syntax.specs.declared.statement.Block.{Block}
+use Rattle.go_syntax.specs.declared.types.ParameterDecl.{ParameterDecl, out-ParameterDecl}
+use Rattle.go_syntax.specs.declared.token.TokenKind.TheVariants as kind
+use Rattle.go_syntax.specs.grammar.Declarations.{constants, variables, IsSpecs, specs_none, specs_more, IsGroup, group_one, group_specs, IsConstSpec, const_names, const_values, const_typed, IsVarSpec, var_type, var_values, var_typed, IsTypeSpec, type_definition, type_alias, IsReceiver, receiver_none, receiver_some, IsOptionalBody, body_none, body_some, IsFunc, func as is_func, IsDecl, decl_const, decl_var, decl_type, decl_func}
+use Rattle.go_syntax.specs.grammar.Grammar.{is_variadic, at_most_one, IsExprs, IsParameters}
+use Rattle.go_syntax.specs.grammar.SourceFiles.{IsImportSpec, import_plain, import_named, IsImports, imports_none, imports_more, IsDecls, decls_none, decls_more, IsSourceFile, file as is_file}
+use Rattle.go_syntax.specs.grammar.Symbols.{Rule, Takes, TakesName, begins, begins_type}
+use Rattle.go_syntax.specs.grammar.Terminals.{Terminal}
 use Rattle.go_parse.specs.Declarations.{spec_item, specs, group, values, typed_const, const_end, const_spec, typed_var, var_end, var_spec, type_end, type_spec, only_receiver, receiver, optional_body, func_end, func, with_semicolon, decl_item, decls, import_at, import_path, import_spec, import_item, put_all, step_all, imports, package_name, package_clause, file}
 use Rattle.go_parse.specs.Reading.{Found, Reader, Next, Stop, Fail, More, bind, turn, loop, run, expect, close, name, begins_name, string_at}
 use Rattle.go_parse.specs.Rules.{Parts, names, exprs, parameters}

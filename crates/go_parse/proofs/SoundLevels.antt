@@ -1,7 +1,7 @@
 -- The readers of each level are sound: what they find is in the grammar, below their height.
 use Rattle.std.proofs.Common.{ℕ, zero, suc, true, refl}
-use Rattle.go_model.specs.declared.syntax.statement.Block.{Block}
-use Rattle.go_model.specs.Symbols.{Rule}
+use Rattle.go_syntax.specs.declared.statement.Block.{Block}
+use Rattle.go_syntax.specs.grammar.Symbols.{Rule}
 use Rattle.go_parse.specs.Reading.{Reader}
 use Rattle.go_parse.specs.Rules.{Parts, no_parts, whole_parts, parts}
 use Rattle.go_parse.proofs.SoundOperands.{literal_value_sound}

@@ -1,8 +1,8 @@
 -- What it means that the readers of the parts are sound: they find only what is one level lower.
 use Rattle.std.proofs.Common.{◌≡◌, ℕ, zero, suc, Bool, true, arith}
-use Rattle.go_model.specs.declared.syntax.statement.Block.{Block}
-use Rattle.go_model.specs.Grammar.{IsType, IsCompositeType, IsSignature, IsExpr, IsUnary, IsLiteralValue}
-use Rattle.go_model.specs.Symbols.{Rule}
+use Rattle.go_syntax.specs.declared.statement.Block.{Block}
+use Rattle.go_syntax.specs.grammar.Grammar.{IsType, IsCompositeType, IsSignature, IsExpr, IsUnary, IsLiteralValue}
+use Rattle.go_syntax.specs.grammar.Symbols.{Rule}
 use Rattle.go_parse.specs.Rules.{Parts}
 use Rattle.go_parse.proofs.Steps.{Below, Sound}
 

@@ -1,14 +1,14 @@
 -- What the readers of parameters and signatures find is in the grammar.
 use Rattle.std.proofs.Common.{◌≡◌, ℕ, zero, suc, List, [], ◌∷◌, drop, true, if◌then◌else◌, Some}
-use Rattle.go_model.specs.declared.syntax.name.Name.{Name}
-use Rattle.go_model.specs.declared.syntax.statement.Block.{Block}
-use Rattle.go_model.specs.declared.syntax.types.ParameterDecl.{ParameterDecl}
-use Rattle.go_model.specs.declared.syntax.types.Signature.{Signature}
-use Rattle.go_model.specs.declared.syntax.types.«Type».{«Type» as Typ}
-use Rattle.go_model.specs.declared.token.TokenKind.TheVariants as kind
-use Rattle.go_model.specs.Grammar.{last_variadic, none_variadic, IsNames, IsType, IsSignature, signature_alone, signature_parameters, signature_type, IsParameters, parameters_none, parameters_unnamed, parameters_named, IsParameter, parameter_one, parameter_variadic, IsUnnamed, unnamed as is_unnamed, IsMoreUnnamed, unnamed_none, unnamed_more, IsNamed, named as is_named_list, IsMoreNamed, named_none, named_more}
-use Rattle.go_model.specs.Symbols.{Rule, Takes, begins, begins_type}
-use Rattle.go_model.specs.Terminals.{Terminal}
+use Rattle.go_syntax.specs.declared.name.Name.{Name}
+use Rattle.go_syntax.specs.declared.statement.Block.{Block}
+use Rattle.go_syntax.specs.declared.types.ParameterDecl.{ParameterDecl}
+use Rattle.go_syntax.specs.declared.types.Signature.{Signature}
+use Rattle.go_syntax.specs.declared.types.«Type».{«Type» as Typ}
+use Rattle.go_syntax.specs.declared.token.TokenKind.TheVariants as kind
+use Rattle.go_syntax.specs.grammar.Grammar.{last_variadic, none_variadic, IsNames, IsType, IsSignature, signature_alone, signature_parameters, signature_type, IsParameters, parameters_none, parameters_unnamed, parameters_named, IsParameter, parameter_one, parameter_variadic, IsUnnamed, unnamed as is_unnamed, IsMoreUnnamed, unnamed_none, unnamed_more, IsNamed, named as is_named_list, IsMoreNamed, named_none, named_more}
+use Rattle.go_syntax.specs.grammar.Symbols.{Rule, Takes, begins, begins_type}
+use Rattle.go_syntax.specs.grammar.Terminals.{Terminal}
 use Rattle.go_parse.specs.Reading.{Reader, expect, past}
 use Rattle.go_parse.specs.Rules.{Parts, names, is_named, parameter_of, unnamed_item, unnamed, named_parameter, named_item, named, some_parameters, parameters, result_parameters, signature_end, signature_of}
 use Rattle.go_parse.proofs.SoundParts.{SoundParts, no_level}

@@ -1,15 +1,15 @@
 -- What one step of a reading has found.
 use Rattle.std.proofs.Common.{◌≡◌, ℕ, zero, suc, List, [], ◌∷◌, ◌++◌, length, drop, Bool, true, false, if◌then◌else◌, Option, Some, None, refl, sym, ap, ◌∙◌, subst, append_assoc, append-nil}
 use denote.Enum.Bare.{same_true}
-use Rattle.go_model.specs.contracts.token.TokenKind.{the_type}
-use Rattle.go_model.specs.declared.syntax.expression.Literal.{Literal}
-use Rattle.go_model.specs.declared.syntax.expression.Literal.TheVariants as literal
-use Rattle.go_model.specs.declared.syntax.name.Name.{Name}
-use Rattle.go_model.specs.declared.token.TokenKind.{TokenKind}
-use Rattle.go_model.specs.declared.token.TokenKind.TheVariants as kind
-use Rattle.go_model.specs.Grammar.{IsNames, names as is_names, IsMoreNames, names_none, names_more, IsTypeName, type_name_alone, type_name_qualified, IsTag, tag_none, tag_some}
-use Rattle.go_model.specs.Symbols.{Rule, Takes, takes, MayTake, takes_none, takes_one, Marks, unmarked, marked, TakesName, takes_name, TakesLiteral, takes_literal, TakesString, takes_string, Ends, ends_semicolon, ends_closing, begins, begins_selector, closes}
-use Rattle.go_model.specs.Terminals.{Terminal, Sign, Identifier, Basic, Odd}
+use Rattle.go_syntax.specs.contracts.token.TokenKind.{the_type}
+use Rattle.go_syntax.specs.declared.expression.Literal.{Literal}
+use Rattle.go_syntax.specs.declared.expression.Literal.TheVariants as literal
+use Rattle.go_syntax.specs.declared.name.Name.{Name}
+use Rattle.go_syntax.specs.declared.token.TokenKind.{TokenKind}
+use Rattle.go_syntax.specs.declared.token.TokenKind.TheVariants as kind
+use Rattle.go_syntax.specs.grammar.Grammar.{IsNames, names as is_names, IsMoreNames, names_none, names_more, IsTypeName, type_name_alone, type_name_qualified, IsTag, tag_none, tag_some}
+use Rattle.go_syntax.specs.grammar.Symbols.{Rule, Takes, takes, MayTake, takes_none, takes_one, Marks, unmarked, marked, TakesName, takes_name, TakesLiteral, takes_literal, TakesString, takes_string, Ends, ends_semicolon, ends_closing, begins, begins_selector, closes}
+use Rattle.go_syntax.specs.grammar.Terminals.{Terminal, Sign, Identifier, Basic, Odd}
 use Rattle.go_parse.specs.Reading.{Found, Reader, Next, Stop, Fail, More, bind, after, turn, loop, run, put, step_of, expect, close, past, goes_on, ended, name, literal_at, string_at}
 use Rattle.go_parse.specs.Rules.{name_item, names, type_name, tag_of, tag, begins_receive}
 

@@ -1,6 +1,6 @@
 -- A recursion on the turns that are left, beside a loop that counts them up.
 use Rattle.std.proofs.Common.{◌≡◌, ℕ, suc, ◌+◌, ◌-◌, ◌<◌, ◌≤◌, List, Some, None, ap, ◌∙◌, arith}
-use Rattle.go_model.specs.Terminals.{Terminal}
+use Rattle.go_syntax.specs.grammar.Terminals.{Terminal}
 use Rattle.go_parse.specs.Reading.{Next, Stop, Fail, More, turn, loop}
 
 -- one turn is taken

@@ -1,9 +1,9 @@
 -- Where `...` stands, in a list that is taken apart at its last parameter.
 use Rattle.std.proofs.Common.{◌≡◌, nat_le, Bool, true, false, if◌then◌else◌, List, [], ◌∷◌, ◌++◌, length, refl, sym, ap, ◌∙◌, rules, arith}
 use Rattle.std.proofs.lemmas.Grind.{common_steps}
-use Rattle.go_model.specs.declared.syntax.name.Name.{Name}
-use Rattle.go_model.specs.declared.syntax.types.ParameterDecl.{ParameterDecl, out-ParameterDecl}
-use Rattle.go_model.specs.Grammar.{is_variadic, at_most_one, none_variadic, last_variadic}
+use Rattle.go_syntax.specs.declared.name.Name.{Name}
+use Rattle.go_syntax.specs.declared.types.ParameterDecl.{ParameterDecl, out-ParameterDecl}
+use Rattle.go_syntax.specs.grammar.Grammar.{is_variadic, at_most_one, none_variadic, last_variadic}
 
 unless : (b n t c : Bool) → c ≡ (if n then t else false) → (if b then false else c) ≡ (if (if b then false else n) then t else false)
 unless true n t c e = refl

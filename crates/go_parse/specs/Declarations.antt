@@ -1,26 +1,26 @@
 -- What the readers of declarations and of a source file find, where the readers of the parts are given.
 use Rattle.std.specs.Prelude.{ℕ, Bool, true, false, if◌then◌else◌, List, [], ◌∷◌, ◌++◌, drop, Option, Some, None, codes}
 use Rattle.std.specs.Str.{bytes_eq}
-use Rattle.go_model.specs.declared.syntax.declaration.ConstSpec.{ConstSpec}
-use Rattle.go_model.specs.declared.syntax.declaration.Decl.{Decl}
-use Rattle.go_model.specs.declared.syntax.declaration.Decl.TheVariants as decl
-use Rattle.go_model.specs.declared.syntax.declaration.File.{File}
-use Rattle.go_model.specs.declared.syntax.declaration.Func.{Func}
-use Rattle.go_model.specs.declared.syntax.declaration.ImportSpec.{ImportSpec}
-use Rattle.go_model.specs.declared.syntax.declaration.TypeSpec.{TypeSpec}
-use Rattle.go_model.specs.declared.syntax.declaration.VarSpec.{VarSpec}
-use Rattle.go_model.specs.declared.syntax.expression.Expr.{Expr}
-use Rattle.go_model.specs.declared.syntax.name.Name.{Name}
-use Rattle.go_model.specs.declared.syntax.statement.Block.{Block}
-use Rattle.go_model.specs.declared.syntax.types.ParameterDecl.{ParameterDecl, out-ParameterDecl}
-use Rattle.go_model.specs.declared.syntax.types.«Type».{«Type» as Typ}
-use Rattle.go_model.specs.declared.token.TokenKind.TheVariants as kind
-use Rattle.go_model.specs.Declarations.{constants, variables, function}
-use Rattle.go_model.specs.Declarations.{type_spec as specified_type}
-use Rattle.go_model.specs.Grammar.{is_variadic, at_most_one}
-use Rattle.go_model.specs.SourceFiles.{import, source_file}
-use Rattle.go_model.specs.Symbols.{begins, begins_type, closes}
-use Rattle.go_model.specs.Terminals.{Terminal}
+use Rattle.go_syntax.specs.declared.declaration.ConstSpec.{ConstSpec}
+use Rattle.go_syntax.specs.declared.declaration.Decl.{Decl}
+use Rattle.go_syntax.specs.declared.declaration.Decl.TheVariants as decl
+use Rattle.go_syntax.specs.declared.declaration.File.{File}
+use Rattle.go_syntax.specs.declared.declaration.Func.{Func}
+use Rattle.go_syntax.specs.declared.declaration.ImportSpec.{ImportSpec}
+use Rattle.go_syntax.specs.declared.declaration.TypeSpec.{TypeSpec}
+use Rattle.go_syntax.specs.declared.declaration.VarSpec.{VarSpec}
+use Rattle.go_syntax.specs.declared.expression.Expr.{Expr}
+use Rattle.go_syntax.specs.declared.name.Name.{Name}
+use Rattle.go_syntax.specs.declared.statement.Block.{Block}
+use Rattle.go_syntax.specs.declared.types.ParameterDecl.{ParameterDecl, out-ParameterDecl}
+use Rattle.go_syntax.specs.declared.types.«Type».{«Type» as Typ}
+use Rattle.go_syntax.specs.declared.token.TokenKind.TheVariants as kind
+use Rattle.go_syntax.specs.grammar.Declarations.{constants, variables, function}
+use Rattle.go_syntax.specs.grammar.Declarations.{type_spec as specified_type}
+use Rattle.go_syntax.specs.grammar.Grammar.{is_variadic, at_most_one}
+use Rattle.go_syntax.specs.grammar.SourceFiles.{import, source_file}
+use Rattle.go_syntax.specs.grammar.Symbols.{begins, begins_type, closes}
+use Rattle.go_syntax.specs.grammar.Terminals.{Terminal}
 use Rattle.go_parse.specs.Reading.{Found, Reader, Next, Stop, Fail, More, bind, after, run, step_of, expect, close, ended, name, begins_name, string_at}
 use Rattle.go_parse.specs.Rules.{Parts, names, exprs, parameters}
 

@@ -1,12 +1,12 @@
 -- What a reading by recursive descent finds: a tree of a front of the terminals, and what is left after it.
 use Rattle.std.specs.Prelude.{ℕ, zero, suc, Bool, true, false, not, if◌then◌else◌, List, [], ◌∷◌, ◌++◌, length, drop, Option, Some, None}
-use Rattle.go_model.specs.declared.syntax.expression.Literal.{Literal}
-use Rattle.go_model.specs.declared.syntax.expression.Literal.TheVariants as literal
-use Rattle.go_model.specs.declared.syntax.name.Name.{Name}
-use Rattle.go_model.specs.declared.token.TokenKind.{TokenKind}
-use Rattle.go_model.specs.declared.token.TokenKind.TheVariants as kind
-use Rattle.go_model.specs.Symbols.{begins, closes}
-use Rattle.go_model.specs.Terminals.{Terminal, Identifier, Basic, Odd}
+use Rattle.go_syntax.specs.declared.expression.Literal.{Literal}
+use Rattle.go_syntax.specs.declared.expression.Literal.TheVariants as literal
+use Rattle.go_syntax.specs.declared.name.Name.{Name}
+use Rattle.go_syntax.specs.declared.token.TokenKind.{TokenKind}
+use Rattle.go_syntax.specs.declared.token.TokenKind.TheVariants as kind
+use Rattle.go_syntax.specs.grammar.Symbols.{begins, closes}
+use Rattle.go_syntax.specs.grammar.Terminals.{Terminal, Identifier, Basic, Odd}
 
 -- what is found, and what is left
 abbrev pub Found : Type 0 → Type 0

@@ -1,9 +1,9 @@
 -- What a function that reads ensures: what the reading finds, unless memory fails.
 use Rattle.std.specs.Prelude.{◌≡◌, Bool, if◌then◌else◌, List, reverse, Option, Some, None, Result, Ok, Err}
-use Rattle.go_model.specs.declared.memory.NoMemory.{NoMemory as NoRoom}
-use Rattle.go_model.specs.declared.token.TokenKind.{TokenKind}
-use Rattle.go_model.specs.declared.token.Token.{Token}
-use Rattle.go_model.specs.Terminals.{Terminal, terminals}
+use Rattle.go_base.specs.declared.memory.NoMemory.{NoMemory as NoRoom}
+use Rattle.go_syntax.specs.declared.token.TokenKind.{TokenKind}
+use Rattle.go_syntax.specs.declared.token.Token.{Token}
+use Rattle.go_syntax.specs.grammar.Terminals.{Terminal, terminals}
 use Rattle.go_parse.specs.declared.error.ParseError.{ParseError}
 use Rattle.go_parse.specs.declared.error.ParseError.TheVariants.{NoMemory, Syntax}
 use Rattle.go_parse.specs.Reading.{Found, Next, Stop, Fail, More}

@@ -1,12 +1,12 @@
 -- What a reading finds that skips: past a balanced run, and past a type.
 use Rattle.std.specs.Prelude.{ℕ, Bool, true, false, not, if◌then◌else◌, List, [], ◌∷◌, drop, Option, Some, None}
-use Rattle.go_model.specs.declared.syntax.statement.Block.{Block}
-use Rattle.go_model.specs.declared.syntax.statement.Block.TheVariants as block
-use Rattle.go_model.specs.declared.token.TokenKind.{TokenKind}
-use Rattle.go_model.specs.declared.token.TokenKind.TheVariants as kind
-use Rattle.go_model.specs.Brackets.{closer, no_bracket}
-use Rattle.go_model.specs.Symbols.{begins, begins_type, begins_selector, same_kind}
-use Rattle.go_model.specs.Terminals.{Terminal, Sign, Identifier, Basic, Odd}
+use Rattle.go_syntax.specs.declared.statement.Block.{Block}
+use Rattle.go_syntax.specs.declared.statement.Block.TheVariants as block
+use Rattle.go_syntax.specs.declared.token.TokenKind.{TokenKind}
+use Rattle.go_syntax.specs.declared.token.TokenKind.TheVariants as kind
+use Rattle.go_syntax.specs.grammar.Brackets.{closer, no_bracket}
+use Rattle.go_syntax.specs.grammar.Symbols.{begins, begins_type, begins_selector, same_kind}
+use Rattle.go_syntax.specs.grammar.Terminals.{Terminal, Sign, Identifier, Basic, Odd}
 use Rattle.go_parse.specs.Reading.{Found, Reader, Next, Stop, Fail, More, bind, run, past, begins_name}
 
 -- what is left of the brackets that are still to close, after a keyword or an operator

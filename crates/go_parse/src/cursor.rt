@@ -1,18 +1,18 @@
 //! The tokens that are left.
 ghost use Rattle.std.specs.Prelude.{◌≡◌, ◌∷◌, [], IfOk, drop, length};
-ghost use Rattle.go_model.specs.Terminals.{terminal, terminals};
-ghost use Rattle.go_model.specs.Symbols as symbols;
+ghost use Rattle.go_syntax.specs.grammar.Terminals.{terminal, terminals};
+ghost use Rattle.go_syntax.specs.grammar.Symbols as symbols;
 ghost use Rattle.go_parse.specs.Reading as reading;
 ghost use Rattle.go_parse.specs.Reads.{Reads};
 ghost use Rattle.go_parse.specs.Rules as rules;
 ghost use Rattle.go_parse.specs.Skipping as skipping;
 
 use crate::error::ParseError;
-use go_model::memory::NoMemory;
-use go_model::syntax::expression::Literal;
-use go_model::syntax::name::Name;
-use go_model::text::Text;
-use go_model::token::{Token, TokenKind, TokenValue};
+use go_base::memory::NoMemory;
+use go_syntax::expression::Literal;
+use go_syntax::name::Name;
+use go_base::text::Text;
+use go_syntax::token::{Token, TokenKind, TokenValue};
 use std::alloc::Global;
 use std::marker::Model;
 
@@ -24,7 +24,7 @@ pub struct Cursor<'a> {
 
 impl<'a> Model for Cursor<'a> {
     ghost use Rattle.std.specs.Prelude.{List};
-    ghost use Rattle.go_model.specs.declared.token.Token.{Token};
+    ghost use Rattle.go_syntax.specs.declared.token.Token.{Token};
 
     ghost Value = { List Token };
 

@@ -1,10 +1,10 @@
 //! Declarations.
 ghost use Rattle.std.specs.Prelude.{◌≡◌, List};
-ghost use Rattle.go_model.specs.declared.syntax.declaration.Decl.TheVariants as decl;
-ghost use Rattle.go_model.specs.declared.syntax.name.Name.{Name};
-ghost use Rattle.go_model.specs.declared.syntax.types.«Type».{«Type»};
-ghost use Rattle.go_model.specs.declared.token.TokenKind.TheVariants as kind;
-ghost use Rattle.go_model.specs.Terminals.{terminals};
+ghost use Rattle.go_syntax.specs.declared.declaration.Decl.TheVariants as decl;
+ghost use Rattle.go_syntax.specs.declared.name.Name.{Name};
+ghost use Rattle.go_syntax.specs.declared.types.«Type».{«Type»};
+ghost use Rattle.go_syntax.specs.declared.token.TokenKind.TheVariants as kind;
+ghost use Rattle.go_syntax.specs.grammar.Terminals.{terminals};
 ghost use Rattle.go_parse.specs.Declarations as rules;
 ghost use Rattle.go_parse.specs.Levels.{levels, ReadsBelow};
 ghost use Rattle.go_parse.specs.Reading.{bind, close};
@@ -14,16 +14,16 @@ use crate::cursor::Cursor;
 use crate::error::ParseError;
 use crate::grammar::{Grammar, Part, PartTree};
 use crate::names::names;
-use go_model::list::List;
-use go_model::syntax::declaration::{ConstSpec, Decl, Func, TypeSpec, VarSpec};
-use go_model::syntax::held::declaration::{
+use go_base::list::List;
+use go_syntax::declaration::{ConstSpec, Decl, Func, TypeSpec, VarSpec};
+use go_syntax::held::declaration::{
     HeldConstSpecs, HeldDecl, HeldDecls, HeldTypeSpecs, HeldVarSpecs, boxed_func,
 };
-use go_model::syntax::held::types::{HeldParameters, HeldReceiver, HeldSignature, HeldType};
-use go_model::syntax::name::Name;
-use go_model::syntax::statement::Block;
-use go_model::syntax::types::Type;
-use go_model::token::TokenKind;
+use go_syntax::held::types::{HeldParameters, HeldReceiver, HeldSignature, HeldType};
+use go_syntax::name::Name;
+use go_syntax::statement::Block;
+use go_syntax::types::Type;
+use go_syntax::token::TokenKind;
 use std::alloc::Global;
 
 /// The receiver that these parameters are: one parameter without `...`.

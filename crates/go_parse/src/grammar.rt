@@ -1,18 +1,18 @@
 //! The readers of the trees of a height, over a reader of the lower trees that are their parts.
 ghost use Rattle.std.specs.Prelude.{◌≡◌};
-ghost use Rattle.go_model.specs.Terminals.{terminals};
+ghost use Rattle.go_syntax.specs.grammar.Terminals.{terminals};
 ghost use Rattle.go_parse.specs.Levels.{levels, ReadsBelow, ReadsPart};
 ghost use Rattle.go_parse.specs.Reads.{Reads};
 
 use crate::cursor::Cursor;
 use crate::error::ParseError;
 use crate::skipping::skipped_body;
-use go_model::list::List;
-use go_model::syntax::expression::{Element, Expr};
-use go_model::syntax::held::expression::{HeldElements, HeldExpr};
-use go_model::syntax::held::types::{HeldSignature, HeldType};
-use go_model::syntax::statement::Block;
-use go_model::syntax::types::{Signature, Type};
+use go_base::list::List;
+use go_syntax::expression::{Element, Expr};
+use go_syntax::held::expression::{HeldElements, HeldExpr};
+use go_syntax::held::types::{HeldSignature, HeldType};
+use go_syntax::statement::Block;
+use go_syntax::types::{Signature, Type};
 use std::alloc::Global;
 
 /// What is read where a tree has a part of a lower height.

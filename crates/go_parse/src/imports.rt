@@ -1,18 +1,18 @@
 //! Import declarations.
 ghost use Rattle.std.specs.Prelude.{◌≡◌, ◌++◌, IfOk};
-ghost use Rattle.go_model.specs.declared.token.TokenKind.TheVariants as kind;
-ghost use Rattle.go_model.specs.Terminals.{terminals};
+ghost use Rattle.go_syntax.specs.declared.token.TokenKind.TheVariants as kind;
+ghost use Rattle.go_syntax.specs.grammar.Terminals.{terminals};
 ghost use Rattle.go_parse.specs.Declarations as rules;
 ghost use Rattle.go_parse.specs.Reading.{bind, close};
 ghost use Rattle.go_parse.specs.Reads.{Reads, ReadsNext};
 
 use crate::cursor::Cursor;
 use crate::error::ParseError;
-use go_model::list::List;
-use go_model::memory::NoMemory;
-use go_model::syntax::declaration::ImportSpec;
-use go_model::syntax::name::Name;
-use go_model::token::TokenKind;
+use go_base::list::List;
+use go_base::memory::NoMemory;
+use go_syntax::declaration::ImportSpec;
+use go_syntax::name::Name;
+use go_syntax::token::TokenKind;
 use std::alloc::Global;
 
 /// The path of an import, after this name.

@@ -1,6 +1,6 @@
 //! The readers of trees below a height.
 ghost use Rattle.std.specs.Prelude.{◌≡◌};
-ghost use Rattle.go_model.specs.Terminals.{terminals};
+ghost use Rattle.go_syntax.specs.grammar.Terminals.{terminals};
 ghost use Rattle.go_parse.specs.Levels.{levels, ReadsBelow, ReadsPart};
 ghost use Rattle.go_parse.specs.Rules as rules;
 ghost use Rattle.go_parse.specs.Skipping.{skipped_body};
@@ -8,8 +8,8 @@ ghost use Rattle.go_parse.specs.Skipping.{skipped_body};
 use crate::cursor::Cursor;
 use crate::error::ParseError;
 use crate::grammar::{Grammar, Part, PartTree};
-use go_model::syntax::held::expression::HeldExpr;
-use go_model::syntax::held::types::{HeldSignature, HeldType};
+use go_syntax::held::expression::HeldExpr;
+use go_syntax::held::types::{HeldSignature, HeldType};
 use std::alloc::Global;
 
 impl<F: Fn(Global, &mut Cursor<'_>, usize, Part) -> Result<PartTree, ParseError>> Grammar<F> {

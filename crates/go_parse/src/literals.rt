@@ -1,6 +1,6 @@
 //! The elements of composite literals.
 ghost use Rattle.std.specs.Prelude.{◌≡◌};
-ghost use Rattle.go_model.specs.Terminals.{terminals};
+ghost use Rattle.go_syntax.specs.grammar.Terminals.{terminals};
 ghost use Rattle.go_parse.specs.Levels.{levels, ReadsBelow};
 ghost use Rattle.go_parse.specs.Reading.{run, step_of};
 ghost use Rattle.go_parse.specs.Reads.{Reads};
@@ -9,10 +9,10 @@ ghost use Rattle.go_parse.specs.Rules as rules;
 use crate::cursor::Cursor;
 use crate::error::ParseError;
 use crate::grammar::{Grammar, Part, PartTree};
-use go_model::list::List;
-use go_model::syntax::expression::{Element, ElementValue};
-use go_model::syntax::held::expression::{HeldElementValue, HeldElements};
-use go_model::token::TokenKind;
+use go_base::list::List;
+use go_syntax::expression::{Element, ElementValue};
+use go_syntax::held::expression::{HeldElementValue, HeldElements};
+use go_syntax::token::TokenKind;
 use std::alloc::Global;
 
 impl<F: Fn(Global, &mut Cursor<'_>, usize, Part) -> Result<PartTree, ParseError>> Grammar<F> {

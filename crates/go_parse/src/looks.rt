@@ -1,12 +1,12 @@
 //! What the next tokens begin.
 ghost use Rattle.std.specs.Prelude.{◌≡◌, true, if◌then◌else◌};
-ghost use Rattle.go_model.specs.declared.token.TokenKind.TheVariants as kind;
-ghost use Rattle.go_model.specs.Symbols as symbols;
-ghost use Rattle.go_model.specs.Terminals.{terminals};
+ghost use Rattle.go_syntax.specs.declared.token.TokenKind.TheVariants as kind;
+ghost use Rattle.go_syntax.specs.grammar.Symbols as symbols;
+ghost use Rattle.go_syntax.specs.grammar.Terminals.{terminals};
 ghost use Rattle.go_parse.specs.Rules as rules;
 
 use crate::cursor::Cursor;
-use go_model::token::TokenKind;
+use go_syntax::token::TokenKind;
 
 /// Whether a type or `...` begins here.
 fn begins_parameter(tokens: &Cursor<'_>) -> bool

@@ -1,17 +1,17 @@
 //! Names, names of types and tags.
 ghost use Rattle.std.specs.Prelude.{◌≡◌, List};
-ghost use Rattle.go_model.specs.declared.syntax.name.Name.{Name};
-ghost use Rattle.go_model.specs.Terminals.{terminals};
+ghost use Rattle.go_syntax.specs.declared.name.Name.{Name};
+ghost use Rattle.go_syntax.specs.grammar.Terminals.{terminals};
 ghost use Rattle.go_parse.specs.Reading.{run, step_of};
 ghost use Rattle.go_parse.specs.Reads.{Reads};
 ghost use Rattle.go_parse.specs.Rules as rules;
 
 use crate::cursor::Cursor;
 use crate::error::ParseError;
-use go_model::list::List;
-use go_model::syntax::name::{Name, QualifiedName};
-use go_model::text::Text;
-use go_model::token::TokenKind;
+use go_base::list::List;
+use go_syntax::name::{Name, QualifiedName};
+use go_base::text::Text;
+use go_syntax::token::TokenKind;
 use std::alloc::Global;
 
 /// More names, each after a comma.

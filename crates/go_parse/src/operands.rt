@@ -1,9 +1,9 @@
 //! Operands.
 ghost use Rattle.std.specs.Prelude.{◌≡◌, if◌then◌else◌, Some, None, drop};
-ghost use Rattle.go_model.specs.declared.syntax.expression.Expr.TheVariants as expr;
-ghost use Rattle.go_model.specs.declared.token.TokenKind.TheVariants as kind;
-ghost use Rattle.go_model.specs.Symbols.{begins};
-ghost use Rattle.go_model.specs.Terminals.{terminals};
+ghost use Rattle.go_syntax.specs.declared.expression.Expr.TheVariants as expr;
+ghost use Rattle.go_syntax.specs.declared.token.TokenKind.TheVariants as kind;
+ghost use Rattle.go_syntax.specs.grammar.Symbols.{begins};
+ghost use Rattle.go_syntax.specs.grammar.Terminals.{terminals};
 ghost use Rattle.go_parse.specs.Levels.{levels, ReadsBelow};
 ghost use Rattle.go_parse.specs.Reading as reading;
 ghost use Rattle.go_parse.specs.Reading.{bind, close};
@@ -16,11 +16,11 @@ use crate::grammar::{Grammar, Part, PartTree};
 use crate::looks::names_composite;
 use crate::names::type_name;
 use crate::skipping::is_composite;
-use go_model::syntax::expression::Expr;
-use go_model::syntax::held::expression::{HeldExpr, boxed_expr};
-use go_model::syntax::held::types::{HeldSignature, HeldType, boxed_signature};
-use go_model::syntax::types::Type;
-use go_model::token::TokenKind;
+use go_syntax::expression::Expr;
+use go_syntax::held::expression::{HeldExpr, boxed_expr};
+use go_syntax::held::types::{HeldSignature, HeldType, boxed_signature};
+use go_syntax::types::Type;
+use go_syntax::token::TokenKind;
 use std::alloc::Global;
 
 impl<F: Fn(Global, &mut Cursor<'_>, usize, Part) -> Result<PartTree, ParseError>> Grammar<F> {

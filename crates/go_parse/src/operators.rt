@@ -1,9 +1,9 @@
 //! Operators: a prefix operator, and chains of operands by precedence.
 ghost use Rattle.std.specs.Prelude.{◌≡◌, [], IfOk, Some};
-ghost use Rattle.go_model.specs.declared.syntax.expression.Expr.TheVariants as expr;
-ghost use Rattle.go_model.specs.declared.token.TokenKind.TheVariants as kind;
-ghost use Rattle.go_model.specs.Grammar as grammar;
-ghost use Rattle.go_model.specs.Terminals.{terminals};
+ghost use Rattle.go_syntax.specs.declared.expression.Expr.TheVariants as expr;
+ghost use Rattle.go_syntax.specs.declared.token.TokenKind.TheVariants as kind;
+ghost use Rattle.go_syntax.specs.grammar.Grammar as grammar;
+ghost use Rattle.go_syntax.specs.grammar.Terminals.{terminals};
 ghost use Rattle.go_parse.specs.Levels.{levels, ReadsBelow};
 ghost use Rattle.go_parse.specs.Reading.{bind, run, step_of};
 ghost use Rattle.go_parse.specs.Reads.{Reads};
@@ -12,12 +12,12 @@ ghost use Rattle.go_parse.specs.Rules as rules;
 use crate::cursor::Cursor;
 use crate::error::ParseError;
 use crate::grammar::{Grammar, Part, PartTree};
-use go_model::list::List;
-use go_model::memory::NoMemory;
-use go_model::syntax::expression::Expr;
-use go_model::syntax::held::expression::{HeldExpr, HeldExprs, boxed_expr};
-use go_model::syntax::operator::{CompareOp, PrefixOperator, ProductOperator, SumOperator};
-use go_model::token::TokenKind;
+use go_base::list::List;
+use go_base::memory::NoMemory;
+use go_syntax::expression::Expr;
+use go_syntax::held::expression::{HeldExpr, HeldExprs, boxed_expr};
+use go_base::operator::{CompareOp, PrefixOperator, ProductOperator, SumOperator};
+use go_syntax::token::TokenKind;
 use std::alloc::Global;
 
 /// The prefix operator that is next.

@@ -1,9 +1,9 @@
 //! The outline of a file.
 ghost use Rattle.std.specs.Prelude.{◌≡◌, ◌≢◌, List, [], IfOk, IsErr, IsErrOf};
-ghost use Rattle.go_model.specs.SourceFiles.{HasOutline};
-ghost use Rattle.go_model.specs.Terminals.{terminals};
-ghost use Rattle.go_model.specs.declared.syntax.declaration.File.{File};
-ghost use Rattle.go_model.specs.declared.token.Token.{Token};
+ghost use Rattle.go_syntax.specs.grammar.SourceFiles.{HasOutline};
+ghost use Rattle.go_syntax.specs.grammar.Terminals.{terminals};
+ghost use Rattle.go_syntax.specs.declared.declaration.File.{File};
+ghost use Rattle.go_syntax.specs.declared.token.Token.{Token};
 ghost use Rattle.go_parse.specs.Declarations as rules;
 ghost use Rattle.go_parse.specs.Levels.{levels, ReadsBelow};
 ghost use Rattle.go_parse.specs.Reads.{Reads};
@@ -13,9 +13,9 @@ use crate::error::ParseError;
 use crate::grammar::{Grammar, Part, PartTree};
 use crate::imports::imports;
 use crate::levels::below;
-use go_model::syntax::declaration::File;
-use go_model::syntax::name::Name;
-use go_model::token::{Token, TokenKind};
+use go_syntax::declaration::File;
+use go_syntax::name::Name;
+use go_syntax::token::{Token, TokenKind};
 use std::alloc::Global;
 
 // A tree of a file has a height of at most 256.

@@ -1,11 +1,11 @@
 //! What follows operands: selectors, type assertions, indices, slices and calls.
 ghost use Rattle.std.specs.Prelude.{◌≡◌, [], IfOk};
-ghost use Rattle.go_model.specs.declared.syntax.expression.Expr.{Expr};
-ghost use Rattle.go_model.specs.declared.syntax.expression.Post.TheVariants as post;
-ghost use Rattle.go_model.specs.declared.token.TokenKind.TheVariants as kind;
-ghost use Rattle.go_model.specs.Grammar as grammar;
-ghost use Rattle.go_model.specs.Symbols.{begins};
-ghost use Rattle.go_model.specs.Terminals.{terminals};
+ghost use Rattle.go_syntax.specs.declared.expression.Expr.{Expr};
+ghost use Rattle.go_syntax.specs.declared.expression.Post.TheVariants as post;
+ghost use Rattle.go_syntax.specs.declared.token.TokenKind.TheVariants as kind;
+ghost use Rattle.go_syntax.specs.grammar.Grammar as grammar;
+ghost use Rattle.go_syntax.specs.grammar.Symbols.{begins};
+ghost use Rattle.go_syntax.specs.grammar.Terminals.{terminals};
 ghost use Rattle.go_parse.specs.Levels.{levels, ReadsBelow};
 ghost use Rattle.go_parse.specs.Reading as reading;
 ghost use Rattle.go_parse.specs.Reading.{bind, close, run, step_of};
@@ -16,12 +16,12 @@ use crate::cursor::Cursor;
 use crate::error::ParseError;
 use crate::grammar::{Grammar, Part, PartTree};
 use crate::looks::begins_type_switch;
-use go_model::list::List;
-use go_model::memory::NoMemory;
-use go_model::syntax::expression::{Expr, Post};
-use go_model::syntax::held::expression::{HeldExpr, HeldExprs, HeldPosts, boxed_expr};
-use go_model::syntax::held::types::HeldType;
-use go_model::token::TokenKind;
+use go_base::list::List;
+use go_base::memory::NoMemory;
+use go_syntax::expression::{Expr, Post};
+use go_syntax::held::expression::{HeldExpr, HeldExprs, HeldPosts, boxed_expr};
+use go_syntax::held::types::HeldType;
+use go_syntax::token::TokenKind;
 use std::alloc::Global;
 
 /// An operand and what follows it.

@@ -1,8 +1,8 @@
 //! Parameters and results.
 ghost use Rattle.std.specs.Prelude.{◌≡◌, ◌∷◌, [], List};
-ghost use Rattle.go_model.specs.declared.syntax.types.ParameterDecl.{ParameterDecl};
-ghost use Rattle.go_model.specs.Grammar as grammar;
-ghost use Rattle.go_model.specs.Terminals.{terminals};
+ghost use Rattle.go_syntax.specs.declared.types.ParameterDecl.{ParameterDecl};
+ghost use Rattle.go_syntax.specs.grammar.Grammar as grammar;
+ghost use Rattle.go_syntax.specs.grammar.Terminals.{terminals};
 ghost use Rattle.go_parse.specs.Levels.{levels, ReadsBelow};
 ghost use Rattle.go_parse.specs.Reading.{run, step_of};
 ghost use Rattle.go_parse.specs.Reads.{Reads};
@@ -13,11 +13,11 @@ use crate::error::ParseError;
 use crate::grammar::{Grammar, Part, PartTree};
 use crate::looks::is_named;
 use crate::names::names;
-use go_model::list::List;
-use go_model::syntax::held::types::{HeldParameters, HeldSignature};
-use go_model::syntax::name::Name;
-use go_model::syntax::types::{FuncResult, ParameterDecl, Signature};
-use go_model::token::TokenKind;
+use go_base::list::List;
+use go_syntax::held::types::{HeldParameters, HeldSignature};
+use go_syntax::name::Name;
+use go_syntax::types::{FuncResult, ParameterDecl, Signature};
+use go_syntax::token::TokenKind;
 use std::alloc::Global;
 
 /// Whether no `...` stands in the list, as in a result.

@@ -1,17 +1,17 @@
 //! Balanced runs and types that are skipped.
 ghost use Rattle.std.specs.Prelude.{◌≡◌, ◌∷◌, [], false, if◌then◌else◌, Some, None, reverse, IfOk};
-ghost use Rattle.go_model.specs.Brackets as brackets;
-ghost use Rattle.go_model.specs.Symbols as symbols;
-ghost use Rattle.go_model.specs.Terminals.{terminals};
+ghost use Rattle.go_syntax.specs.grammar.Brackets as brackets;
+ghost use Rattle.go_syntax.specs.grammar.Symbols as symbols;
+ghost use Rattle.go_syntax.specs.grammar.Terminals.{terminals};
 ghost use Rattle.go_parse.specs.Reading.{run};
 ghost use Rattle.go_parse.specs.Reads.{Reads, ReadsTurn, Leaves};
 ghost use Rattle.go_parse.specs.Skipping as skipping;
 
 use crate::cursor::Cursor;
 use crate::error::ParseError;
-use go_model::memory::NoMemory;
-use go_model::syntax::statement::Block;
-use go_model::token::TokenKind;
+use go_base::memory::NoMemory;
+use go_syntax::statement::Block;
+use go_syntax::token::TokenKind;
 use std::alloc::Global;
 
 /// The bracket that closes what this one opens.

@@ -1,8 +1,8 @@
 //! Types.
 ghost use Rattle.std.specs.Prelude.{◌≡◌, [], Some, List};
-ghost use Rattle.go_model.specs.declared.syntax.types.«Type».TheVariants as type;
-ghost use Rattle.go_model.specs.declared.token.TokenKind.TheVariants as kind;
-ghost use Rattle.go_model.specs.Terminals.{terminals};
+ghost use Rattle.go_syntax.specs.declared.types.«Type».TheVariants as type;
+ghost use Rattle.go_syntax.specs.declared.token.TokenKind.TheVariants as kind;
+ghost use Rattle.go_syntax.specs.grammar.Terminals.{terminals};
 ghost use Rattle.go_parse.specs.Levels.{levels, ReadsBelow};
 ghost use Rattle.go_parse.specs.Reading.{bind, close};
 ghost use Rattle.go_parse.specs.Reads.{Reads};
@@ -13,13 +13,13 @@ use crate::error::ParseError;
 use crate::grammar::{Grammar, Part, PartTree};
 use crate::looks::{names_field, names_method};
 use crate::names::{names, tag, type_name};
-use go_model::list::List;
-use go_model::syntax::held::expression::HeldExpr;
-use go_model::syntax::held::types::{
+use go_base::list::List;
+use go_syntax::held::expression::HeldExpr;
+use go_syntax::held::types::{
     HeldFields, HeldInterfaceElems, HeldType, array_type, boxed_signature, boxed_type, map_type,
 };
-use go_model::syntax::types::{FieldDecl, InterfaceElem, Type};
-use go_model::token::TokenKind;
+use go_syntax::types::{FieldDecl, InterfaceElem, Type};
+use go_syntax::token::TokenKind;
 use std::alloc::Global;
 
 impl<F: Fn(Global, &mut Cursor<'_>, usize, Part) -> Result<PartTree, ParseError>> Grammar<F> {

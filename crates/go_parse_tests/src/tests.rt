@@ -1,9 +1,9 @@
 //! Outlines of token lists.
-use go_model::syntax::declaration::{Decl, File};
-use go_model::syntax::expression::{Expr, Literal};
-use go_model::syntax::name::Name;
-use go_model::text::Text;
-use go_model::token::{Token, TokenKind, TokenValue};
+use go_syntax::declaration::{Decl, File};
+use go_syntax::expression::{Expr, Literal};
+use go_syntax::name::Name;
+use go_base::text::Text;
+use go_syntax::token::{Token, TokenKind, TokenValue};
 use go_parse::error::ParseError;
 use go_parse::outline::parse_outline;
 use std::alloc::Global;

@@ -3,11 +3,12 @@ use Rattle.std.proofs.Common.{◌≡◌, ℕ, ◌≤◌, ◌<◌, true, List, �
 use Rattle.std.specs.Prelude.{codes, bytes_eq}
 use Rattle.std.proofs.lemmas.Slice.Eq.{bytes_eq-Decides}
 use Rattle.std.proofs.lemmas.List.{take-append-drop}
-use Rattle.go_model.specs.Characters.{is_name_character, BeginsPassing, IsRun}
-use Rattle.go_model.specs.Headers.{IsFront, BeginsClause}
+use Rattle.go_base.specs.Characters.{is_name_character, BeginsPassing, IsRun}
+use Rattle.go_base.specs.Comments.{IsFront}
+use Rattle.go_model.specs.files.Headers.{BeginsClause}
 use Rattle.go_tags.specs.Clauses.{IsBehindKeyword}
-use Rattle.go_model.proofs.Fronts.{front_once}
-use Rattle.go_model.proofs.Runs.{run_once, run_zero, run_some}
+use Rattle.go_base.proofs.Fronts.{front_once}
+use Rattle.go_base.proofs.Runs.{run_once, run_zero, run_some}
 
 behind_same : (bytes one two : List ℕ) → bytes ≡ codes "package" ++ one → bytes ≡ codes "package" ++ two → one ≡ two
 behind_same bytes one two e f = sym (ap (drop 7) e) ∙ ap (drop 7) f

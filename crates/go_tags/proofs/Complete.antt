@@ -1,11 +1,11 @@
 -- Each tree of the grammar is found, so there is at most one.
 use Rattle.std.proofs.Common.{◌≡◌, ◌≢◌, ℕ, zero, suc, ◌≤◌, List, [], ◌∷◌, ◌++◌, length, Bool, true, false, Some, None, refl, sym, ap, ◌∙◌, subst, append_assoc, arith}
 use Rattle.std.proofs.lemmas.List.{append-nil}
-use Rattle.go_model.specs.declared.build.ConstraintPart.{ConstraintPart}
-use Rattle.go_model.specs.declared.build.ConstraintPart.TheVariants as part
-use Rattle.go_model.specs.declared.build.Constraint.{Constraint}
-use Rattle.go_model.specs.declared.build.Constraint.TheVariants as c
-use Rattle.go_model.specs.BuildConstraints.{or_chain, and_chain, IsOr, or as an_or, AreOrs, or_first, or_next, IsAnd, and as an_and, AreAnds, and_first, and_next, IsNot, plain, negated, IsOperand, tag_operand, parenthesized}
+use Rattle.go_model.specs.declared.files.build.ConstraintPart.{ConstraintPart}
+use Rattle.go_model.specs.declared.files.build.ConstraintPart.TheVariants as part
+use Rattle.go_model.specs.declared.files.build.Constraint.{Constraint}
+use Rattle.go_model.specs.declared.files.build.Constraint.TheVariants as c
+use Rattle.go_model.specs.files.BuildConstraints.{or_chain, and_chain, IsOr, or as an_or, AreOrs, or_first, or_next, IsAnd, and as an_and, AreAnds, and_first, and_next, IsNot, plain, negated, IsOperand, tag_operand, parenthesized}
 use Rattle.go_tags.specs.Reading.{Found, Reader, Turn, Ends, Grows, then_read, grown, after_turn, turns, all_turns, or_turn, and_turn, chain_of, closed, operand_of, not_of, and_of, or_of, or_below}
 
 -- whether the first part is this sign

@@ -1,16 +1,17 @@
 -- A file has one header or one cause, and not both.
 use Rattle.std.proofs.Common.{◌≡◌, ℕ, ◌≤◌, Bool, true, List, [], ◌∷◌, length, Option, None, Some, refl, sym, ap, ◌∙◌, subst, arith}
-use Rattle.go_model.specs.declared.build.ConstraintPart.{ConstraintPart}
-use Rattle.go_model.specs.declared.build.Constraint.{Constraint}
-use Rattle.go_model.specs.declared.build.Header.{Header}
-use Rattle.go_model.specs.BuildConstraints.{IsOr, IsExpression}
-use Rattle.go_model.specs.Headers.{HasHeader, IsConstraint, IsClause, IsHeader, opening_comments, build_texts, has_plus_line, HasTwoBuildLines, HasBadExpression, HasPlusAlone, without_mark}
+use Rattle.go_model.specs.declared.files.build.ConstraintPart.{ConstraintPart}
+use Rattle.go_model.specs.declared.files.build.Constraint.{Constraint}
+use Rattle.go_model.specs.declared.files.build.Header.{Header}
+use Rattle.go_model.specs.files.BuildConstraints.{IsOr, IsExpression}
+use Rattle.go_base.specs.Comments.{without_mark}
+use Rattle.go_model.specs.files.Headers.{HasHeader, IsConstraint, IsClause, IsHeader, opening_comments, build_texts, has_plus_line, HasTwoBuildLines, HasBadExpression, HasPlusAlone}
 use Rattle.go_tags.specs.declared.error.TagError.{TagError}
 use Rattle.go_tags.specs.declared.error.TagError.TheVariants.{BadExpression, Twice, PlusBuild, NoMemory}
 use Rattle.go_tags.specs.HeaderCauses.{HasCause, IsOwnCause}
 use Rattle.go_tags.proofs.Complete.{expression_once}
 use Rattle.go_tags.proofs.Stepping.{parts_once}
-use Rattle.go_model.proofs.Fronts.{front_once}
+use Rattle.go_base.proofs.Fronts.{front_once}
 use Rattle.go_tags.proofs.Clauses.{clause_once}
 
 pub text_once : (text : List ℕ) (x y : Constraint) → IsExpression text x → IsExpression text y → x ≡ y

@@ -5,11 +5,11 @@ use Rattle.std.proofs.lemmas.List.{reverse-append}
 use Rattle.std.proofs.lemmas.List.Splits.{slice_split_none, slice_split_first, length-slice_split}
 use Rattle.std.proofs.lemmas.List.Sums.{fails_before_first}
 use Rattle.std.proofs.lemmas.Bool.Decides.{nat_tests}
-use Rattle.go_model.specs.declared.platform.Platform.{Platform}
-use Rattle.go_model.specs.BuildTags.{is_satisfied}
-use Rattle.go_model.specs.BuildValues.{without_test, demanded, name_holds}
+use Rattle.go_model.specs.declared.files.platform.Platform.{Platform}
+use Rattle.go_model.specs.files.BuildTags.{is_satisfied}
+use Rattle.go_model.specs.files.BuildValues.{without_test, demanded, name_holds}
 use Rattle.go_tags.specs.NameParts.{parts_back}
-use Rattle.go_model.proofs.Lists.{split_at, rest_from, take_past}
+use Rattle.go_base.proofs.Lists.{split_at, rest_from, take_past}
 
 abbrev underscore : ℕ → Bool
 underscore b = b == 95

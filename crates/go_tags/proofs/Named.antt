@@ -3,10 +3,10 @@ use Rattle.std.proofs.Common.{◌≡◌, ℕ, zero, suc, ◌<◌, ◌≤◌, Lis
 use Rattle.std.specs.Prelude.{bytes_eq}
 use Rattle.std.proofs.lemmas.Slice.Eq.{bytes_eq-Decides}
 use Rattle.std.proofs.lemmas.Bool.Decides.{not_from_Decides}
-use Rattle.go_model.specs.Platforms.{name_of}
-use Rattle.go_model.specs.Lists.{Has}
-use Rattle.go_model.specs.declared.platform.Platform.{Platform}
-use Rattle.go_model.specs.declared.platform.Platform.TheVariants as p
+use Rattle.go_model.specs.files.Platforms.{name_of}
+use Rattle.go_base.specs.Lists.{Has}
+use Rattle.go_model.specs.declared.files.platform.Platform.{Platform}
+use Rattle.go_model.specs.declared.files.platform.Platform.TheVariants as p
 
 -- no platform of the list has the name
 abbrev pub NoneNamed : List ℕ → List Platform → Type 0

@@ -1,7 +1,8 @@
 -- A scan of a header's lines.
 use Rattle.std.proofs.Common.{◌≡◌, ℕ, ◌+◌, ◌≤◌, Bool, true, false, ◌||◌, List, [], ◌∷◌, ◌++◌, length, take, drop, refl, sym, ap, ◌∙◌, subst, arith, Some, None, length-append, append_assoc, length-drop}
 use Rattle.std.proofs.lemmas.List.{drop-drop, append-nil}
-use Rattle.go_model.specs.Headers.{piece_len, IsFront, front_end, front_more, build_text, build_texts, as_list, is_plus_line, has_plus_line, opening_comment, opening_comments, is_open_after}
+use Rattle.go_base.specs.Comments.{piece_len, IsFront, front_end, front_more}
+use Rattle.go_model.specs.files.Headers.{build_text, build_texts, as_list, is_plus_line, has_plus_line, opening_comment, opening_comments, is_open_after}
 use Rattle.go_tags.specs.declared.lines.BuildLines.{BuildLines}
 use Rattle.go_tags.specs.declared.lines.Lines.{Lines}
 use Rattle.go_tags.specs.Lines.{Counts, Sums, IsScan}

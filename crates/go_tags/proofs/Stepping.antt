@@ -4,14 +4,14 @@ use Rattle.std.specs.Char.{encode_utf8}
 use Rattle.std.proofs.lemmas.Str.{char_from_byte}
 use Rattle.std.proofs.lemmas.List.{take-append-drop, drop-drop, append-nil}
 use Rattle.ucd_category.proofs.Computing.{ucd_category}
-use Rattle.go_model.specs.Characters.{is_tag_character, IsRun, run_end, run_more}
-use Rattle.go_model.specs.declared.build.ConstraintPart.{ConstraintPart}
-use Rattle.go_model.specs.declared.build.ConstraintPart.TheVariants as part
-use Rattle.go_model.specs.BuildConstraints.{is_blank, AreParts, no_part, blank, or_sign, and_sign, not_sign, open_sign, close_sign, tag}
+use Rattle.go_base.specs.Characters.{is_tag_character, IsRun, run_end, run_more}
+use Rattle.go_model.specs.declared.files.build.ConstraintPart.{ConstraintPart}
+use Rattle.go_model.specs.declared.files.build.ConstraintPart.TheVariants as part
+use Rattle.go_model.specs.files.BuildConstraints.{is_blank, AreParts, no_part, blank, or_sign, and_sign, not_sign, open_sign, close_sign, tag}
 use Rattle.go_tags.specs.declared.parts.Step.{Step}
 use Rattle.go_tags.specs.Parts.{is_next, sign_at, onto, BeginsStep}
-use Rattle.go_model.proofs.Runs.{run_once}
-use Rattle.go_model.proofs.Lists.{length_take, drop_past}
+use Rattle.go_base.proofs.Runs.{run_once}
+use Rattle.go_base.proofs.Lists.{length_take, drop_past}
 
 no_tag_space : is_tag_character 32 ≡ false
 unfolding ucd_category

@@ -1,8 +1,8 @@
 -- Why a build expression was not read.
 use Rattle.std.specs.Prelude.{ℕ, List}
-use Rattle.go_model.specs.declared.build.ConstraintPart.{ConstraintPart}
-use Rattle.go_model.specs.declared.build.Constraint.{Constraint}
-use Rattle.go_model.specs.BuildConstraints.{IsOr, IsExpression}
+use Rattle.go_model.specs.declared.files.build.ConstraintPart.{ConstraintPart}
+use Rattle.go_model.specs.declared.files.build.Constraint.{Constraint}
+use Rattle.go_model.specs.files.BuildConstraints.{IsOr, IsExpression}
 use Rattle.go_tags.specs.declared.error.TagError.{TagError}
 use Rattle.go_tags.specs.declared.error.TagError.TheVariants.{BadExpression, Twice, PlusBuild, NoMemory}
 

@@ -1,8 +1,8 @@
 -- Why a file has no header.
 use Rattle.std.specs.Prelude.{◌≡◌, ◌≢◌, ◌≤◌, ℕ, List, [], ◌∷◌, length, true}
-use Rattle.go_model.specs.declared.build.Constraint.{Constraint}
-use Rattle.go_model.specs.BuildConstraints.{IsExpression}
-use Rattle.go_model.specs.Headers.{HasTwoBuildLines, HasBadExpression, HasPlusAlone, build_texts, has_plus_line}
+use Rattle.go_model.specs.declared.files.build.Constraint.{Constraint}
+use Rattle.go_model.specs.files.BuildConstraints.{IsExpression}
+use Rattle.go_model.specs.files.Headers.{HasTwoBuildLines, HasBadExpression, HasPlusAlone, build_texts, has_plus_line}
 use Rattle.go_tags.specs.declared.error.TagError.{TagError}
 use Rattle.go_tags.specs.declared.error.TagError.TheVariants.{BadExpression, Twice, PlusBuild, NoMemory}
 

@@ -1,6 +1,7 @@
 -- What a scan of a header keeps of its comments.
 use Rattle.std.specs.Prelude.{◌≡◌, ◌≤◌, ℕ, true, List, [], ◌∷◌, length}
-use Rattle.go_model.specs.Headers.{build_texts, has_plus_line, opening_comments, IsFront}
+use Rattle.go_base.specs.Comments.{IsFront}
+use Rattle.go_model.specs.files.Headers.{build_texts, has_plus_line, opening_comments}
 use Rattle.go_tags.specs.declared.lines.BuildLines.{BuildLines}
 use Rattle.go_tags.specs.declared.lines.BuildLines.TheVariants.{Nothing, One, Several}
 use Rattle.go_tags.specs.declared.lines.Lines.{Lines}

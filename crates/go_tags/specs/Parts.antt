@@ -1,8 +1,8 @@
 -- The first part of a build expression's text.
 use Rattle.std.specs.Prelude.{◌≡◌, ◌<◌, ◌≤◌, ℕ, Bool, false, ◌&&◌, ◌==◌, if◌then◌else◌, Option, None, Some, List, [], ◌∷◌, length, drop}
-use Rattle.go_model.specs.declared.build.ConstraintPart.{ConstraintPart}
-use Rattle.go_model.specs.declared.build.ConstraintPart.TheVariants as part
-use Rattle.go_model.specs.BuildConstraints.{is_blank, AreParts}
+use Rattle.go_model.specs.declared.files.build.ConstraintPart.{ConstraintPart}
+use Rattle.go_model.specs.declared.files.build.ConstraintPart.TheVariants as part
+use Rattle.go_model.specs.files.BuildConstraints.{is_blank, AreParts}
 use Rattle.go_tags.specs.declared.error.TagError.{TagError}
 use Rattle.go_tags.specs.declared.error.TagError.TheVariants.{BadExpression, Twice, PlusBuild, NoMemory}
 use Rattle.go_tags.specs.declared.parts.Step.{Step}

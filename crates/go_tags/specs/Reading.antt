@@ -1,11 +1,11 @@
 -- The reading of a build expression from the front of its parts, one function for each rule of the
 -- grammar. Each takes the reader of an expression in parentheses, which may nest one level less.
 use Rattle.std.specs.Prelude.{ℕ, zero, suc, List, [], ◌∷◌, ◌++◌, length, Option, Some, None}
-use Rattle.go_model.specs.declared.build.ConstraintPart.{ConstraintPart}
-use Rattle.go_model.specs.declared.build.ConstraintPart.TheVariants as part
-use Rattle.go_model.specs.declared.build.Constraint.{Constraint}
-use Rattle.go_model.specs.declared.build.Constraint.TheVariants as c
-use Rattle.go_model.specs.BuildConstraints.{or_chain, and_chain}
+use Rattle.go_model.specs.declared.files.build.ConstraintPart.{ConstraintPart}
+use Rattle.go_model.specs.declared.files.build.ConstraintPart.TheVariants as part
+use Rattle.go_model.specs.declared.files.build.Constraint.{Constraint}
+use Rattle.go_model.specs.declared.files.build.Constraint.TheVariants as c
+use Rattle.go_model.specs.files.BuildConstraints.{or_chain, and_chain}
 
 -- what was read, and the parts behind it
 abbrev pub Found : Type 0 → Type 0

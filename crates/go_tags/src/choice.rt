@@ -1,13 +1,13 @@
 //! Which files a platform chooses.
 ghost use Rattle.std.specs.Prelude.{◌≡◌, ◌++◌, ◌∷◌, [], None, Some, Option, reverse, map, option_map, drop, ◌==◌};
 ghost use Rattle.std.specs.List.{position, before_first, list_any, list_all};
-ghost use Rattle.go_model.specs.BuildTags.{is_satisfied};
-ghost use Rattle.go_model.specs.BuildValues.{last_demanded, holds, name_parts, without_test, demanded, name_holds, is_chosen};
+ghost use Rattle.go_model.specs.files.BuildTags.{is_satisfied};
+ghost use Rattle.go_model.specs.files.BuildValues.{last_demanded, holds, name_parts, without_test, demanded, name_holds, is_chosen};
 ghost use Rattle.go_tags.specs.NameParts.{parts_back, IsCutAtLast};
 
 use crate::tags::{is_known_architecture, is_known_system, is_satisfied};
-use go_model::build::Constraint;
-use go_model::platform::Platform;
+use go_model::files::build::Constraint;
+use go_model::files::platform::Platform;
 
 /// The last part of a name's parts, which are joined by `_`, and the parts before it.
 #[derive(Clone, Copy)]

@@ -1,13 +1,13 @@
 //! The package clause of a file.
 ghost use Rattle.std.specs.Prelude.{◌≡◌, ℕ, List, length, take, drop, MatchOption, codes, option_map, IfSome, IsNone, IsTrue, ◌↔◌};
-ghost use Rattle.go_model.specs.BuildTags.{is_one_of};
-ghost use Rattle.go_model.specs.Characters.{is_letter, is_name_character, BeginsPassing, IsRun};
+ghost use Rattle.go_model.specs.files.BuildTags.{is_one_of};
+ghost use Rattle.go_base.specs.Characters.{is_letter, is_name_character, BeginsPassing, IsRun};
 ghost use Rattle.go_tags.specs.Clauses.{IsBehindKeyword};
-ghost use Rattle.go_model.specs.Headers.{keywords, IsPackageName, BeginsClause, IsClause};
+ghost use Rattle.go_model.specs.files.Headers.{keywords, IsPackageName, BeginsClause, IsClause};
 
 use crate::words::is_one_of;
-use go_model::characters::{Alphabet, begins_with_letter, run_len};
-use go_model::front::past_front;
+use go_base::characters::{Alphabet, begins_with_letter, run_len};
+use go_base::comments::past_front;
 
 #[rattlefmt::skip]
 const KEYWORDS: [&[u8]; 25] = [
@@ -17,7 +17,7 @@ const KEYWORDS: [&[u8]; 25] = [
     b"struct", b"switch", b"type",        b"var",
 ];
 
-#[tactic(auto, unfolding(go_model::specs::Headers::keywords))]
+#[tactic(auto, unfolding(go_model::specs::files::Headers::keywords))]
 fn is_keyword(word: &[u8]) -> bool
     ensures { result ≡ is_one_of keywords word.now }
 {

@@ -1,7 +1,7 @@
 //! The parts of a build expression that are left to read.
 ghost use Rattle.std.specs.Prelude.{◌≡◌, drop, length, slice_get, option_map};
 
-use go_model::build::ConstraintPart;
+use go_model::files::build::ConstraintPart;
 use std::marker::Model;
 
 /// The parts that are left.
@@ -12,7 +12,7 @@ pub struct Cursor<'a> {
 
 impl<'a> Model for Cursor<'a> {
     ghost use Rattle.std.specs.Prelude.{List};
-    ghost use Rattle.go_model.specs.declared.build.ConstraintPart.{ConstraintPart};
+    ghost use Rattle.go_model.specs.declared.files.build.ConstraintPart.{ConstraintPart};
 
     ghost Value = { List ConstraintPart };
 

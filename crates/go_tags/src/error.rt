@@ -1,5 +1,5 @@
 //! Why a file has no header.
-use go_model::memory::NoMemory;
+use go_base::memory::NoMemory;
 use thiserror::Error;
 
 /// Why a file has no header.

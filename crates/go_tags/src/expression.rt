@@ -1,21 +1,21 @@
 //! Build expressions, read by recursive descent. Each rule takes the reader of an expression in
 //! parentheses as a parameter.
 ghost use Rattle.std.specs.Prelude.{◌≡◌, ◌≢◌, ℕ, List as Sequence, [], IfOk, IfErr};
-ghost use Rattle.go_model.specs.BuildConstraints as grammar;
+ghost use Rattle.go_model.specs.files.BuildConstraints as grammar;
 ghost use Rattle.go_tags.specs.Reading as reading;
-ghost use Rattle.go_model.specs.BuildConstraints.{IsOr, IsExpression};
-ghost use Rattle.go_model.specs.declared.build.Constraint.{Constraint};
+ghost use Rattle.go_model.specs.files.BuildConstraints.{IsOr, IsExpression};
+ghost use Rattle.go_model.specs.declared.files.build.Constraint.{Constraint};
 ghost use Rattle.go_tags.specs.Causes.{OrCause, ExpressionCause};
 ghost use Rattle.go_tags.specs.Reads.{Reads, ReadsBelow};
 
 use crate::cursor::Cursor;
 use crate::error::TagError;
 use crate::parts::parts_of;
-use go_model::boxed::Box;
-use go_model::build::{Constraint, ConstraintPart};
-use go_model::list::List;
-use go_model::memory::NoMemory;
-use go_model::text::Text;
+use go_base::boxed::Box;
+use go_model::files::build::{Constraint, ConstraintPart};
+use go_base::list::List;
+use go_base::memory::NoMemory;
+use go_base::text::Text;
 use std::alloc::Global;
 
 /// The rules, over a reader of expressions with parentheses less deep than `depth`.

@@ -1,7 +1,8 @@
 //! The header of a file: its build line and its package clause.
 ghost use Rattle.std.specs.Prelude.{◌≡◌, ℕ, List, IfOk, IfErr, Option, option_map, IfSome, codes};
-ghost use Rattle.go_model.specs.Headers.{without_mark, IsHeader, IsConstraint, IsClause, build_texts, has_plus_line};
-ghost use Rattle.go_model.specs.declared.build.Header.{Header};
+ghost use Rattle.go_base.specs.Comments.{without_mark};
+ghost use Rattle.go_model.specs.files.Headers.{IsHeader, IsConstraint, IsClause, build_texts, has_plus_line};
+ghost use Rattle.go_model.specs.declared.files.build.Header.{Header};
 ghost use Rattle.go_tags.specs.HeaderCauses.{HasCause, ConstraintCause, IsOwnCause};
 ghost use Rattle.go_tags.specs.Lines.{Sums};
 ghost use Rattle.go_tags.specs.declared.error.TagError.{TagError};
@@ -10,9 +11,9 @@ use crate::clause::clause_name;
 use crate::error::TagError;
 use crate::expression::expression_of;
 use crate::lines::{BuildLines, Lines, scan_front};
-use go_model::build::{Constraint, Header};
-use go_model::memory::NoMemory;
-use go_model::text::Text;
+use go_model::files::build::{Constraint, Header};
+use go_base::memory::NoMemory;
+use go_base::text::Text;
 use std::alloc::Global;
 
 fn without_mark(bytes: &[u8]) -> &[u8]

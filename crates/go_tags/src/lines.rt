@@ -1,11 +1,12 @@
 //! Build lines among the comments of a header.
 ghost use Rattle.std.specs.Prelude.{◌≡◌, ◌++◌, ◌∷◌, [], ℕ, List, Option, option_map, codes, true, ◌≤◌, length, if◌then◌else◌, Bool, IfSome, ◌||◌};
 ghost use Rattle.std.specs.List.{prefix_len};
-ghost use Rattle.go_model.specs.BuildConstraints.{is_blank};
-ghost use Rattle.go_model.specs.Headers.{starts_with, build_texts, ends_word, after_word, build_text, without_blanks, is_plus_line, is_open_after, opening_comment, opening_comments, IsFront};
+ghost use Rattle.go_model.specs.files.BuildConstraints.{is_blank};
+ghost use Rattle.go_base.specs.Comments.{starts_with, IsFront};
+ghost use Rattle.go_model.specs.files.Headers.{build_texts, ends_word, after_word, build_text, without_blanks, is_plus_line, is_open_after, opening_comment, opening_comments};
 ghost use Rattle.go_tags.specs.Lines.{Counts, Sums, IsScan};
 
-use go_model::front::piece_len;
+use go_base::comments::piece_len;
 
 /// The build lines so far.
 #[derive(Clone, Copy)]
@@ -39,7 +40,7 @@ fn ends_word(text: &[u8]) -> bool
     }
 }
 
-#[tactic(auto, unfolding(go_model::specs::Headers::after_word))]
+#[tactic(auto, unfolding(go_model::specs::files::Headers::after_word))]
 fn after_word<'a>(word: &[u8], text: &'a [u8]) -> Option<&'a [u8]>
     ensures { option_map (λ r. r.now) result ≡ after_word word.now text.now }
 {

@@ -1,10 +1,10 @@
 //! Platforms by name.
 ghost use Rattle.std.specs.Prelude.{◌≡◌, MatchOption};
-ghost use Rattle.go_model.specs.Lists.{Has};
-ghost use Rattle.go_model.specs.Platforms.{name_of};
-ghost use Rattle.go_model.specs.declared.platform.Platform.{Platform};
+ghost use Rattle.go_base.specs.Lists.{Has};
+ghost use Rattle.go_model.specs.files.Platforms.{name_of};
+ghost use Rattle.go_model.specs.declared.files.platform.Platform.{Platform};
 
-use go_model::platform::Platform;
+use go_model::files::platform::Platform;
 
 /// The platform of this name, or `None` exactly where none has it.
 pub fn platform(text: &[u8]) -> Option<Platform>

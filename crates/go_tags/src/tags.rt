@@ -1,9 +1,9 @@
 //! Build tags: which of them a platform satisfies, and which words are systems or architectures.
 ghost use Rattle.std.specs.Prelude.{◌≡◌};
-ghost use Rattle.go_model.specs.BuildTags.{is_one_of, known_systems, known_architectures, unix_systems, release_tags, is_system_tag, is_satisfied};
+ghost use Rattle.go_model.specs.files.BuildTags.{is_one_of, known_systems, known_architectures, unix_systems, release_tags, is_system_tag, is_satisfied};
 
 use crate::words::is_one_of;
-use go_model::platform::Platform;
+use go_model::files::platform::Platform;
 
 #[rattlefmt::skip]
 const KNOWN_SYSTEMS: [&[u8]; 18] = [
@@ -34,7 +34,7 @@ const RELEASE_TAGS: [&[u8]; 21] = [
 ];
 
 /// Whether the word is a system that file names may carry.
-#[tactic(auto, unfolding(go_model::specs::BuildTags::known_systems))]
+#[tactic(auto, unfolding(go_model::specs::files::BuildTags::known_systems))]
 pub fn is_known_system(word: &[u8]) -> bool
     ensures { result ≡ is_one_of known_systems word.now }
 {
@@ -42,28 +42,28 @@ pub fn is_known_system(word: &[u8]) -> bool
 }
 
 /// Whether the word is an architecture that file names may carry.
-#[tactic(auto, unfolding(go_model::specs::BuildTags::known_architectures))]
+#[tactic(auto, unfolding(go_model::specs::files::BuildTags::known_architectures))]
 pub fn is_known_architecture(word: &[u8]) -> bool
     ensures { result ≡ is_one_of known_architectures word.now }
 {
     is_one_of(&KNOWN_ARCHITECTURES, word)
 }
 
-#[tactic(auto, unfolding(go_model::specs::BuildTags::unix_systems))]
+#[tactic(auto, unfolding(go_model::specs::files::BuildTags::unix_systems))]
 fn is_unix_system(system: &[u8]) -> bool
     ensures { result ≡ is_one_of unix_systems system.now }
 {
     is_one_of(&UNIX_SYSTEMS, system)
 }
 
-#[tactic(auto, unfolding(go_model::specs::BuildTags::release_tags))]
+#[tactic(auto, unfolding(go_model::specs::files::BuildTags::release_tags))]
 fn is_release_tag(tag: &[u8]) -> bool
     ensures { result ≡ is_one_of release_tags tag.now }
 {
     is_one_of(&RELEASE_TAGS, tag)
 }
 
-#[tactic(auto, unfolding(go_model::specs::BuildTags::is_system_tag))]
+#[tactic(auto, unfolding(go_model::specs::files::BuildTags::is_system_tag))]
 fn is_system_tag(system: &[u8], tag: &[u8]) -> bool
     ensures { result ≡ is_system_tag system.now tag.now }
 {
@@ -75,7 +75,7 @@ fn is_system_tag(system: &[u8], tag: &[u8]) -> bool
 }
 
 /// Whether the platform satisfies the tag.
-#[tactic(auto, unfolding(go_model::specs::BuildTags::is_satisfied))]
+#[tactic(auto, unfolding(go_model::specs::files::BuildTags::is_satisfied))]
 pub fn is_satisfied(platform: Platform, tag: &[u8]) -> bool
     ensures { result ≡ is_satisfied platform tag.now }
 {

@@ -1,6 +1,6 @@
 //! Words among words.
 ghost use Rattle.std.specs.Prelude.{◌≡◌, map};
-ghost use Rattle.go_model.specs.BuildTags.{is_one_of};
+ghost use Rattle.go_model.specs.files.BuildTags.{is_one_of};
 
 /// Whether the word is one of these.
 pub fn is_one_of(words: &[&[u8]], word: &[u8]) -> bool

@@ -1,6 +1,6 @@
 //! Headers of files, names of platforms and the choice of files.
 mod header {
-    use go_model::platform::Platform;
+    use go_model::files::platform::Platform;
     use go_tags::choice::chosen;
     use go_tags::error::TagError;
     use go_tags::header::header;
@@ -104,7 +104,7 @@ mod header {
 }
 
 mod platforms {
-    use go_model::platform::Platform;
+    use go_model::files::platform::Platform;
     use go_tags::platforms::platform;
 
     #[test]
@@ -127,7 +127,7 @@ mod platforms {
 }
 
 mod choice {
-    use go_model::platform::Platform;
+    use go_model::files::platform::Platform;
     use go_tags::choice::chosen;
 
     /// File names, and whether they are chosen on linux-amd64, windows-386, android-arm64,

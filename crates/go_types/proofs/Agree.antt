@@ -1,11 +1,11 @@
 -- Two tables that agree on a set of names which is closed under the table give the same answers.
 use Rattle.std.proofs.Common.{◌≡◌, ◌≤◌, ℕ, zero, suc, Bool, true, false, ◌||◌, ◌&&◌, inl, inr, List, [], ◌∷◌, ◌++◌, length, map, refl, sym, ap, ◌∙◌, subst, Option, Some, None, if◌then◌else◌}
-use Rattle.go_model.specs.Lists.{Has}
-use Rattle.go_model.specs.Gathered.{gather}
-use Rattle.go_model.specs.Tables.{Table}
-use Rattle.go_model.specs.Terms.{Layer}
-use Rattle.go_model.specs.TypeNames.{Names, names, name_step, field_names, method_names, parameter_names, all_of}
-use Rattle.go_model.specs.Underlying.{entry, under, under_layer, under_entry, fields_of, methods_of, declared_methods, methods_of_entry}
+use Rattle.go_base.specs.Lists.{Has}
+use Rattle.go_base.specs.Gathered.{gather}
+use Rattle.go_model.specs.types.Tables.{Table}
+use Rattle.go_model.specs.types.Terms.{Layer}
+use Rattle.go_model.specs.types.TypeNames.{Names, names, name_step, field_names, method_names, parameter_names, all_of}
+use Rattle.go_model.specs.types.Underlying.{entry, under, under_layer, under_entry, fields_of, methods_of, declared_methods, methods_of_entry}
 use Rattle.go_model.specs.declared.types.names.TypeName.{TypeName}
 use Rattle.go_model.specs.declared.types.names.Sel.{Sel}
 use Rattle.go_model.specs.declared.types.package.Defined.{Defined}
@@ -15,13 +15,13 @@ use Rattle.go_model.specs.declared.types.term.Signature.{Signature}
 use Rattle.go_model.specs.declared.types.term.Term.{Term, Term-F, out-Term, roll-Term, roll-out-Term, fold-roll-Term}
 use Rattle.go_model.specs.declared.types.term.Field.{Field, out-Field, fold-Field, fold_out-Field}
 use Rattle.go_model.specs.declared.types.term.Method.{out-Method}
-use Rattle.go_model.specs.Selectors.{Spot, Ending, field_ending, declared_ending, method_ending, step, steps, endings, ends, start, start_layer, start_pointer, start_named, is_defined_pointer, is_defined_layer, is_pointer, base_of, base_layer, IsOnly, Finds}
-use Rattle.go_model.specs.MethodSets.{InSet, Implements}
-use Rattle.go_model.specs.Comparison.{LeadsToIncomparable, at_slice, at_map, at_func, in_array, in_struct, Comparable}
-use Rattle.go_model.specs.Imports.{is_imported_struct, is_imported_open, imported_struct, imported_interface}
-use Rattle.go_model.specs.Tags.{untagged}
-use Rattle.go_model.specs.Assignability.{Assignable, assign_identical, assign_underlying, assign_interface, assign_channel, AreChannels}
-use Rattle.go_model.specs.Conversions.{Convertible, convert_assignable, convert_underlying, convert_pointer, convert_basic, UnderlyingConverts, is_characters, has_basic, is_character, is_string, both_basic, basics_convert}
+use Rattle.go_model.specs.types.Selectors.{Spot, Ending, field_ending, declared_ending, method_ending, step, steps, endings, ends, start, start_layer, start_pointer, start_named, is_defined_pointer, is_defined_layer, is_pointer, base_of, base_layer, IsOnly, Finds}
+use Rattle.go_model.specs.types.MethodSets.{InSet, Implements}
+use Rattle.go_model.specs.types.Comparison.{LeadsToIncomparable, at_slice, at_map, at_func, in_array, in_struct, Comparable}
+use Rattle.go_model.specs.types.Imports.{is_imported_struct, is_imported_open, imported_struct, imported_interface}
+use Rattle.go_model.specs.types.Tags.{untagged}
+use Rattle.go_model.specs.types.Assignability.{Assignable, assign_identical, assign_underlying, assign_interface, assign_channel, AreChannels}
+use Rattle.go_model.specs.types.Conversions.{Convertible, convert_assignable, convert_underlying, convert_pointer, convert_basic, UnderlyingConverts, is_characters, has_basic, is_character, is_string, both_basic, basics_convert}
 use Rattle.go_types.specs.Regions.{Within, AgreeOn, IsClosed}
 use Rattle.go_types.proofs.Lists.{gather_of, has-left, has-right}
 

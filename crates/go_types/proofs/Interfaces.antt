@@ -1,12 +1,12 @@
 -- Types with the same interface underneath implement each other.
 use Rattle.std.proofs.Common.{◌≡◌, Bool, true, false, inl, inr, List, [], ◌∷◌, ◌++◌, map, refl, sym, ap, ◌∙◌, subst, arith, if◌then◌else◌}
-use Rattle.go_model.specs.Lists.{Has, Once}
-use Rattle.go_model.specs.Gathered.{gather}
-use Rattle.go_model.specs.Tables.{Table}
-use Rattle.go_model.specs.Terms.{Layer, same_sel}
-use Rattle.go_model.specs.Underlying.{under, under_layer, fields_of, methods_of, declared_methods}
-use Rattle.go_model.specs.Selectors.{Ending, method, field_ending, declared_ending, method_ending, endings, ends, start, start_layer, start_named, is_defined_pointer, is_defined_layer}
-use Rattle.go_model.specs.MethodSets.{InSet, Implements, method_sel}
+use Rattle.go_base.specs.Lists.{Has, Once}
+use Rattle.go_base.specs.Gathered.{gather}
+use Rattle.go_model.specs.types.Tables.{Table}
+use Rattle.go_model.specs.types.Terms.{Layer, same_sel}
+use Rattle.go_model.specs.types.Underlying.{under, under_layer, fields_of, methods_of, declared_methods}
+use Rattle.go_model.specs.types.Selectors.{Ending, method, field_ending, declared_ending, method_ending, endings, ends, start, start_layer, start_named, is_defined_pointer, is_defined_layer}
+use Rattle.go_model.specs.types.MethodSets.{InSet, Implements, method_sel}
 use Rattle.go_model.specs.declared.types.names.Sel.{Sel}
 use Rattle.go_model.specs.declared.types.term.Term.{Term, Term-F, out-Term}
 use Rattle.go_model.specs.declared.types.term.Method.{Method, out-Method}

@@ -5,7 +5,7 @@ use Rattle.std.specs.Prelude.{if◌then◌else◌}
 use Rattle.std.specs.List.{list_any}
 use Rattle.std.specs.Cmp.{second_so}
 use Rattle.indexmap.specs.IndexSet.{insert_key}
-use Rattle.go_model.specs.Lists.{Has}
+use Rattle.go_base.specs.Lists.{Has}
 use Rattle.go_model.specs.declared.types.names.TypeName.{TypeName}
 use Rattle.go_types.specs.Names.{same_name_is}
 use Rattle.go_types.specs.Search.{Adds}

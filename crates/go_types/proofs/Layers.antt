@@ -1,10 +1,10 @@
 -- Layers of places stand for the paths that end there and beyond.
 use Rattle.std.proofs.Common.{◌≡◌, ◌≤◌, ◌<◌, ◌+◌, ℕ, zero, suc, min, ◌⊎◌, inl, inr, List, [], ◌∷◌, ◌++◌, length, refl, sym, ap, ◌∙◌, subst, arith}
-use Rattle.go_model.specs.Lists.{Has}
-use Rattle.go_model.specs.Tables.{Table}
+use Rattle.go_base.specs.Lists.{Has}
+use Rattle.go_model.specs.types.Tables.{Table}
 use Rattle.go_model.specs.declared.types.names.Sel.{Sel}
-use Rattle.go_model.specs.Gathered.{gather}
-use Rattle.go_model.specs.Selectors.{Spot, Ending, steps, endings, ends, NoneBelow}
+use Rattle.go_base.specs.Gathered.{gather}
+use Rattle.go_model.specs.types.Selectors.{Spot, Ending, steps, endings, ends, NoneBelow}
 use Rattle.go_types.specs.Search.{Thinned}
 use Rattle.go_types.proofs.Lists.{has-split, gather-append, gather_of, gather_has, has_none}
 

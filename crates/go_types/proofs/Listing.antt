@@ -7,11 +7,11 @@ use Rattle.std.specs.BTreeMap.{keys, Updates}
 use Rattle.std.specs.Map.{keys_of}
 use Rattle.std.specs.declared.cmp.Ordering.TheVariants.{Less}
 use Rattle.std.proofs.lemmas.List.{map-append}
-use Rattle.go_model.specs.Lists.{Has}
-use Rattle.go_model.specs.Tables.{Table}
-use Rattle.go_model.specs.Terms.{same_sel}
-use Rattle.go_model.specs.Selectors.{is_defined_pointer}
-use Rattle.go_model.specs.MethodSets.{sel_order, method_sel, IsMethodSet}
+use Rattle.go_base.specs.Lists.{Has}
+use Rattle.go_model.specs.types.Tables.{Table}
+use Rattle.go_model.specs.types.Terms.{same_sel}
+use Rattle.go_model.specs.types.Selectors.{is_defined_pointer}
+use Rattle.go_model.specs.types.MethodSets.{sel_order, method_sel, IsMethodSet}
 use Rattle.go_model.specs.declared.types.names.Sel.{Sel}
 use Rattle.go_model.specs.declared.types.term.Term.{Term}
 use Rattle.go_model.specs.declared.types.term.Method.{Method, out-Method, roll-Method, roll-out-Method}

@@ -1,7 +1,7 @@
 -- Members of lists, and what lists give.
 use Rattle.std.proofs.Common.{◌≡◌, ℕ, zero, suc, ◌+◌, ◌*◌, ◌<◌, ◌≤◌, List, [], ◌∷◌, ◌++◌, length, drop, get_or, refl, sym, ap, ◌∙◌, subst, ◌⊎◌, inl, inr, arith, append_assoc, length-append}
-use Rattle.go_model.specs.Lists.{Has}
-use Rattle.go_model.specs.Gathered.{gather}
+use Rattle.go_base.specs.Lists.{Has}
+use Rattle.go_base.specs.Gathered.{gather}
 use Rattle.go_types.specs.Search.{Twice}
 
 module _ {A : Type 0} where

@@ -1,6 +1,6 @@
 -- A fact of each of some methods, one after another.
 use Rattle.std.proofs.Common.{◌≡◌, ◌<◌, ◌+◌, ℕ, Bool, true, false, inl, inr, List, length, take, get_or, subst}
-use Rattle.go_model.specs.Lists.{Has}
+use Rattle.go_base.specs.Lists.{Has}
 use Rattle.go_model.specs.declared.types.term.Method.{Method}
 use Rattle.go_types.specs.Answers.{Decides}
 use Rattle.go_types.proofs.Lists.{has-back, item_has}

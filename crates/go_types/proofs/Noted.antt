@@ -11,16 +11,16 @@ use Rattle.std.specs.BTreeMap.{Updates, is_at}
 use Rattle.std.specs.Map.{lookup}
 use Rattle.std.proofs.lemmas.Map.Text.{is_eq-slice_cmp}
 use Rattle.std.proofs.lemmas.Slice.Eq.{bytes_eq-Decides}
-use Rattle.go_model.specs.Gathered.{gather}
-use Rattle.go_model.specs.Terms.{same_sel}
-use Rattle.go_model.specs.Tables.{Table}
-use Rattle.go_model.specs.Underlying.{under, fields_of, methods_of, declared_methods}
-use Rattle.go_model.specs.Selectors.{Spot, Ending, field_ending, declared_ending, method_ending, endings}
+use Rattle.go_base.specs.Gathered.{gather}
+use Rattle.go_model.specs.types.Terms.{same_sel}
+use Rattle.go_model.specs.types.Tables.{Table}
+use Rattle.go_model.specs.types.Underlying.{under, fields_of, methods_of, declared_methods}
+use Rattle.go_model.specs.types.Selectors.{Spot, Ending, field_ending, declared_ending, method_ending, endings}
 use Rattle.go_model.specs.declared.types.package.MethodOf.{MethodOf}
 use Rattle.go_model.specs.declared.types.term.Term.{out-Term}
 use Rattle.go_model.specs.declared.types.term.Field.{Field}
 use Rattle.go_model.specs.declared.types.term.Method.{Method}
-use Rattle.go_model.specs.MethodSets.{sel_order}
+use Rattle.go_model.specs.types.MethodSets.{sel_order}
 use Rattle.go_model.specs.declared.types.names.Sel.{Sel}
 use Rattle.go_model.specs.declared.types.term.Signature.{Signature}
 use Rattle.go_types.specs.Slots.{Settled, Slots, slot_at, depth_of, noted, all_noted, called_target, Puts, NotesOne, Notes}

@@ -1,7 +1,7 @@
 -- A selector finds one thing in a type.
 use Rattle.std.proofs.Common.{◌≡◌, ◌≤◌, ◌<◌, ℕ, zero, suc, Bool, true, false, ◌⊎◌, inl, inr, List, [], ◌∷◌, length, refl, sym, ap, ◌∙◌, subst, arith}
 use mathlib.Core.Bool.{true≢false}
-use Rattle.go_model.specs.Tables.{Table}
+use Rattle.go_model.specs.types.Tables.{Table}
 use Rattle.go_model.specs.declared.types.names.Sel.{Sel}
 use Rattle.go_model.specs.declared.types.term.Term.{Term}
 use Rattle.go_model.specs.declared.types.term.Signature.{Signature}
@@ -9,8 +9,8 @@ use Rattle.go_model.specs.declared.types.found.Found.{Found}
 use Rattle.go_model.specs.declared.types.found.Found.TheVariants as found
 use Rattle.go_model.specs.declared.types.found.FieldFound.{FieldFound}
 use Rattle.go_model.specs.declared.types.found.MethodFound.{MethodFound}
-use Rattle.go_model.specs.Selectors.{Ending, field, method, ends, start, NoneBelow, IsOnly, told_depth, Finds}
-use Rattle.go_model.specs.MethodSets.{Reaches, InSet}
+use Rattle.go_model.specs.types.Selectors.{Ending, field, method, ends, start, NoneBelow, IsOnly, told_depth, Finds}
+use Rattle.go_model.specs.types.MethodSets.{Reaches, InSet}
 use Rattle.go_types.specs.Answers.{Decides, IsCalled}
 
 compared : (a b : ℕ) → (a < b) ⊎ ((b < a) ⊎ (a ≡ b))

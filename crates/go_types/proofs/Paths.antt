@@ -3,14 +3,14 @@ use Rattle.std.proofs.Common.{◌≡◌, ◌≢◌, ℕ, Bool, true, false, ◌&
 use mathlib.Core.Bool.{true≢false}
 use Rattle.std.specs.Str.{bytes_eq}
 use Rattle.std.proofs.lemmas.Slice.Eq.{bytes_eq-Decides}
-use Rattle.go_model.specs.Lists.{Has, Each}
-use Rattle.go_model.specs.Gathered.{gather}
-use Rattle.go_model.specs.Keys.{first_with}
-use Rattle.go_model.specs.Terms.{is_error, error_type}
-use Rattle.go_model.specs.Underlying.{entry}
-use Rattle.go_model.specs.TypeNames.{names, signature_names}
-use Rattle.go_model.specs.PackageTypes.{of_entity, object_names, defined_names, package_names, package_selectors}
-use Rattle.go_model.specs.Worlds.{Packages, IsWorld, IsPackage, IsDefined, IsOwned, EntityResolves, SignatureResolves, path_of, table_of, defined_in}
+use Rattle.go_base.specs.Lists.{Has, Each}
+use Rattle.go_base.specs.Gathered.{gather}
+use Rattle.go_base.specs.Keys.{first_with}
+use Rattle.go_model.specs.types.Terms.{is_error, error_type}
+use Rattle.go_model.specs.types.Underlying.{entry}
+use Rattle.go_model.specs.types.TypeNames.{names, signature_names}
+use Rattle.go_model.specs.worlds.PackageTypes.{of_entity, object_names, defined_names, package_names, package_selectors}
+use Rattle.go_model.specs.worlds.Worlds.{Packages, IsWorld, IsPackage, IsDefined, IsOwned, EntityResolves, SignatureResolves, path_of, table_of, defined_in}
 use Rattle.go_model.specs.declared.types.names.Sel.{Sel}
 use Rattle.go_model.specs.declared.types.names.TypeName.{TypeName}
 use Rattle.go_model.specs.declared.types.package.Package.{Package}

@@ -1,13 +1,13 @@
 -- What a search by layers knows at each depth, and what it answers.
 use Rattle.std.proofs.Common.{◌≡◌, ◌≤◌, ◌+◌, ℕ, Bool, inl, inr, List, [], ◌∷◌, ◌++◌, length, sym, ◌∙◌, subst, arith, Some, None, Option}
-use Rattle.go_model.specs.Lists.{Has}
-use Rattle.go_model.specs.Tables.{Table}
+use Rattle.go_base.specs.Lists.{Has}
+use Rattle.go_model.specs.types.Tables.{Table}
 use Rattle.go_model.specs.declared.types.names.Sel.{Sel}
 use Rattle.go_model.specs.declared.types.term.Term.{Term}
 use Rattle.go_model.specs.declared.types.found.Found.{Found}
 use Rattle.go_model.specs.declared.types.found.Found.TheVariants as found
-use Rattle.go_model.specs.Gathered.{gather}
-use Rattle.go_model.specs.Selectors.{Spot, Ending, steps, endings, NoneBelow, start, is_defined_pointer, IsOnly, Finds}
+use Rattle.go_base.specs.Gathered.{gather}
+use Rattle.go_model.specs.types.Selectors.{Spot, Ending, steps, endings, NoneBelow, start, is_defined_pointer, IsOnly, Finds}
 use Rattle.go_types.specs.Endings.{One, Verdict}
 use Rattle.go_types.specs.Search.{Knows, Thinned, spot_of}
 use Rattle.go_types.specs.declared.met.Key.{Key}

@@ -1,10 +1,10 @@
 -- What a search for all selectors at once knows at each depth, and the method set that it tells.
 use Rattle.std.proofs.Common.{◌≡◌, ◌≤◌, ◌<◌, ◌+◌, ℕ, zero, suc, Bool, true, false, not, ◌⊎◌, inl, inr, ◌↔◌, List, [], ◌∷◌, length, refl, sym, ap, ◌∙◌, subst, arith, Option, Some, None, if◌then◌else◌, nat_eq}
 use mathlib.Core.Bool.{true≢false}
-use Rattle.go_model.specs.Gathered.{gather}
-use Rattle.go_model.specs.Tables.{Table}
-use Rattle.go_model.specs.Selectors.{Spot, Ending, Target, field, method, steps, endings, ends, NoneBelow, start, is_defined_pointer}
-use Rattle.go_model.specs.MethodSets.{Reaches, InSet, HasMethods, IsMethodSet}
+use Rattle.go_base.specs.Gathered.{gather}
+use Rattle.go_model.specs.types.Tables.{Table}
+use Rattle.go_model.specs.types.Selectors.{Spot, Ending, Target, field, method, steps, endings, ends, NoneBelow, start, is_defined_pointer}
+use Rattle.go_model.specs.types.MethodSets.{Reaches, InSet, HasMethods, IsMethodSet}
 use Rattle.go_model.specs.declared.types.names.Sel.{Sel}
 use Rattle.go_model.specs.declared.types.term.Term.{Term}
 use Rattle.go_model.specs.declared.types.term.Method.{Method, out-Method}

@@ -1,8 +1,8 @@
 -- A layer is thinned.
 use Rattle.std.proofs.Common.{◌≡◌, ℕ, zero, suc, min, ◌+◌, ◌*◌, ◌<◌, ◌≤◌, List, [], ◌∷◌, ◌++◌, length, drop, get_or, sym, ap, ◌∙◌, subst, inl, inr, arith, length-append, Bool, true, false}
-use Rattle.go_model.specs.Lists.{Has}
-use Rattle.go_model.specs.Gathered.{gather}
-use Rattle.go_model.specs.Selectors.{Spot, Ending}
+use Rattle.go_base.specs.Lists.{Has}
+use Rattle.go_base.specs.Gathered.{gather}
+use Rattle.go_model.specs.types.Selectors.{Spot, Ending}
 use Rattle.go_types.specs.Search.{spot_of, Twice, Knows, Drops, Keeps, Thinned, Meets, Recalls}
 use Rattle.go_types.specs.declared.met.Key.{Key}
 use Rattle.go_types.proofs.Lists.{has-left, has-last, has-back, drop_next, twice_last, twice_left, gather-count, twice_gives}

@@ -1,14 +1,14 @@
 -- A walk over the parts of a type decides whether it is comparable.
 use Rattle.std.proofs.Common.{◌≡◌, ◌≤◌, ◌<◌, ◌+◌, ℕ, zero, suc, Bool, true, false, inl, inr, List, [], ◌∷◌, ◌++◌, length, take, get_or, refl, sym, ap, ◌∙◌, subst, arith, length-append, append_assoc}
 use Rattle.std.proofs.lemmas.List.{take_more}
-use Rattle.go_model.specs.Lists.{Has}
-use Rattle.go_model.specs.Tables.{Table}
+use Rattle.go_base.specs.Lists.{Has}
+use Rattle.go_model.specs.types.Tables.{Table}
 use Rattle.go_model.specs.declared.types.names.TypeName.{TypeName}
 use Rattle.go_model.specs.declared.types.term.Term.{Term, Term-F, roll-Term}
 use Rattle.go_model.specs.declared.types.term.Field.{Field, out-Field}
-use Rattle.go_model.specs.Terms.{Layer}
-use Rattle.go_model.specs.Underlying.{under}
-use Rattle.go_model.specs.Comparison.{LeadsToIncomparable, at_slice, at_map, at_func, in_array, in_struct}
+use Rattle.go_model.specs.types.Terms.{Layer}
+use Rattle.go_model.specs.types.Underlying.{under}
+use Rattle.go_model.specs.types.Comparison.{LeadsToIncomparable, at_slice, at_map, at_func, in_array, in_struct}
 use Rattle.go_types.specs.Parts.{Known, Pushed, IsFieldTerm, MeetsTerm, Pushes, PushesFields, ByParts, Looked}
 use Rattle.go_types.proofs.Lists.{has-left, has-split, has-last, has-back}
 

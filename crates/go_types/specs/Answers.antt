@@ -3,7 +3,7 @@ use Rattle.std.specs.Prelude.{◌≡◌, Bool, true, false}
 use Rattle.go_model.specs.declared.types.found.Found.{Found}
 use Rattle.go_model.specs.declared.types.found.Found.TheVariants as found
 use Rattle.go_model.specs.declared.types.term.Signature.{Signature}
-use Rattle.go_model.specs.MethodSets.{Reaches}
+use Rattle.go_model.specs.types.MethodSets.{Reaches}
 
 -- the test tells whether the fact holds
 abbrev pub Decides : Type 0 → Bool → Type 0

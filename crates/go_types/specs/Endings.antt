@@ -3,7 +3,7 @@ use Rattle.std.specs.Prelude.{◌≡◌, ◌≤◌, ◌⊎◌, ℕ, Bool, true, 
 use Rattle.go_model.specs.declared.types.term.Signature.{Signature}
 use Rattle.go_model.specs.declared.types.found.Found.{Found}
 use Rattle.go_model.specs.declared.types.found.Found.TheVariants as found
-use Rattle.go_model.specs.Selectors.{Spot, Ending, Target, field, method, told_depth}
+use Rattle.go_model.specs.types.Selectors.{Spot, Ending, Target, field, method, told_depth}
 use Rattle.go_types.specs.declared.ending.Ending.{Ending as Held}
 use Rattle.go_types.specs.declared.ending.Target.{Target as HeldTarget}
 use Rattle.go_types.specs.declared.ending.Target.TheVariants as held

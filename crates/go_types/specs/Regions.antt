@@ -1,9 +1,9 @@
 -- Sets of names that are closed under a table, and the types whose names are in one.
 use Rattle.std.specs.Prelude.{◌≡◌, Bool, true, Some}
-use Rattle.go_model.specs.Lists.{Has}
-use Rattle.go_model.specs.Tables.{Table}
-use Rattle.go_model.specs.Underlying.{entry}
-use Rattle.go_model.specs.TypeNames.{names, signature_names}
+use Rattle.go_base.specs.Lists.{Has}
+use Rattle.go_model.specs.types.Tables.{Table}
+use Rattle.go_model.specs.types.Underlying.{entry}
+use Rattle.go_model.specs.types.TypeNames.{names, signature_names}
 use Rattle.go_model.specs.declared.types.names.TypeName.{TypeName}
 use Rattle.go_model.specs.declared.types.package.Defined.{Defined}
 use Rattle.go_model.specs.declared.types.package.MethodOf.{MethodOf}

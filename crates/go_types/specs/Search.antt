@@ -1,9 +1,9 @@
 -- A search by layers: what is kept of a layer, and what is known of the types that were met.
 use Rattle.std.specs.Prelude.{◌≡◌, ◌⊎◌, min, Bool, true, false, Option, Some, None, List, [], ◌∷◌, ◌++◌, length}
-use Rattle.go_model.specs.Lists.{Has}
+use Rattle.go_base.specs.Lists.{Has}
 use Rattle.go_model.specs.declared.types.term.Term.{Term-F, roll-Term}
-use Rattle.go_model.specs.Gathered.{gather}
-use Rattle.go_model.specs.Selectors.{Spot, Ending}
+use Rattle.go_base.specs.Gathered.{gather}
+use Rattle.go_model.specs.types.Selectors.{Spot, Ending}
 use Rattle.go_types.specs.declared.met.Key.{Key}
 
 -- whether an item wasn't in a set yet; the set holds nothing else that is new

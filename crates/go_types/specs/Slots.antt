@@ -3,11 +3,11 @@ use Rattle.std.specs.Prelude.{◌≡◌, ◌↔◌, ◌&&◌, not, nat_eq, ℕ, 
 use Rattle.std.specs.BTreeMap.{BTreeMap, get}
 use Rattle.std.specs.List.Sorted.{IsStrictlySortedBy}
 use denote.Ref.{Bor}
-use Rattle.go_model.specs.Lists.{Has}
-use Rattle.go_model.specs.Tables.{Table}
-use Rattle.go_model.specs.Terms.{same_sel}
-use Rattle.go_model.specs.Selectors.{Ending, Target, field, method, is_defined_pointer}
-use Rattle.go_model.specs.MethodSets.{InSet, method_sel, sel_order}
+use Rattle.go_base.specs.Lists.{Has}
+use Rattle.go_model.specs.types.Tables.{Table}
+use Rattle.go_model.specs.types.Terms.{same_sel}
+use Rattle.go_model.specs.types.Selectors.{Ending, Target, field, method, is_defined_pointer}
+use Rattle.go_model.specs.types.MethodSets.{InSet, method_sel, sel_order}
 use Rattle.go_model.specs.declared.types.names.Sel.{Sel}
 use Rattle.go_model.specs.declared.types.term.Term.{Term}
 use Rattle.go_model.specs.declared.types.term.Method.{Method, out-Method}

@@ -1,17 +1,17 @@
 //! Which types are assignable to which.
 ghost use Rattle.std.specs.Prelude.{◌≡◌, ◌↔◌, ◌&&◌, ◌||◌, IsTrue, IfOk};
-ghost use Rattle.go_model.specs.Worlds.{table_of};
+ghost use Rattle.go_model.specs.worlds.Worlds.{table_of};
 ghost use Rattle.go_types.specs.Answers.{Decides};
-ghost use Rattle.go_model.specs.Assignability.{UnderlyingAssigns, AreChannels, ChannelAssigns, Assignable};
-ghost use Rattle.go_model.specs.Underlying.{under};
-ghost use Rattle.go_model.specs.Imports.{is_named, is_imported_struct};
+ghost use Rattle.go_model.specs.types.Assignability.{UnderlyingAssigns, AreChannels, ChannelAssigns, Assignable};
+ghost use Rattle.go_model.specs.types.Underlying.{under};
+ghost use Rattle.go_model.specs.types.Imports.{is_named, is_imported_struct};
 ghost use Rattle.go_model.specs.declared.types.term.Term.{out-Term};
 
 use crate::identical::identical;
 use crate::implements::decide;
 use crate::kinds::is_named;
 use crate::lookup::{Lookup, error_type};
-use go_model::memory::NoMemory;
+use go_base::memory::NoMemory;
 use go_model::types::table::TypeTable;
 use go_model::types::term::{Direction, Term};
 use go_model::types::world::World;

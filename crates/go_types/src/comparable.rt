@@ -1,15 +1,15 @@
 //! Types whose values can be compared.
 ghost use Rattle.std.specs.Prelude.{◌≡◌, [], ◌∷◌, IfOk, OnOk};
-ghost use Rattle.go_model.specs.Worlds.{table_of};
+ghost use Rattle.go_model.specs.worlds.Worlds.{table_of};
 ghost use Rattle.go_types.specs.Answers.{Decides};
-ghost use Rattle.go_model.specs.Comparison.{Comparable};
+ghost use Rattle.go_model.specs.types.Comparison.{Comparable};
 ghost use Rattle.go_types.specs.Search.{Adds};
 ghost use Rattle.go_types.specs.Parts.{MeetsTerm, Pushes, PushesFields, Looked, PartAt};
 
 use crate::lookup::{Lookup, error_type};
 use crate::name::Name;
 use crate::part::Part;
-use go_model::memory::NoMemory;
+use go_base::memory::NoMemory;
 use go_model::types::table::TypeTable;
 use go_model::types::term::{Field, Term};
 use go_model::types::world::World;

@@ -1,17 +1,17 @@
 //! Which types are convertible to which, for values that aren't constants.
 ghost use Rattle.std.specs.Prelude.{◌≡◌, ◌↔◌, ◌&&◌, ◌||◌, IsTrue, IfOk};
-ghost use Rattle.go_model.specs.Worlds.{table_of};
+ghost use Rattle.go_model.specs.worlds.Worlds.{table_of};
 ghost use Rattle.go_types.specs.Answers.{Decides};
-ghost use Rattle.go_model.specs.Tags.{bare};
-ghost use Rattle.go_model.specs.Imports.{is_imported_open};
-ghost use Rattle.go_model.specs.Conversions.{UnderlyingConverts, PointerConverts, Convertible, basics_convert};
+ghost use Rattle.go_model.specs.types.Tags.{bare};
+ghost use Rattle.go_model.specs.types.Imports.{is_imported_open};
+ghost use Rattle.go_model.specs.types.Conversions.{UnderlyingConverts, PointerConverts, Convertible, basics_convert};
 
 use crate::assignable::assigns;
 use crate::identical::identical;
 use crate::kinds::{both_basic, is_text};
 use crate::lookup::{Lookup, error_type};
 use crate::untagged::untagged;
-use go_model::memory::NoMemory;
+use go_base::memory::NoMemory;
 use go_model::types::table::TypeTable;
 use go_model::types::term::Term;
 use go_model::types::world::World;

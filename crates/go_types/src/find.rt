@@ -1,18 +1,18 @@
 //! Selectors: the field or method at the shallowest depth where there is one.
 ghost use Rattle.std.specs.Prelude.{◌≡◌, ◌++◌, ◌≤◌, ℕ, List, [], length, IfOk, OnOk, Some, None};
-ghost use Rattle.go_model.specs.Gathered.{gather};
-ghost use Rattle.go_model.specs.Selectors.{Spot, steps, endings, start, is_defined_pointer, told_depth, Finds};
+ghost use Rattle.go_base.specs.Gathered.{gather};
+ghost use Rattle.go_model.specs.types.Selectors.{Spot, steps, endings, start, is_defined_pointer, told_depth, Finds};
 ghost use Rattle.go_types.specs.Endings.{ending_of, endings_of, One, Verdict};
 ghost use Rattle.go_types.specs.Search.{Knows, Thinned};
-ghost use Rattle.go_model.specs.Worlds.{table_of};
+ghost use Rattle.go_model.specs.worlds.Worlds.{table_of};
 
 use crate::ending::{Ending, Target};
 use crate::lookup::{Lookup, error_type};
 use crate::met::Met;
 use crate::place::Place;
 use crate::steps::{add_endings, add_steps};
-use go_model::boxed::Box;
-use go_model::memory::NoMemory;
+use go_base::boxed::Box;
+use go_base::memory::NoMemory;
 use go_model::types::found::{FieldFound, Found, MethodFound};
 use go_model::types::names::Sel;
 use go_model::types::table::TypeTable;

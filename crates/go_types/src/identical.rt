@@ -1,8 +1,8 @@
 //! Type identity.
 ghost use Rattle.std.specs.Prelude.{◌≡◌, ◌↔◌, IsTrue};
 
-use go_model::boxed::Box;
-use go_model::text::Text;
+use go_base::boxed::Box;
+use go_base::text::Text;
 use go_model::types::names::{Sel, TypeName};
 use go_model::types::term::{Field, Method, Signature, Term};
 

@@ -1,16 +1,16 @@
 //! Types that implement an interface.
 ghost use Rattle.std.specs.Prelude.{◌≡◌, IfOk};
-ghost use Rattle.go_model.specs.Worlds.{table_of};
+ghost use Rattle.go_model.specs.worlds.Worlds.{table_of};
 ghost use Rattle.go_types.specs.Answers.{Decides, IsCalled};
 ghost use Rattle.go_types.specs.Slots.{signature_of, called_at, IsTold, AreTold};
-ghost use Rattle.go_model.specs.MethodSets.{HasMethod, HasMethods, Implements};
+ghost use Rattle.go_model.specs.types.MethodSets.{HasMethod, HasMethods, Implements};
 
 use crate::find::search;
 use crate::identical::same_signature;
 use crate::lookup::{Lookup, error_type};
 use crate::method_set::tally;
 use crate::slot::Slot;
-use go_model::memory::NoMemory;
+use go_base::memory::NoMemory;
 use go_model::types::found::Found;
 use go_model::types::names::Sel;
 use go_model::types::table::TypeTable;

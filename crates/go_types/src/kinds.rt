@@ -1,15 +1,15 @@
 //! Named types, types of other packages, and kinds of basic types.
 ghost use Rattle.std.specs.Prelude.{◌≡◌};
-ghost use Rattle.go_model.specs.Imports.{is_named, is_imported, is_imported_struct, is_imported_open};
-ghost use Rattle.go_model.specs.Conversions.{is_integer, is_float, is_complex, is_string, is_character, basic_converts, both_basic, has_basic, is_characters};
-ghost use Rattle.go_model.specs.Underlying.{under};
+ghost use Rattle.go_model.specs.types.Imports.{is_named, is_imported, is_imported_struct, is_imported_open};
+ghost use Rattle.go_model.specs.types.Conversions.{is_integer, is_float, is_complex, is_string, is_character, basic_converts, both_basic, has_basic, is_characters};
+ghost use Rattle.go_model.specs.types.Underlying.{under};
 ghost use Rattle.go_model.specs.declared.types.term.Term.{out-Term};
 
 use crate::lookup::Lookup;
 use go_model::types::names::TypeName;
 use go_model::types::table::TypeTable;
 use go_model::types::term::Term;
-use go_model::value::Basic;
+use go_model::constants::value::Basic;
 
 /// Whether a type is predeclared or defined.
 pub(crate) fn is_named(term: &Term) -> bool

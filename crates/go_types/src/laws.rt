@@ -1,23 +1,23 @@
 //! Laws of the relations on types, for the layers above.
 ghost use Rattle.std.specs.Prelude.{◌≡◌, ◌≢◌, ℕ, List, [], map, Bool, true, false};
-ghost use Rattle.go_model.specs.Lists.{Has, Once};
-ghost use Rattle.go_model.specs.Gathered.{gather};
-ghost use Rattle.go_model.specs.Tables.{Table};
+ghost use Rattle.go_base.specs.Lists.{Has, Once};
+ghost use Rattle.go_base.specs.Gathered.{gather};
+ghost use Rattle.go_model.specs.types.Tables.{Table};
 ghost use Rattle.go_model.specs.declared.types.names.Sel.{Sel};
 ghost use Rattle.go_model.specs.declared.types.term.Term.{Term, Term-F, out-Term};
 ghost use Rattle.go_model.specs.declared.types.term.Method.{Method};
-ghost use Rattle.go_model.specs.Underlying.{under, declared_methods};
-ghost use Rattle.go_model.specs.Worlds.{Packages, IsWorld, path_of};
-ghost use Rattle.go_model.specs.PackageTypes.{package_names, package_selectors};
+ghost use Rattle.go_model.specs.types.Underlying.{under, declared_methods};
+ghost use Rattle.go_model.specs.worlds.Worlds.{Packages, IsWorld, path_of};
+ghost use Rattle.go_model.specs.worlds.PackageTypes.{package_names, package_selectors};
 ghost use Rattle.go_model.specs.declared.types.term.Signature.{Signature};
 ghost use Rattle.go_model.specs.declared.types.found.Found.{Found};
-ghost use Rattle.go_model.specs.Selectors.{Finds};
-ghost use Rattle.go_model.specs.MethodSets.{InSet, Implements, method_sel};
-ghost use Rattle.go_model.specs.Comparison.{Comparable};
+ghost use Rattle.go_model.specs.types.Selectors.{Finds};
+ghost use Rattle.go_model.specs.types.MethodSets.{InSet, Implements, method_sel};
+ghost use Rattle.go_model.specs.types.Comparison.{Comparable};
 ghost use Rattle.go_types.specs.Regions.{Within, AgreeOn, IsClosed};
 ghost use Rattle.go_model.specs.declared.types.names.TypeName.{TypeName};
-ghost use Rattle.go_model.specs.Assignability.{Assignable};
-ghost use Rattle.go_model.specs.Conversions.{Convertible};
+ghost use Rattle.go_model.specs.types.Assignability.{Assignable};
+ghost use Rattle.go_model.specs.types.Conversions.{Convertible};
 
 /// A selector finds one thing in a type, with its pointer flag and its depth; the method set has one
 /// method of a selector.

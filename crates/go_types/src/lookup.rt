@@ -1,19 +1,19 @@
 //! A table of types with the predeclared `error` before it.
 ghost use Rattle.std.specs.Prelude.{◌≡◌, IfOk};
-ghost use Rattle.go_model.specs.Tables.{entry_of};
-ghost use Rattle.go_model.specs.Terms.{is_error, error_type};
-ghost use Rattle.go_model.specs.Underlying.{entry, under};
+ghost use Rattle.go_model.specs.types.Tables.{entry_of};
+ghost use Rattle.go_model.specs.types.Terms.{is_error, error_type};
+ghost use Rattle.go_model.specs.types.Underlying.{entry, under};
 ghost use Rattle.go_model.specs.declared.types.term.Term.{out-Term};
 
-use go_model::boxed::Box;
-use go_model::list::List;
-use go_model::memory::NoMemory;
-use go_model::text::Text;
+use go_base::boxed::Box;
+use go_base::list::List;
+use go_base::memory::NoMemory;
+use go_base::text::Text;
 use go_model::types::names::{Sel, TypeName};
 use go_model::types::package::Defined;
 use go_model::types::table::TypeTable;
 use go_model::types::term::{Method, Signature, Term};
-use go_model::value::Basic;
+use go_model::constants::value::Basic;
 use std::alloc::Global;
 
 fn is_error(name: &TypeName) -> bool

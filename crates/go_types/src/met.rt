@@ -1,11 +1,11 @@
 //! Which defined types a search has met.
 ghost use Rattle.std.specs.Prelude.{◌≡◌, List, [], IfOk, OnOk};
-ghost use Rattle.go_model.specs.Selectors.{Spot};
+ghost use Rattle.go_model.specs.types.Selectors.{Spot};
 ghost use Rattle.go_types.specs.Search.{Adds, IsKeyOf, Knows, Recalls, Keeps, Thinned, Meets};
 
 use crate::name::Name;
 use crate::place::Place;
-use go_model::memory::NoMemory;
+use go_base::memory::NoMemory;
 use go_model::types::term::Term;
 use indexmap::IndexSet;
 use std::alloc::Global;

@@ -1,7 +1,7 @@
 //! Method sets.
 ghost use Rattle.std.specs.Prelude.{◌≡◌, [], true, IfOk, OnOk};
-ghost use Rattle.go_model.specs.MethodSets.{IsMethodSet};
-ghost use Rattle.go_model.specs.Worlds.{table_of};
+ghost use Rattle.go_model.specs.types.MethodSets.{IsMethodSet};
+ghost use Rattle.go_model.specs.worlds.Worlds.{table_of};
 ghost use Rattle.go_types.specs.Slots.{Tells, AddsSlot, Lists};
 
 use crate::find::next_layer;
@@ -10,8 +10,8 @@ use crate::met::Met;
 use crate::place::Place;
 use crate::slot::Slot;
 use crate::slots::note_layer;
-use go_model::list::List;
-use go_model::memory::NoMemory;
+use go_base::list::List;
+use go_base::memory::NoMemory;
 use go_model::types::names::Sel;
 use go_model::types::table::TypeTable;
 use go_model::types::term::{Method, Term};

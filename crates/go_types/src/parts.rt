@@ -1,7 +1,7 @@
 //! The parts of a type that selectors name.
 ghost use Rattle.std.specs.Prelude.{◌≡◌};
-ghost use Rattle.go_model.specs.Underlying.{under, fields_of, methods_of, declared_methods};
-ghost use Rattle.go_model.specs.Selectors.{base_of, is_pointer};
+ghost use Rattle.go_model.specs.types.Underlying.{under, fields_of, methods_of, declared_methods};
+ghost use Rattle.go_model.specs.types.Selectors.{base_of, is_pointer};
 ghost use Rattle.go_model.specs.declared.types.term.Term.{out-Term};
 
 use crate::lookup::Lookup;

@@ -12,7 +12,7 @@ pub(crate) struct Place<'a> {
 }
 
 impl<'a> Model for Place<'a> {
-    ghost use Rattle.go_model.specs.Selectors.{Spot};
+    ghost use Rattle.go_model.specs.types.Selectors.{Spot};
     ghost use Rattle.go_model.specs.contracts.types.term.Term as t;
     ghost use Rattle.std.specs.Coded.{codes};
 

@@ -1,13 +1,13 @@
 //! What a search for all selectors at once notes of the paths that end in a layer.
 ghost use Rattle.std.specs.Prelude.{◌≡◌, Bool, None, IfOk, OnOk};
-ghost use Rattle.go_model.specs.Gathered.{gather};
-ghost use Rattle.go_model.specs.Selectors.{field_ending, declared_ending, method_ending, endings};
+ghost use Rattle.go_base.specs.Gathered.{gather};
+ghost use Rattle.go_model.specs.types.Selectors.{field_ending, declared_ending, method_ending, endings};
 ghost use Rattle.go_types.specs.Slots.{signature_of, depth_of, called_method, slot_at, Puts, NotesOne, Notes};
 
 use crate::lookup::Lookup;
 use crate::place::Place;
 use crate::slot::Slot;
-use go_model::memory::NoMemory;
+use go_base::memory::NoMemory;
 use go_model::types::names::Sel;
 use go_model::types::package::MethodOf;
 use go_model::types::table::TypeTable;

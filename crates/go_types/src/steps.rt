@@ -1,7 +1,7 @@
 //! One embedded field further, and what a selector names there.
 ghost use Rattle.std.specs.Prelude.{◌≡◌, ◌++◌, OnOk};
-ghost use Rattle.go_model.specs.Gathered.{gather};
-ghost use Rattle.go_model.specs.Selectors.{step, steps, endings, field_ending, declared_ending, method_ending};
+ghost use Rattle.go_base.specs.Gathered.{gather};
+ghost use Rattle.go_model.specs.types.Selectors.{step, steps, endings, field_ending, declared_ending, method_ending};
 ghost use Rattle.go_types.specs.Endings.{endings_of};
 
 use crate::ending::{Ending, Target};
@@ -9,7 +9,7 @@ use crate::identical::same_sel;
 use crate::lookup::Lookup;
 use crate::parts::{base_of, is_pointer};
 use crate::place::Place;
-use go_model::memory::NoMemory;
+use go_base::memory::NoMemory;
 use go_model::types::names::Sel;
 use go_model::types::package::MethodOf;
 use go_model::types::table::TypeTable;

@@ -1,11 +1,11 @@
 //! Types without the tags of their fields.
 ghost use Rattle.std.specs.Prelude.{◌≡◌, map, IfOk};
-ghost use Rattle.go_model.specs.Tags.{untagged, untagged_field, untagged_method, untagged_signature};
+ghost use Rattle.go_model.specs.types.Tags.{untagged, untagged_field, untagged_method, untagged_signature};
 
-use go_model::boxed::Box;
-use go_model::list::List;
-use go_model::memory::NoMemory;
-use go_model::text::Text;
+use go_base::boxed::Box;
+use go_base::list::List;
+use go_base::memory::NoMemory;
+use go_base::text::Text;
 use go_model::types::term::{Field, Method, Signature, Term};
 use std::alloc::Global;
 

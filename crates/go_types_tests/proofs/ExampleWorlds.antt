@@ -1,13 +1,13 @@
 -- Each example is a world: its lists are in order, its names have entries, and its selectors and public paths are of its packages.
 use Rattle.std.proofs.Common.{◌≡◌, ◌≢◌, Bool, List, [], ◌∷◌, ◌++◌, map, Some, None, inl, inr, refl, sym, ◌∙◌, subst, codes, true, false}
-use Rattle.go_model.specs.Lists.{Has, Each, Ascending}
-use Rattle.go_model.specs.Gathered.{gather}
-use Rattle.go_model.specs.Tables.{Table}
-use Rattle.go_model.specs.Terms.{Layer}
-use Rattle.go_model.specs.TypeNames.{Names, names, signature_names, name_step, field_names, method_names, parameter_names}
-use Rattle.go_model.specs.PackageTypes.{defined_selectors}
-use Rattle.go_model.specs.Underlying.{entry}
-use Rattle.go_model.specs.Worlds.{IsWorld, IsDefined, IsOwned, SignatureResolves, name_of, table_of}
+use Rattle.go_base.specs.Lists.{Has, Each, Ascending}
+use Rattle.go_base.specs.Gathered.{gather}
+use Rattle.go_model.specs.types.Tables.{Table}
+use Rattle.go_model.specs.types.Terms.{Layer}
+use Rattle.go_model.specs.types.TypeNames.{Names, names, signature_names, name_step, field_names, method_names, parameter_names}
+use Rattle.go_model.specs.worlds.PackageTypes.{defined_selectors}
+use Rattle.go_model.specs.types.Underlying.{entry}
+use Rattle.go_model.specs.worlds.Worlds.{IsWorld, IsDefined, IsOwned, SignatureResolves, name_of, table_of}
 use Rattle.go_model.specs.declared.types.names.Sel.{Sel}
 use Rattle.go_model.specs.declared.types.names.TypeName.{TypeName}
 use Rattle.go_model.specs.declared.types.package.Defined.{Defined}

@@ -1,6 +1,6 @@
 -- Small packages of Go that the tests build, as closed terms, and worlds of one package.
 use Rattle.std.specs.Prelude.{ℕ, List, [], ◌∷◌, Bool, true, false, codes}
-use Rattle.go_model.specs.declared.value.Basic.TheVariants as basic
+use Rattle.go_model.specs.declared.constants.value.Basic.TheVariants as basic
 use Rattle.go_model.specs.declared.types.names.Sel.{Sel}
 use Rattle.go_model.specs.declared.types.term.Term.{Term, Term-F, roll-Term}
 use Rattle.go_model.specs.declared.types.term.Field.{Field, roll-Field}
@@ -10,8 +10,8 @@ use Rattle.go_model.specs.declared.types.term.Direction.TheVariants as direction
 use Rattle.go_model.specs.declared.types.package.MethodOf.{MethodOf}
 use Rattle.go_model.specs.declared.types.package.Defined.{Defined}
 use Rattle.go_model.specs.declared.types.package.Package.{Package}
-use Rattle.go_model.specs.Terms.{pointer_to}
-use Rattle.go_model.specs.Worlds.{Packages, with_package}
+use Rattle.go_model.specs.types.Terms.{pointer_to}
+use Rattle.go_model.specs.worlds.Worlds.{Packages, with_package}
 
 -- the selector of an exported name
 abbrev pub exported : List ℕ → Sel

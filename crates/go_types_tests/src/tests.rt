@@ -1,19 +1,19 @@
 //! Relations over a small table, whose answers are those of the Go specification.
 ghost use Rattle.std.specs.Prelude.{◌≡◌};
-ghost use Rattle.go_model.specs.Keys.{first_with, item_of};
-ghost use Rattle.go_model.specs.Worlds.{table_of};
+ghost use Rattle.go_base.specs.Keys.{first_with, item_of};
+ghost use Rattle.go_model.specs.worlds.Worlds.{table_of};
 
-use go_model::boxed::Box;
-use go_model::list::List;
-use go_model::memory::NoMemory;
-use go_model::text::Text;
+use go_base::boxed::Box;
+use go_base::list::List;
+use go_base::memory::NoMemory;
+use go_base::text::Text;
 use go_model::types::found::Found;
 use go_model::types::keyed::Keyed;
 use go_model::types::names::{Sel, TypeName};
 use go_model::types::package::{Defined, MethodOf, Package};
 use go_model::types::table::TypeTable;
 use go_model::types::term::{Direction, Field, Method, Signature, Term};
-use go_model::value::Basic;
+use go_model::constants::value::Basic;
 use go_types::assignable::assignable_in;
 use go_types::comparable::comparable_in;
 use go_types::convertible::convertible_in;

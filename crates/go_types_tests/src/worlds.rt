@@ -1,20 +1,20 @@
 //! Small worlds, whose answers are those of the Go specification: each question is asked of the world
 //! and of the world as a table.
 ghost use Rattle.std.specs.Prelude.{◌≡◌, ◌∷◌, [], IfOk};
-ghost use Rattle.go_model.specs.Worlds.{IsWorld};
+ghost use Rattle.go_model.specs.worlds.Worlds.{IsWorld};
 ghost use Rattle.go_types_tests.specs.Examples.{channels, declared_method, embedded, embeds_both, exported, itself, named, package_of, promotions, receivers, sealed, sealed_by, tagged, taking, two_packages, type_of, world_of};
 
 use crate::tests::{sel, term};
-use go_model::boxed::Box;
-use go_model::list::List;
-use go_model::memory::NoMemory;
-use go_model::text::Text;
+use go_base::boxed::Box;
+use go_base::list::List;
+use go_base::memory::NoMemory;
+use go_base::text::Text;
 use go_model::types::found::Found;
 use go_model::types::names::{Sel, TypeName};
 use go_model::types::package::{Defined, MethodOf, Package};
 use go_model::types::term::{Direction, Field, Method, Signature, Term};
 use go_model::types::world::World;
-use go_model::value::Basic;
+use go_model::constants::value::Basic;
 use go_types::assignable::{assignable, assignable_in};
 use go_types::comparable::{comparable, comparable_in};
 use go_types::convertible::{convertible, convertible_in};

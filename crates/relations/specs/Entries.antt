@@ -1,7 +1,7 @@
 -- What a map of defined types by path and name holds for a name.
 use Rattle.std.specs.Prelude.{ℕ, List, option_and_then, bytes_eq}
 use Rattle.indexmap.specs.IndexMap.{IndexMap, get_by}
-use Rattle.go_model.specs.Tables.{Table}
+use Rattle.go_model.specs.types.Tables.{Table}
 use Rattle.go_model.specs.declared.types.names.TypeName.{TypeName}
 use Rattle.go_model.specs.declared.types.package.Defined.{Defined}
 

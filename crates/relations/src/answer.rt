@@ -2,8 +2,8 @@
 use crate::read::{Refusal, Stack, sel, type_name};
 use crate::show::{push_number, push_set, push_signature, push_term};
 use crate::table::Table;
-use go_model::boxed::Box;
-use go_model::text::Text;
+use go_base::boxed::Box;
+use go_base::text::Text;
 use go_model::types::found::{FieldFound, Found, MethodFound};
 use go_model::types::package::Defined;
 use go_model::types::term::Term;

@@ -1,5 +1,5 @@
 //! The names of basic types.
-use go_model::value::Basic;
+use go_model::constants::value::Basic;
 
 /// The basic type of this name.
 pub fn basic(word: &str) -> Option<Basic> {

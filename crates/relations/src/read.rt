@@ -1,9 +1,9 @@
 //! Terms in prefix notation, read from the last word to the first.
 use crate::basic::basic;
-use go_model::boxed::Box;
-use go_model::list::List;
-use go_model::memory::NoMemory;
-use go_model::text::Text;
+use go_base::boxed::Box;
+use go_base::list::List;
+use go_base::memory::NoMemory;
+use go_base::text::Text;
 use go_model::types::names::{Sel, TypeName};
 use go_model::types::package::MethodOf;
 use go_model::types::term::{Direction, Field, Method, Signature, Term};

@@ -1,6 +1,6 @@
 //! Terms and methods, written as they are read.
 use crate::basic;
-use go_model::boxed::Box;
+use go_base::boxed::Box;
 use go_model::types::names::{Sel, TypeName};
 use go_model::types::term::{Direction, Field, Method, Signature, Term};
 use std::alloc::{AllocError, Global};

@@ -2,7 +2,7 @@
 ghost use Rattle.relations.specs.Entries.{held};
 
 use crate::read::Refusal;
-use go_model::text::Text;
+use go_base::text::Text;
 use go_model::types::names::TypeName;
 use go_model::types::package::Defined;
 use go_model::types::table::TypeTable;

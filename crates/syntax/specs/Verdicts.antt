@@ -1,10 +1,10 @@
 -- What is told of a source: whether it is tokens, and whether these are in the grammar.
 use Rattle.std.specs.Prelude.{ℕ, List}
-use Rattle.go_model.specs.Lexemes.{IsBadPlace}
-use Rattle.go_model.specs.SourceFiles.{HasOutline}
-use Rattle.go_model.specs.Tokens.{IsTokens}
-use Rattle.go_model.specs.declared.syntax.declaration.File.{File}
-use Rattle.go_model.specs.declared.token.Token.{Token}
+use Rattle.go_syntax.specs.lexical.Lexemes.{IsBadPlace}
+use Rattle.go_syntax.specs.grammar.SourceFiles.{HasOutline}
+use Rattle.go_syntax.specs.lexical.Tokens.{IsTokens}
+use Rattle.go_syntax.specs.declared.declaration.File.{File}
+use Rattle.go_syntax.specs.declared.token.Token.{Token}
 use Rattle.syntax.specs.declared.verdict.Verdict.{Verdict}
 use Rattle.syntax.specs.declared.verdict.Verdict.TheVariants.{Tree, BadToken, Syntax}
 

@@ -1,9 +1,9 @@
 -- Whether a platform chooses a file.
 use Rattle.std.specs.Prelude.{◌≡◌, ℕ, Bool, false, Option, None, Some, List}
-use Rattle.go_model.specs.declared.platform.Platform.{Platform}
-use Rattle.go_model.specs.declared.build.Header.{Header}
-use Rattle.go_model.specs.BuildValues.{name_holds, is_chosen}
-use Rattle.go_model.specs.Headers.{IsHeader}
+use Rattle.go_model.specs.declared.files.platform.Platform.{Platform}
+use Rattle.go_model.specs.declared.files.build.Header.{Header}
+use Rattle.go_model.specs.files.BuildValues.{name_holds, is_chosen}
+use Rattle.go_model.specs.files.Headers.{IsHeader}
 use Rattle.tags.specs.declared.case.Decision.{Decision}
 
 -- where the name leaves the file out, no header was read; else it is the file's, and the file is chosen by both

@@ -4,8 +4,8 @@ ghost use Rattle.go_tags.specs.HeaderCauses.{HasCause};
 ghost use Rattle.tags.specs.Decisions.{IsDecision};
 
 use crate::escape::unescaped;
-use go_model::build::Header;
-use go_model::platform::Platform;
+use go_model::files::build::Header;
+use go_model::files::platform::Platform;
 use go_tags::choice::chosen;
 use go_tags::error::TagError;
 use go_tags::header::header;

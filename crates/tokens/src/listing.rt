@@ -4,7 +4,7 @@ ghost use Rattle.std.specs.Prelude.{◌≤◌, length};
 use frames::fault::Fault;
 use go_lex::error::LexError;
 use go_lex::scan::scan;
-use go_model::token::Token;
+use go_syntax::token::Token;
 use std::alloc::Global;
 use std::io::{BufWriter, Write};
 

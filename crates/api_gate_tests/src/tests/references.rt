@@ -1,7 +1,7 @@
 //! What a declaration of a source refers to, from its bytes on.
 use super::*;
 use go_lex::scan::scan;
-use go_model::syntax::references::decl_refs;
+use go_syntax::references::decl_refs;
 use go_parse::outline::parse_outline;
 
 // The key of an element counts, and what is declared, selected or stands in a body doesn't.

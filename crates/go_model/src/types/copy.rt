@@ -1,10 +1,10 @@
 //! Equal copies of types and packages.
 ghost use Rattle.std.specs.Prelude.{◌≡◌, IfOk};
 
-use crate::boxed::Box;
-use crate::list::List;
-use crate::memory::NoMemory;
-use crate::text::Text;
+use go_base::boxed::Box;
+use go_base::list::List;
+use go_base::memory::NoMemory;
+use go_base::text::Text;
 use crate::types::names::{Sel, TypeName};
 use crate::types::package::{ConstTerm, Defined, Entity, MethodOf, Object, Package};
 use crate::types::term::{Field, Method, Signature, Term};

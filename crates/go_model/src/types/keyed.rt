@@ -2,10 +2,10 @@
 ghost use Rattle.std.specs.Prelude.{◌≡◌, ℕ, List, map};
 ghost use Rattle.std.specs.Ordering.{nat_cmp, is_lt};
 ghost use Rattle.std.specs.Cmp.Lexicographic.{slice_cmp};
-ghost use Rattle.go_model.specs.Lists.{Ascending};
-ghost use Rattle.go_model.specs.Keys.{first_with, item_of, PlaceFor};
+ghost use Rattle.go_base.specs.Lists.{Ascending};
+ghost use Rattle.go_base.specs.Keys.{first_with, item_of, PlaceFor};
 
-use crate::text::Text;
+use go_base::text::Text;
 use crate::types::package::{Defined, Object, Package};
 use std::cmp::Ordering;
 

@@ -1,5 +1,5 @@
 //! Names of types, and selectors.
-use crate::text::Text;
+use go_base::text::Text;
 
 /// The name of a defined type: the import path of its package, and the name in it. The predeclared
 /// `error` has an empty path.

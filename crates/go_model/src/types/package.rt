@@ -1,9 +1,9 @@
 //! Packages as they are typed: their exported and unexported objects, and their defined types.
-use crate::list::List;
-use crate::text::Text;
+use go_base::list::List;
+use go_base::text::Text;
 use crate::types::names::Sel;
 use crate::types::term::{Signature, Term};
-use crate::value::{Untyped, Value};
+use crate::constants::value::{Untyped, Value};
 
 /// The type of a constant: a type, or the kind of an untyped one.
 #[derive(Drop)]

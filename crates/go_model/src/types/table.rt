@@ -1,6 +1,6 @@
 //! Tables of defined types.
 ghost use Rattle.std.specs.Prelude.{◌≡◌};
-ghost use Rattle.go_model.specs.Tables.{Table, entry_of};
+ghost use Rattle.go_model.specs.types.Tables.{Table, entry_of};
 
 use crate::types::names::TypeName;
 use crate::types::package::Defined;

@@ -1,10 +1,10 @@
 //! Types as terms, after the Go specification's "Types": two of them are identical exactly where
 //! they are equal.
-use crate::boxed::Box;
-use crate::list::List;
-use crate::text::Text;
+use go_base::boxed::Box;
+use go_base::list::List;
+use go_base::text::Text;
 use crate::types::names::{Sel, TypeName};
-use crate::value::Basic;
+use crate::constants::value::Basic;
 
 /// The direction of a channel type.
 #[derive(Clone, Copy, Debug, PartialEq, Eq)]

@@ -1,12 +1,12 @@
 //! Worlds: typed packages together.
 ghost use Rattle.std.specs.Prelude.{◌≡◌, ◌<◌, [], OnOk, OnErr, IsOk, vec_len, vec_capacity};
-ghost use Rattle.go_model.specs.Lists.{Ascending};
-ghost use Rattle.go_model.specs.Keys.{first_with, item_of};
-ghost use Rattle.go_model.specs.Keys.{placed};
-ghost use Rattle.go_model.specs.Worlds.{IsWorld, with_package, table_of, path_of};
+ghost use Rattle.go_base.specs.Lists.{Ascending};
+ghost use Rattle.go_base.specs.Keys.{first_with, item_of};
+ghost use Rattle.go_base.specs.Keys.{placed};
+ghost use Rattle.go_model.specs.worlds.Worlds.{IsWorld, with_package, table_of, path_of};
 
-use crate::memory::NoMemory;
-use crate::text::Text;
+use go_base::memory::NoMemory;
+use go_base::text::Text;
 use crate::types::keyed::{find_key, place_for};
 use crate::types::names::TypeName;
 use crate::types::package::{Defined, Package};
@@ -26,7 +26,7 @@ pub struct World {
 }
 
 impl Model for World {
-    ghost use Rattle.go_model.specs.Worlds.{Packages, IsWorld};
+    ghost use Rattle.go_model.specs.worlds.Worlds.{Packages, IsWorld};
     ghost use Rattle.go_model.specs.contracts.types.term.Term as t;
     ghost use Rattle.go_model.specs.contracts.types.package.Package as p;
     ghost use Rattle.std.specs.Coded.{codes};

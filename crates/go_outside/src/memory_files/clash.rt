@@ -6,7 +6,7 @@ ghost use Rattle.go_outside.specs.SortedPairs.{path_at, IsSorted, IsClearBelow, 
 use super::FilePair;
 use super::search::{ended, first_from};
 use crate::paths::is_within;
-use go_model::memory::NoMemory;
+use go_base::memory::NoMemory;
 use std::alloc::Global;
 
 // The pair after this place has the same path.

@@ -9,8 +9,8 @@ use super::FilePair;
 use super::search::{ended, first_from};
 use crate::files::{Entry, EntryKind, FilesError};
 use crate::paths::entry_of;
-use go_model::list::List;
-use go_model::memory::NoMemory;
+use go_base::list::List;
+use go_base::memory::NoMemory;
 use std::alloc::Global;
 
 // A key that comes after all that lies in the entry of a folder, and before all that follows it:

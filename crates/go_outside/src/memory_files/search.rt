@@ -5,7 +5,7 @@ ghost use Rattle.go_outside.specs.MemoryFiles.{contents_of};
 ghost use Rattle.go_outside.specs.SortedPairs.{is_before, IsSorted, IsRising, IsFirstFrom};
 
 use super::FilePair;
-use go_model::memory::NoMemory;
+use go_base::memory::NoMemory;
 use std::alloc::Global;
 use std::cmp::Ordering;
 

@@ -1,7 +1,7 @@
 use Rattle.std.proofs.Common.{List, ℕ, ap, subst, ◌∙◌}
 use Rattle.std.specs.Option.{option_copied}
-use Rattle.go_model.specs.BuildValues.{is_chosen}
-use Rattle.go_model.specs.Headers.{IsHeader}
+use Rattle.go_model.specs.files.BuildValues.{is_chosen}
+use Rattle.go_model.specs.files.Headers.{IsHeader}
 use Rattle.api_gate.proofs.ReadFiles.{chosen_by}
 use Rattle.api_gate.proofs.reading.is_file_chosen.Goals as goal
 

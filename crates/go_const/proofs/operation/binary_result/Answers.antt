@@ -3,7 +3,7 @@ use Rattle.std.specs.Int.{w128}
 use Rattle.go_const.specs.Bounds.{bounded}
 use Rattle.go_const.proofs.Keeping.{kept_from}
 use Rattle.go_const.proofs.operation.binary_result.Goals as goal
-use Rattle.go_model.specs.Constants.{binary_number}
+use Rattle.go_model.specs.constants.Constants.{binary_number}
 
 pub returns-in-Int-Int : goal.returns-in-Int-Int
 returns-in-Int-Int c =

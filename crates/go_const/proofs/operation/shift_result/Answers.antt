@@ -2,7 +2,7 @@ use Rattle.std.proofs.Common.{◌∙◌, ap, true, Some, to_z-of_z}
 use Rattle.go_const.specs.Bounds.{bounded}
 use Rattle.go_const.proofs.Keeping.{kept_from}
 use Rattle.go_const.proofs.operation.shift_result.Goals as goal
-use Rattle.go_model.specs.Constants.{exact_shift}
+use Rattle.go_model.specs.constants.Constants.{exact_shift}
 
 pub returns-then-left : goal.returns-then-left
 returns-then-left c =

@@ -1,6 +1,6 @@
 use Rattle.std.proofs.Common.{sym, ◌∙◌, subst}
-use Rattle.go_model.specs.declared.token.TokenKind.TheVariants as token
-use Rattle.go_model.specs.declared.token.LexemeKind.TheVariants as lexeme
+use Rattle.go_syntax.specs.declared.token.TokenKind.TheVariants as token
+use Rattle.go_syntax.specs.declared.token.LexemeKind.TheVariants as lexeme
 use Rattle.go_lex.specs.declared.front.Front.{Front}
 use Rattle.go_lex.specs.declared.number.Number.{Number}
 use Rattle.go_lex.specs.Fronts.{IsFront}

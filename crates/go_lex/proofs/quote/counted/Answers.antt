@@ -1,7 +1,7 @@
 use Rattle.std.proofs.Common.{◌≡◌, get_or, take, length, true, sym, ◌∙◌, arith}
 use Rattle.std.specs.Char.{digit_value}
-use Rattle.go_model.specs.Numbers.{is_digit_of}
-use Rattle.go_model.proofs.Lists.{length_take}
+use Rattle.go_syntax.specs.lexical.Numbers.{is_digit_of}
+use Rattle.go_base.proofs.Lists.{length_take}
 use Rattle.go_lex.proofs.Counted.{wrong_digit, value_more, passes_more, small_more, digit_below, small_enough}
 use Rattle.go_lex.proofs.quote.counted.Goals as goal
 

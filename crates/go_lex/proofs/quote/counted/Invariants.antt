@@ -1,6 +1,6 @@
 use Rattle.std.proofs.Common.{◌≡◌, ◌<◌, ◌^◌, take, drop}
-use Rattle.go_model.specs.Lists.{Passes}
-use Rattle.go_model.specs.Numbers.{is_digit_of, value_from}
+use Rattle.go_base.specs.Lists.{Passes}
+use Rattle.go_syntax.specs.lexical.Numbers.{is_digit_of, value_from}
 use Rattle.go_lex.proofs.quote.counted.Given as goal
 
 abbrev pub invariant-loop-digit : goal.invariant-loop-digit

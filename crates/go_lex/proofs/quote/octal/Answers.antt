@@ -1,5 +1,5 @@
 use Rattle.std.proofs.Common.{ap, arith}
-use Rattle.go_model.specs.Numbers.{value_from}
+use Rattle.go_syntax.specs.lexical.Numbers.{value_from}
 use Rattle.go_lex.proofs.Counted.{front_counted}
 use Rattle.go_lex.proofs.quote.octal.Goals as goal
 

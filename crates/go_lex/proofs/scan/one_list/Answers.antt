@@ -1,7 +1,7 @@
 use Rattle.std.proofs.Common.{◌≤◌, ℕ, [], length, refl, sym, ap, ◌∙◌, None, arith}
 use Rattle.std.specs.Prelude.{◌-◌}
-use Rattle.go_model.specs.Headers.{without_mark}
-use Rattle.go_model.specs.Tokens.{tokens_of}
+use Rattle.go_base.specs.Comments.{without_mark}
+use Rattle.go_syntax.specs.lexical.Tokens.{tokens_of}
 use Rattle.go_lex.proofs.Cuts.{one_cut, no_further, empty}
 use Rattle.go_lex.proofs.scan.one_list.Goals as goal
 

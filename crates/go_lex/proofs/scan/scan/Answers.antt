@@ -1,5 +1,5 @@
 use Rattle.std.proofs.Common.{List, ℕ, ap, subst, take}
-use Rattle.go_model.specs.Lexemes.{BeginsNone}
+use Rattle.go_syntax.specs.lexical.Lexemes.{BeginsNone}
 use Rattle.go_lex.specs.Fronts.{IsFront}
 use Rattle.go_lex.proofs.Scanned.{scanned_more, scanned_all, scanned_bad}
 use Rattle.go_lex.proofs.scan.scan.Goals as goal

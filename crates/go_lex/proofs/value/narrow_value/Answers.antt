@@ -1,5 +1,5 @@
 use Rattle.std.proofs.Common.{arith}
-use Rattle.go_model.specs.Numbers.{value_from}
+use Rattle.go_syntax.specs.lexical.Numbers.{value_from}
 use Rattle.go_lex.proofs.StringValues.{front_smaller}
 use Rattle.go_lex.proofs.value.narrow_value.Goals as goal
 

@@ -1,5 +1,5 @@
 use Rattle.std.proofs.Common.{◌≡◌, ◌<◌, ◌^◌, drop}
-use Rattle.go_model.specs.Numbers.{value_from}
+use Rattle.go_syntax.specs.lexical.Numbers.{value_from}
 use Rattle.go_lex.proofs.value.narrow_value.Given as goal
 
 abbrev pub invariant-loop-b : goal.invariant-loop-b

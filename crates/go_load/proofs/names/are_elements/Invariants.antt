@@ -1,5 +1,5 @@
 use Rattle.std.proofs.Common.{◌≡◌, length}
-use Rattle.go_model.specs.Trees.{are_elements}
+use Rattle.go_model.specs.files.Trees.{are_elements}
 use Rattle.go_load.proofs.names.are_elements.Given as goal
 
 abbrev pub invariant-loop-part : goal.invariant-loop-part

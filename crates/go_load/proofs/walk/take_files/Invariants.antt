@@ -1,5 +1,5 @@
 use Rattle.std.proofs.Common.{◌≡◌, ◌≤◌}
-use Rattle.go_model.specs.Trees.{IsFolderPath}
+use Rattle.go_model.specs.files.Trees.{IsFolderPath}
 use Rattle.go_outside.specs.Faults.{Told}
 use Rattle.go_load.specs.Steps.{IsKept}
 use Rattle.go_load.proofs.Counting.{Taking}

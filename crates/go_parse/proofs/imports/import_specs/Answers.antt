@@ -1,5 +1,5 @@
 use Rattle.std.proofs.Common.{◌∙◌, [], sym}
-use Rattle.go_model.specs.Terminals.{terminals}
+use Rattle.go_syntax.specs.grammar.Terminals.{terminals}
 use Rattle.go_parse.specs.Declarations.{specs, spec_item, import_spec}
 use Rattle.go_parse.specs.Reading.{loop, step_of, ended}
 use Rattle.go_parse.proofs.Loops.{handed, nothing_found, starts, specs_stop, specs_fail, specs_unended, specs_more}

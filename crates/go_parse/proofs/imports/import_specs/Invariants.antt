@@ -1,5 +1,5 @@
 use Rattle.std.proofs.Common.{◌≡◌, ◌-◌}
-use Rattle.go_model.specs.Terminals.{terminals}
+use Rattle.go_syntax.specs.grammar.Terminals.{terminals}
 use Rattle.go_parse.specs.Declarations.{specs, spec_item, import_spec}
 use Rattle.go_parse.specs.Reading.{loop, step_of}
 use Rattle.go_parse.proofs.imports.import_specs.Given as goal

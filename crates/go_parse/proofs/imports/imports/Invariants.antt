@@ -1,5 +1,5 @@
 use Rattle.std.proofs.Common.{◌≡◌, ◌-◌}
-use Rattle.go_model.specs.Terminals.{terminals}
+use Rattle.go_syntax.specs.grammar.Terminals.{terminals}
 use Rattle.go_parse.specs.Declarations.{imports, import_item, step_all}
 use Rattle.go_parse.specs.Reading.{loop}
 use Rattle.go_parse.proofs.imports.imports.Given as goal

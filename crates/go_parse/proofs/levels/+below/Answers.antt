@@ -1,5 +1,5 @@
 use Rattle.std.proofs.Common.{◌≡◌, ℕ, suc, ◌-◌, arith}
-use Rattle.go_model.specs.Terminals.{terminals}
+use Rattle.go_syntax.specs.grammar.Terminals.{terminals}
 use Rattle.go_parse.proofs.PartsBelow.{nothing_below, part_above}
 use Rattle.go_parse.proofs.levels.+below.Goals as goal
 

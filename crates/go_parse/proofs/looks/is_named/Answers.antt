@@ -1,5 +1,5 @@
 use Rattle.std.proofs.Common.{◌≡◌, ◌-◌, ◌∙◌, List, length, sym, arith}
-use Rattle.go_model.specs.Terminals.{Terminal, terminals}
+use Rattle.go_syntax.specs.grammar.Terminals.{Terminal, terminals}
 use Rattle.go_parse.proofs.LookAheads.{no_name, last_name, name_and_comma, two_fewer, none_left}
 use Rattle.go_parse.proofs.looks.is_named.Goals as goal
 

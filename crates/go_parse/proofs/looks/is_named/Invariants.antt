@@ -1,5 +1,5 @@
 use Rattle.std.proofs.Common.{◌≡◌, ◌-◌, ◌≤◌, length}
-use Rattle.go_model.specs.Terminals.{terminals}
+use Rattle.go_syntax.specs.grammar.Terminals.{terminals}
 use Rattle.go_parse.specs.Rules.{is_named}
 use Rattle.go_parse.proofs.looks.is_named.Given as goal
 

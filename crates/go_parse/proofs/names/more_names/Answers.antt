@@ -1,8 +1,8 @@
 use Rattle.std.proofs.Common.{◌≡◌, ℕ, ◌-◌, ◌+◌, ◌∙◌, ◌++◌, ◌∷◌, [], List, ap, sym}
-use Rattle.go_model.specs.declared.syntax.name.Name.{Name}
-use Rattle.go_model.specs.declared.token.TokenKind.TheVariants as kind
-use Rattle.go_model.specs.Symbols.{begins}
-use Rattle.go_model.specs.Terminals.{Terminal, terminals}
+use Rattle.go_syntax.specs.declared.name.Name.{Name}
+use Rattle.go_syntax.specs.declared.token.TokenKind.TheVariants as kind
+use Rattle.go_syntax.specs.grammar.Symbols.{begins}
+use Rattle.go_syntax.specs.grammar.Terminals.{Terminal, terminals}
 use Rattle.go_parse.specs.Reading.{run, loop, step_of, name}
 use Rattle.go_parse.proofs.Handed.{handed}
 use Rattle.go_parse.proofs.Items.{item, item_stops, item_fails, item_goes_on, starts}

@@ -1,5 +1,5 @@
 use Rattle.std.proofs.Common.{◌≡◌, ◌-◌}
-use Rattle.go_model.specs.Terminals.{terminals}
+use Rattle.go_syntax.specs.grammar.Terminals.{terminals}
 use Rattle.go_parse.specs.Reading.{loop, run, step_of}
 use Rattle.go_parse.specs.Rules.{name_item}
 use Rattle.go_parse.proofs.names.more_names.Given as goal

@@ -1,5 +1,5 @@
 use Rattle.std.proofs.Common.{◌∙◌, not, nat_le, length, ap, sym}
-use Rattle.go_model.specs.Grammar.{at_most_one}
+use Rattle.go_syntax.specs.grammar.Grammar.{at_most_one}
 use Rattle.go_parse.proofs.Variadics.{other_variadic, plain_last, named_last, short}
 use Rattle.go_parse.proofs.signatures.last_variadic.Goals as goal
 

@@ -1,5 +1,5 @@
 use Rattle.std.proofs.Common.{◌≡◌, drop}
-use Rattle.go_model.specs.Grammar.{none_variadic}
+use Rattle.go_syntax.specs.grammar.Grammar.{none_variadic}
 use Rattle.go_parse.proofs.signatures.none_variadic.Given as goal
 
 abbrev pub invariant-loop-parameter : goal.invariant-loop-parameter

@@ -1,6 +1,6 @@
 use Rattle.std.proofs.Common.{List, reverse, Option, sym, subst}
-use Rattle.go_model.specs.declared.token.TokenKind.{TokenKind}
-use Rattle.go_model.specs.Terminals.{terminals}
+use Rattle.go_syntax.specs.declared.token.TokenKind.{TokenKind}
+use Rattle.go_syntax.specs.grammar.Terminals.{terminals}
 use Rattle.go_parse.specs.Reads.{Leaves}
 use Rattle.go_parse.proofs.Skips.{sign_next, other_next}
 use Rattle.go_parse.proofs.skipping.after_next.Goals as goal

@@ -1,5 +1,5 @@
 use Rattle.std.proofs.Common.{ℕ, drop, Some, None, refl, sym, subst}
-use Rattle.go_model.specs.Terminals.{terminals}
+use Rattle.go_syntax.specs.grammar.Terminals.{terminals}
 use Rattle.go_parse.specs.Reading.{Found}
 use Rattle.go_parse.specs.Reads.{Reads}
 use Rattle.go_parse.proofs.Skips.{bracketed_at}

@@ -1,5 +1,5 @@
 use Rattle.std.proofs.Common.{Bool, sym, subst}
-use Rattle.go_model.specs.Terminals.{terminals}
+use Rattle.go_syntax.specs.grammar.Terminals.{terminals}
 use Rattle.go_parse.specs.Reading.{Next}
 use Rattle.go_parse.specs.Reads.{ReadsTurn}
 use Rattle.go_parse.proofs.Skips.{front_sign, front_none}

@@ -1,6 +1,6 @@
 use Rattle.std.proofs.Common.{◌-◌, ◌+◌, ◌∙◌, List, Bool, false, ap, rules, arith}
 use Rattle.std.proofs.lemmas.Grind.{common_steps}
-use Rattle.go_model.specs.Terminals.{Terminal, terminals}
+use Rattle.go_syntax.specs.grammar.Terminals.{Terminal, terminals}
 use Rattle.go_parse.specs.Reading.{run, loop}
 use Rattle.go_parse.specs.Skipping.{past_step, past_front}
 use Rattle.go_parse.proofs.Skips.{handed_turn}

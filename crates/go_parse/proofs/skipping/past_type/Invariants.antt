@@ -1,5 +1,5 @@
 use Rattle.std.proofs.Common.{◌≡◌, ◌-◌, false}
-use Rattle.go_model.specs.Terminals.{terminals}
+use Rattle.go_syntax.specs.grammar.Terminals.{terminals}
 use Rattle.go_parse.specs.Reading.{loop, run}
 use Rattle.go_parse.specs.Skipping.{past_step}
 use Rattle.go_parse.proofs.skipping.past_type.Given as goal

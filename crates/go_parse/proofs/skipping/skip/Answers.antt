@@ -1,7 +1,7 @@
 use Rattle.std.proofs.Common.{◌≡◌, ℕ, ◌-◌, ◌<◌, ◌==◌, ◌∙◌, List, length, reverse, Bool, if◌then◌else◌, Some, None, ap, sym, arith}
 use Rattle.std.proofs.lemmas.List.{length-drop}
-use Rattle.go_model.specs.declared.token.TokenKind.{TokenKind}
-use Rattle.go_model.specs.Terminals.{Terminal, terminals}
+use Rattle.go_syntax.specs.declared.token.TokenKind.{TokenKind}
+use Rattle.go_syntax.specs.grammar.Terminals.{Terminal, terminals}
 use Rattle.go_parse.specs.Skipping.{skip}
 use Rattle.go_parse.proofs.Skips.{skip_fails, skip_none, skip_ends, skip_goes_on}
 use Rattle.go_parse.proofs.skipping.skip.Goals as goal

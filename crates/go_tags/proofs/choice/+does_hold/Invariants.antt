@@ -1,6 +1,6 @@
 use Rattle.std.proofs.Common.{◌≡◌, drop, map}
 use Rattle.std.specs.List.{list_any, list_all}
-use Rattle.go_model.specs.BuildValues.{holds}
+use Rattle.go_model.specs.files.BuildValues.{holds}
 use Rattle.go_tags.proofs.choice.+does_hold.Given as goal
 
 abbrev pub decreases-does_hold : goal.decreases-does_hold

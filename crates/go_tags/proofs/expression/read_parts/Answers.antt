@@ -1,8 +1,8 @@
 use Rattle.std.proofs.Common.{◌≡◌, ◌≢◌, List, [], Result, Ok, Err, Some, IfOk, refl, sym, subst}
 use Rattle.std.specs.Prelude.{IfErr}
-use Rattle.go_model.specs.declared.build.ConstraintPart.{ConstraintPart}
-use Rattle.go_model.specs.declared.build.Constraint.{Constraint}
-use Rattle.go_model.specs.BuildConstraints.{IsOr}
+use Rattle.go_model.specs.declared.files.build.ConstraintPart.{ConstraintPart}
+use Rattle.go_model.specs.declared.files.build.Constraint.{Constraint}
+use Rattle.go_model.specs.files.BuildConstraints.{IsOr}
 use Rattle.go_tags.specs.declared.error.TagError.{TagError}
 use Rattle.go_tags.specs.declared.error.TagError.TheVariants.{BadExpression, Twice, PlusBuild, NoMemory}
 use Rattle.go_tags.specs.Reading.{or_below}

@@ -1,6 +1,7 @@
 use Rattle.std.proofs.Common.{◌≡◌, ◌≤◌, ◌∙◌, ◌+◌, ◌-◌, List, ℕ, sym, ap, subst, length, take, drop, arith, Bool, ◌++◌}
 use Rattle.std.proofs.lemmas.List.{take_rest}
-use Rattle.go_model.specs.Headers.{piece_len, opening_comment, is_open_after}
+use Rattle.go_base.specs.Comments.{piece_len}
+use Rattle.go_model.specs.files.Headers.{opening_comment, is_open_after}
 use Rattle.go_tags.specs.Lines.{Sums, IsScan}
 use Rattle.go_tags.proofs.Scans.{Scanning, scanning_more, scanning_done}
 use Rattle.go_tags.proofs.lines.scan_front.Goals as goal

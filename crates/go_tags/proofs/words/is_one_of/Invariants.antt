@@ -1,5 +1,5 @@
 use Rattle.std.proofs.Common.{◌≡◌, drop, map}
-use Rattle.go_model.specs.BuildTags.{is_one_of}
+use Rattle.go_model.specs.files.BuildTags.{is_one_of}
 use Rattle.go_tags.proofs.words.is_one_of.Given as goal
 
 abbrev pub invariant-loop-candidate : goal.invariant-loop-candidate

@@ -1,5 +1,5 @@
 use Rattle.std.proofs.Common.{sym, ap, ◌∙◌, subst, [], ◌∷◌, ◌++◌}
-use Rattle.go_model.specs.Selectors.{start, Finds}
+use Rattle.go_model.specs.types.Selectors.{start, Finds}
 use Rattle.go_types.specs.Endings.{endings_of}
 use Rattle.go_types.proofs.Searching.{first_search, judged_at, next_search, silent}
 use Rattle.go_types.proofs.find.search.Goals as goal

@@ -1,4 +1,4 @@
-use Rattle.go_model.specs.Selectors.{start}
+use Rattle.go_model.specs.types.Selectors.{start}
 use Rattle.go_types.proofs.Searching.{Searching}
 use Rattle.go_types.proofs.find.search.Given as goal
 

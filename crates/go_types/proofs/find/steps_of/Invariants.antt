@@ -1,6 +1,6 @@
 use Rattle.std.proofs.Common.{◌≡◌, ◌++◌, drop}
-use Rattle.go_model.specs.Gathered.{gather}
-use Rattle.go_model.specs.Selectors.{steps}
+use Rattle.go_base.specs.Gathered.{gather}
+use Rattle.go_model.specs.types.Selectors.{steps}
 use Rattle.go_types.proofs.find.steps_of.Given as goal
 
 abbrev pub invariant-loop-place : goal.invariant-loop-place

@@ -1,4 +1,4 @@
-use Rattle.go_model.specs.MethodSets.{HasMethod}
+use Rattle.go_model.specs.types.MethodSets.{HasMethod}
 use Rattle.go_types.proofs.MethodLists.{lacks, has_next}
 use Rattle.go_types.proofs.implements.has_few.Goals as goal
 

@@ -1,4 +1,4 @@
-use Rattle.go_model.specs.Selectors.{method, declared_ending}
+use Rattle.go_model.specs.types.Selectors.{method, declared_ending}
 use Rattle.go_types.specs.Slots.{signature_of}
 use Rattle.go_types.proofs.Noted.{notes_one, notes_next}
 use Rattle.go_types.proofs.slots.note_declared.Goals as goal

@@ -1,6 +1,6 @@
 use Rattle.std.proofs.Common.{take}
-use Rattle.go_model.specs.Gathered.{gather}
-use Rattle.go_model.specs.Selectors.{declared_ending}
+use Rattle.go_base.specs.Gathered.{gather}
+use Rattle.go_model.specs.types.Selectors.{declared_ending}
 use Rattle.go_types.specs.Slots.{Notes}
 use Rattle.go_types.proofs.slots.note_declared.Given as goal
 

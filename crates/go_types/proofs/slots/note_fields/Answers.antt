@@ -1,5 +1,5 @@
 use Rattle.std.proofs.Common.{refl, None}
-use Rattle.go_model.specs.Selectors.{field, field_ending}
+use Rattle.go_model.specs.types.Selectors.{field, field_ending}
 use Rattle.go_model.specs.declared.types.term.Field.{out-Field}
 use Rattle.go_types.proofs.Noted.{notes_one, notes_next}
 use Rattle.go_types.proofs.slots.note_fields.Goals as goal

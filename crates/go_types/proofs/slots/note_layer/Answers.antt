@@ -1,5 +1,5 @@
 use Rattle.std.proofs.Common.{◌≡◌, ◌<◌, List, length, get_or, subst}
-use Rattle.go_model.specs.Selectors.{Spot, endings}
+use Rattle.go_model.specs.types.Selectors.{Spot, endings}
 use Rattle.go_types.proofs.Noted.{notes_next}
 use Rattle.go_types.proofs.slots.note_layer.Goals as goal
 

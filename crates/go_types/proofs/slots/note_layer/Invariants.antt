@@ -1,6 +1,6 @@
 use Rattle.std.proofs.Common.{take}
-use Rattle.go_model.specs.Gathered.{gather}
-use Rattle.go_model.specs.Selectors.{endings}
+use Rattle.go_base.specs.Gathered.{gather}
+use Rattle.go_model.specs.types.Selectors.{endings}
 use Rattle.go_types.specs.Slots.{Notes}
 use Rattle.go_types.proofs.slots.note_layer.Given as goal
 

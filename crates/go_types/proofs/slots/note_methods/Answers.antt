@@ -1,5 +1,5 @@
 use Rattle.std.proofs.Common.{refl, false, Some}
-use Rattle.go_model.specs.Selectors.{method, method_ending}
+use Rattle.go_model.specs.types.Selectors.{method, method_ending}
 use Rattle.go_model.specs.declared.types.term.Method.{out-Method}
 use Rattle.go_types.proofs.Noted.{notes_one, notes_next}
 use Rattle.go_types.proofs.slots.note_methods.Goals as goal

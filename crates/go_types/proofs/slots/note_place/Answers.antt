@@ -1,5 +1,5 @@
 use Rattle.std.proofs.Common.{◌∙◌, ap}
-use Rattle.go_model.specs.Underlying.{under, fields_of, methods_of, declared_methods}
+use Rattle.go_model.specs.types.Underlying.{under, fields_of, methods_of, declared_methods}
 use Rattle.go_model.specs.declared.types.term.Term.{Term, out-Term}
 use Rattle.go_types.proofs.Noted.{notes_place}
 use Rattle.go_types.proofs.slots.note_place.Goals as goal

@@ -1,6 +1,6 @@
 use Rattle.std.proofs.Common.{◌≡◌, ◌++◌, drop}
-use Rattle.go_model.specs.Gathered.{gather}
-use Rattle.go_model.specs.Selectors.{method_ending}
+use Rattle.go_base.specs.Gathered.{gather}
+use Rattle.go_model.specs.types.Selectors.{method_ending}
 use Rattle.go_types.specs.Endings.{endings_of}
 use Rattle.go_types.proofs.steps.push_methods.Given as goal
 

@@ -1,6 +1,6 @@
 use Rattle.std.proofs.Common.{◌≡◌, ◌++◌, drop}
-use Rattle.go_model.specs.Gathered.{gather}
-use Rattle.go_model.specs.Selectors.{step}
+use Rattle.go_base.specs.Gathered.{gather}
+use Rattle.go_model.specs.types.Selectors.{step}
 use Rattle.go_types.proofs.steps.push_steps.Given as goal
 
 abbrev pub invariant-loop-field : goal.invariant-loop-field

@@ -1,5 +1,5 @@
 use Rattle.std.proofs.Common.{◌≡◌, drop}
-use Rattle.go_model.specs.Keys.{first_with}
+use Rattle.go_base.specs.Keys.{first_with}
 use Rattle.go_types_tests.proofs.tests.first.Given as goal
 
 abbrev pub invariant-loop-item : goal.invariant-loop-item

@@ -1,5 +1,5 @@
 use Rattle.std.proofs.Common.{sym}
-use Rattle.go_model.proofs.Ordered.{narrowed_less, narrowed_greater, narrowed_equal, narrowed_none, below_high, above_low}
+use Rattle.go_base.proofs.Ordered.{narrowed_less, narrowed_greater, narrowed_equal, narrowed_none, below_high, above_low}
 use Rattle.go_model.proofs.types.keyed.find_key.Goals as goal
 
 pub loop-low-preserved-in-Less : goal.loop-low-preserved-in-Less

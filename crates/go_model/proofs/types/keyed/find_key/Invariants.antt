@@ -1,5 +1,5 @@
 use Rattle.std.proofs.Common.{◌-◌}
-use Rattle.go_model.proofs.Ordered.{Narrowed}
+use Rattle.go_base.proofs.Ordered.{Narrowed}
 use Rattle.go_model.proofs.types.keyed.find_key.Given as goal
 
 abbrev pub invariant-loop-low : goal.invariant-loop-low

@@ -1,5 +1,5 @@
 use Rattle.std.proofs.Common.{sym, ◌∙◌}
-use Rattle.go_model.proofs.Ordered.{placed_here, placed_next}
+use Rattle.go_base.proofs.Ordered.{placed_here, placed_next}
 use Rattle.go_model.proofs.types.keyed.place_for.Goals as goal
 
 pub returns-then-goes_before : goal.returns-then-goes_before

@@ -1,5 +1,5 @@
 use Rattle.std.proofs.Common.{◌≡◌, ◌++◌, take, drop}
-use Rattle.go_model.specs.Keys.{placed}
+use Rattle.go_base.specs.Keys.{placed}
 use Rattle.go_model.proofs.types.keyed.place_for.Given as goal
 
 abbrev pub invariant-loop-at : goal.invariant-loop-at

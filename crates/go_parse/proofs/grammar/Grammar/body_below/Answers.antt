@@ -1,5 +1,5 @@
 use Rattle.std.proofs.Common.{◌∙◌, sym}
-use Rattle.go_model.specs.Terminals.{terminals}
+use Rattle.go_syntax.specs.grammar.Terminals.{terminals}
 use Rattle.go_parse.proofs.Heights.{no_body}
 use Rattle.go_parse.proofs.PartsBelow.{body_above}
 use Rattle.go_parse.proofs.grammar.Grammar.body_below.Goals as goal

@@ -1,7 +1,7 @@
 use Rattle.std.proofs.Common.{List, []}
-use Rattle.go_model.specs.declared.syntax.expression.Expr.{Expr}
-use Rattle.go_model.specs.Grammar.{comparison}
-use Rattle.go_model.specs.Terminals.{Terminal, terminals}
+use Rattle.go_syntax.specs.declared.expression.Expr.{Expr}
+use Rattle.go_syntax.specs.grammar.Grammar.{comparison}
+use Rattle.go_syntax.specs.grammar.Terminals.{Terminal, terminals}
 use Rattle.go_parse.specs.Levels.{levels}
 use Rattle.go_parse.specs.Reading.{Reader, run}
 use Rattle.go_parse.specs.Rules.{step_both, operation, sum_expr}

@@ -1,6 +1,6 @@
 use Rattle.std.proofs.Common.{◌≡◌, ◌-◌, []}
-use Rattle.go_model.specs.Grammar.{comparison}
-use Rattle.go_model.specs.Terminals.{terminals}
+use Rattle.go_syntax.specs.grammar.Grammar.{comparison}
+use Rattle.go_syntax.specs.grammar.Terminals.{terminals}
 use Rattle.go_parse.specs.Levels.{levels}
 use Rattle.go_parse.specs.Reading.{run, loop}
 use Rattle.go_parse.specs.Rules.{step_both, operation, sum_expr}

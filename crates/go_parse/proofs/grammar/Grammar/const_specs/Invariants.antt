@@ -1,5 +1,5 @@
 use Rattle.std.proofs.Common.{◌≡◌, ◌-◌}
-use Rattle.go_model.specs.Terminals.{terminals}
+use Rattle.go_syntax.specs.grammar.Terminals.{terminals}
 use Rattle.go_parse.specs.Declarations.{specs, spec_item, const_spec}
 use Rattle.go_parse.specs.Levels.{levels}
 use Rattle.go_parse.specs.Reading.{loop, step_of}

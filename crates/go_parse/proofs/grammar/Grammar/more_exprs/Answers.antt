@@ -1,6 +1,6 @@
 use Rattle.std.proofs.Common.{◌∙◌, List, sym, refl}
-use Rattle.go_model.specs.declared.syntax.expression.Expr.{Expr}
-use Rattle.go_model.specs.Terminals.{Terminal, terminals}
+use Rattle.go_syntax.specs.declared.expression.Expr.{Expr}
+use Rattle.go_syntax.specs.grammar.Terminals.{Terminal, terminals}
 use Rattle.go_parse.specs.Levels.{levels}
 use Rattle.go_parse.specs.Reading.{Reader, goes_on, run, step_of}
 use Rattle.go_parse.specs.Rules.{more_exprs}

@@ -1,6 +1,6 @@
 use Rattle.std.proofs.Common.{◌≡◌, ℕ, ◌-◌, ◌+◌, ◌∙◌, ◌++◌, ◌∷◌, [], List, ap, sym}
-use Rattle.go_model.specs.declared.syntax.types.ParameterDecl.{ParameterDecl}
-use Rattle.go_model.specs.Terminals.{Terminal, terminals}
+use Rattle.go_syntax.specs.declared.types.ParameterDecl.{ParameterDecl}
+use Rattle.go_syntax.specs.grammar.Terminals.{Terminal, terminals}
 use Rattle.go_parse.specs.Levels.{levels}
 use Rattle.go_parse.specs.Reading.{Reader, goes_on, run, loop, step_of}
 use Rattle.go_parse.specs.Rules.{named_parameter}

@@ -1,5 +1,5 @@
 use Rattle.std.proofs.Common.{◌≡◌, ◌-◌}
-use Rattle.go_model.specs.Terminals.{terminals}
+use Rattle.go_syntax.specs.grammar.Terminals.{terminals}
 use Rattle.go_parse.specs.Levels.{levels}
 use Rattle.go_parse.specs.Reading.{run, loop, step_of}
 use Rattle.go_parse.specs.Rules.{named_item}

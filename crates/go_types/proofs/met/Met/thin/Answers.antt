@@ -1,5 +1,5 @@
 use Rattle.std.proofs.Common.{◌≡◌, ◌<◌, subst, List, length, get_or}
-use Rattle.go_model.specs.Selectors.{Spot}
+use Rattle.go_model.specs.types.Selectors.{Spot}
 use Rattle.go_types.proofs.Thin.{thin_next}
 use Rattle.go_types.proofs.met.Met.thin.Goals as goal
 

@@ -1,5 +1,5 @@
 use Rattle.std.proofs.Common.{List, [], drop}
-use Rattle.go_model.specs.Selectors.{Spot}
+use Rattle.go_model.specs.types.Selectors.{Spot}
 use Rattle.go_types.specs.Search.{Knows}
 use Rattle.go_types.proofs.Thin.{Thinning}
 use Rattle.go_types.proofs.met.Met.thin.Given as goal

@@ -1,10 +1,10 @@
 use Rattle.std.proofs.Common.{◌∙◌, List, sym, ap, map, subst}
-use Rattle.go_model.specs.Lists.{Ascending}
+use Rattle.go_base.specs.Lists.{Ascending}
 use Rattle.go_model.specs.declared.types.package.Package.{Package}
 use Rattle.go_model.specs.declared.types.package.Defined.{Defined}
-use Rattle.go_model.specs.Keys.{first_with}
-use Rattle.go_model.specs.Worlds.{path_of, name_of, IsPackage, table_of}
-use Rattle.go_model.proofs.Ordered.{each_first}
+use Rattle.go_base.specs.Keys.{first_with}
+use Rattle.go_model.specs.worlds.Worlds.{path_of, name_of, IsPackage, table_of}
+use Rattle.go_base.proofs.Ordered.{each_first}
 use Rattle.go_model.proofs.types.world.WorldTypeTable.defined.Goals as goal
 
 pub find_key-requires-in-Some : goal.find_key-requires-in-Some

@@ -1,0 +1,13 @@
+pub mod Assignability
+pub mod Bounds
+pub mod Comparison
+pub mod Conversions
+pub mod Imports
+pub mod MethodSets
+pub mod Selectors
+pub mod Tables
+pub mod Tags
+pub mod Terms
+pub mod TypeNames
+pub mod TypeSelectors
+pub mod Underlying

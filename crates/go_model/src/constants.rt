@@ -1,0 +1,3 @@
+//! Values of constants, and the kinds and classes of their types.
+pub mod class;
+pub mod value;

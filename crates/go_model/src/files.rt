@@ -1,0 +1,4 @@
+//! Trees of files, platforms, and headers with their build constraints.
+pub mod build;
+pub mod platform;
+pub mod tree;

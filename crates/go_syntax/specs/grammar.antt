@@ -1,0 +1,7 @@
+pub mod Brackets
+pub mod Declarations
+pub mod Grammar
+pub mod SourceFiles
+pub mod Statements
+pub mod Symbols
+pub mod Terminals
