@@ -5,13 +5,13 @@ use Rattle.go_syntax.specs.declared.declaration.File.{File}
 use Rattle.go_syntax.specs.declared.token.Token.{Token}
 use Rattle.go_syntax.specs.grammar.SourceFiles.{HasOutline}
 use Rattle.go_syntax.specs.lexical.Tokens.{IsTokens}
-use Rattle.api_gate.specs.declared.source.Source.{Source}
-use Rattle.api_gate.specs.declared.source.SourceError.{SourceError}
-use Rattle.api_gate.specs.declared.source.SourceError.TheVariants as source
-use Rattle.api_gate.specs.FilesReading.{FormCause, OutlineCause, SourceCause, SyntaxCause}
-use Rattle.api_gate.specs.Outlines.{IsNotInGrammar, IsOutlineOf}
-use Rattle.api_gate.specs.Sources.{Declares, IsSource}
-use Rattle.api_gate.proofs.Gathered.{same_list}
+use Rattle.api_gate.specs.declared.sources.source.Source.{Source}
+use Rattle.api_gate.specs.declared.sources.source.SourceError.{SourceError}
+use Rattle.api_gate.specs.declared.sources.source.SourceError.TheVariants as source
+use Rattle.api_gate.specs.inner.FileAnswers.{FormCause, OutlineCause, SourceCause, SyntaxCause}
+use Rattle.api_gate.specs.sources.Outlines.{IsNotInGrammar, IsOutlineOf}
+use Rattle.api_gate.specs.sources.Sources.{Declares, IsSource}
+use Rattle.api_gate.proofs.ConstantLists.{same_list}
 
 same_record : (a b : Source) → a.package_name ≡ b.package_name → a.constants ≡ b.constants → a ≡ b
 same_record a b p q i = record { package_name = p i; constants = q i }
@@ -26,14 +26,14 @@ of_tokens bytes tokens (Err e) is h = tt
 
 pub no_tokens : (bytes : List ℕ) (tokens : List Token) (r : Result File SourceError) → IsTokens bytes tokens → IfErr r (SyntaxCause tokens) → IfErr r (OutlineCause bytes)
 no_tokens bytes tokens (Ok f) is h = tt
-no_tokens bytes tokens (Err (source.BadToken place)) is h = absurd h
+no_tokens bytes tokens (Err (source.BadToken offset)) is h = absurd h
 no_tokens bytes tokens (Err source.Syntax) is h = (tokens, is, h)
 no_tokens bytes tokens (Err source.NotYet) is h = absurd h
 no_tokens bytes tokens (Err source.NoMemory) is h = tt
 
 -- why bytes have no outline is why they declare nothing
 pub no_outline : (bytes : List ℕ) (e : SourceError) → OutlineCause bytes e → SourceCause bytes e
-no_outline bytes (source.BadToken place) h = h
+no_outline bytes (source.BadToken offset) h = h
 no_outline bytes source.Syntax h = h
 no_outline bytes source.NotYet h = absurd h
 no_outline bytes source.NoMemory h = h
@@ -45,7 +45,7 @@ of_outline bytes f (Err e) is h = tt
 
 pub no_source : (bytes : List ℕ) (f : File) (r : Result Source SourceError) → IsOutlineOf bytes f → IfErr r (FormCause f) → IfErr r (SourceCause bytes)
 no_source bytes f (Ok s) is h = tt
-no_source bytes f (Err (source.BadToken place)) is h = absurd h
+no_source bytes f (Err (source.BadToken offset)) is h = absurd h
 no_source bytes f (Err source.Syntax) is h = absurd h
 no_source bytes f (Err source.NotYet) is h = (f, is, h)
 no_source bytes f (Err source.NoMemory) is h = tt

@@ -8,28 +8,28 @@ use Rattle.go_syntax.specs.declared.declaration.File.{File}
 use Rattle.go_model.specs.declared.files.tree.TreeFile.{TreeFile}
 use Rattle.go_model.specs.files.BuildValues.{is_chosen}
 use Rattle.go_model.specs.files.Headers.{IsHeader}
-use Rattle.go_syntax.specs.lexical.Lexemes.{IsBadPlace}
+use Rattle.go_syntax.specs.lexical.Lexemes.{IsBadOffset}
 use Rattle.go_base.specs.Lists.{Each}
 use Rattle.go_tags.specs.declared.error.TagError.{TagError}
-use Rattle.api_gate.specs.declared.reading.FileAnswer.{FileAnswer}
-use Rattle.api_gate.specs.declared.reading.FileAnswer.TheVariants as answer
-use Rattle.api_gate.specs.declared.reading.FileSource.{FileSource}
-use Rattle.api_gate.specs.declared.reading.ReadError.{ReadError}
-use Rattle.api_gate.specs.declared.reading.ReadError.TheVariants as error
-use Rattle.api_gate.specs.declared.refusals.FileFault.{FileFault}
-use Rattle.api_gate.specs.declared.refusals.FileFault.TheVariants as fault
-use Rattle.api_gate.specs.declared.source.Source.{Source}
-use Rattle.api_gate.specs.Faults.{HasBadHeader, IsChosen, IsFirstFaulty, IsSound}
-use Rattle.api_gate.specs.declared.source.SourceError.{SourceError}
-use Rattle.api_gate.specs.declared.source.SourceError.TheVariants as source
-use Rattle.api_gate.specs.FilesReading.{Added, FileCause, Gives, ReadCause, SourceCause, Tells}
-use Rattle.api_gate.specs.Outlines.{IsNotInGrammar, IsOutlineOf}
-use Rattle.api_gate.specs.Sources.{AreSources, Declares, IsFileSource, IsSource, no_file, left_out, chosen}
-use Rattle.api_gate.proofs.Drops.{next_drop, past_all, append_nothing}
+use Rattle.api_gate.specs.declared.sources.files.FileAnswer.{FileAnswer}
+use Rattle.api_gate.specs.declared.sources.files.FileAnswer.TheVariants as answer
+use Rattle.api_gate.specs.declared.sources.files.FileSource.{FileSource}
+use Rattle.api_gate.specs.declared.sources.files.ReadError.{ReadError}
+use Rattle.api_gate.specs.declared.sources.files.ReadError.TheVariants as error
+use Rattle.api_gate.specs.declared.reports.refusals.FileFault.{FileFault}
+use Rattle.api_gate.specs.declared.reports.refusals.FileFault.TheVariants as fault
+use Rattle.api_gate.specs.declared.sources.source.Source.{Source}
+use Rattle.api_gate.specs.sources.ChosenFiles.{HasBadHeader, IsChosen, IsFirstFaulty, IsSound}
+use Rattle.api_gate.specs.declared.sources.source.SourceError.{SourceError}
+use Rattle.api_gate.specs.declared.sources.source.SourceError.TheVariants as source
+use Rattle.api_gate.specs.inner.FileAnswers.{Added, FileCause, Gives, ReadCause, SourceCause, AnswersChosen}
+use Rattle.api_gate.specs.sources.Outlines.{IsNotInGrammar, IsOutlineOf}
+use Rattle.api_gate.specs.sources.Sources.{AreSources, Declares, IsFileSource, IsSource, no_file, left_out, chosen}
+use Rattle.api_gate.proofs.ListRests.{next_drop, past_all, append_nothing}
 
 -- the answer for a file whose header was read
 module _ (one : (bytes : List ℕ) (a b : Header) → IsHeader bytes a → IsHeader bytes b → a ≡ b) where
-  pub chosen_by : (p : Platform) (file : TreeFile) (header : Header) (flag : Bool) → IsHeader file.bytes header → flag ≡ is_chosen p file.name header.constraint → Tells p file flag
+  pub chosen_by : (p : Platform) (file : TreeFile) (header : Header) (flag : Bool) → IsHeader file.bytes header → flag ≡ is_chosen p file.name header.constraint → AnswersChosen p file flag
   chosen_by p file header flag is e = record {
     chosen = λ t. (header, is, sym e ∙ t);
     left = λ f c. true≢false (sym c.2 ∙ ap (λ (h : Header). is_chosen p file.name h.constraint) (one file.bytes c.0 header c.1 is) ∙ sym e ∙ f);
@@ -38,29 +38,29 @@ module _ (one : (bytes : List ℕ) (a b : Header) → IsHeader bytes a → IsHea
 -- a file whose header isn't refused, and which is left out or has an outline, is sound
 pub sound_left : (p : Platform) (file : TreeFile) → ((e : TagError) → HasBadHeader p file e → ⊥) → (IsChosen p file → ⊥) → IsSound p file
 sound_left p file good left (fault.BadHeader e) h = good e h
-sound_left p file good left (fault.BadToken place) h = left h.0
+sound_left p file good left (fault.BadToken offset) h = left h.0
 sound_left p file good left fault.Syntax h = left h.0
 
--- the bytes have a token at each place, and are of the grammar
+-- the bytes have a token at each offset, and are of the grammar
 abbrev pub IsOfGrammar : List ℕ → Type 0
-IsOfGrammar bytes = ((place : ℕ) → IsBadPlace bytes place → ⊥) × (IsNotInGrammar bytes → ⊥)
+IsOfGrammar bytes = ((offset : ℕ) → IsBadOffset bytes offset → ⊥) × (IsNotInGrammar bytes → ⊥)
 
 pub sound_read : (p : Platform) (file : TreeFile) → ((e : TagError) → HasBadHeader p file e → ⊥) → IsOfGrammar file.bytes → IsSound p file
 sound_read p file good none (fault.BadHeader e) h = good e h
-sound_read p file good none (fault.BadToken place) h = none.0 place h.1
+sound_read p file good none (fault.BadToken offset) h = none.0 offset h.1
 sound_read p file good none fault.Syntax h = none.1 h.1
 
-pub bad_within : (file : TreeFile) (place : ℕ) → IsBadPlace file.bytes place → place ≤ length file.bytes
-bad_within file place b = omega (arith, b.offset)
+pub bad_within : (file : TreeFile) (offset : ℕ) → IsBadOffset file.bytes offset → offset ≤ length file.bytes
+bad_within file offset b = omega (arith, b.offset)
 
-pub bad_of : {bytes other : List ℕ} → bytes ≡ other → (place : ℕ) → IsBadPlace bytes place → IsBadPlace other place
-bad_of e place b = subst (λ (bs : List ℕ). IsBadPlace bs place) e b
+pub bad_of : {bytes other : List ℕ} → bytes ≡ other → (offset : ℕ) → IsBadOffset bytes offset → IsBadOffset other offset
+bad_of e offset b = subst (λ (bs : List ℕ). IsBadOffset bs offset) e b
 
 module _ (one : (bytes : List ℕ) (f g : File) → IsOutlineOf bytes f → IsOutlineOf bytes g → f ≡ g)
     (in_grammar : (bytes : List ℕ) (f : File) → IsOutlineOf bytes f → IsNotInGrammar bytes → ⊥)
-    (good : (bytes : List ℕ) (f : File) (place : ℕ) → IsOutlineOf bytes f → IsBadPlace bytes place → ⊥) where
+    (good : (bytes : List ℕ) (f : File) (offset : ℕ) → IsOutlineOf bytes f → IsBadOffset bytes offset → ⊥) where
   of_grammar : (bytes : List ℕ) (f : File) → IsOutlineOf bytes f → IsOfGrammar bytes
-  of_grammar bytes f o = (λ place b. good bytes f place o b, λ n. in_grammar bytes f o n)
+  of_grammar bytes f o = (λ offset b. good bytes f offset o b, λ n. in_grammar bytes f o n)
 
   -- bytes that aren't read yet are of the grammar, and so are those that are read
   pub grammar_not_yet : {bytes other : List ℕ} {e : SourceError} → bytes ≡ other → e ≡ source.NotYet → SourceCause bytes e → IsOfGrammar other
@@ -74,9 +74,9 @@ module _ (one : (bytes : List ℕ) (f g : File) → IsOutlineOf bytes f → IsOu
       let n : SourceCause other source.NotYet = subst (SourceCause other) e (subst (λ (bs : List ℕ). SourceCause bs error) b c) in
       n.2 s (subst (λ (f : File). Declares f s) (one other is.0 n.0 is.1 n.1) is.2)
 
-pub sound_told : (p : Platform) (file : TreeFile) (r : Result FileAnswer ReadError) → ((e : TagError) → HasBadHeader p file e → ⊥) → IfOk r (λ _. IsOfGrammar file.bytes) → IfOk r (λ _. IsSound p file)
-sound_told p file (Ok a) good none = sound_read p file good none
-sound_told p file (Err e) good none = tt
+pub sound_answer : (p : Platform) (file : TreeFile) (r : Result FileAnswer ReadError) → ((e : TagError) → HasBadHeader p file e → ⊥) → IfOk r (λ _. IsOfGrammar file.bytes) → IfOk r (λ _. IsSound p file)
+sound_answer p file (Ok a) good none = sound_read p file good none
+sound_answer p file (Err e) good none = tt
 
 -- what is so far known of all files, from what is known of those that are left
 pub record ReadTo (p : Platform) (files rest : List TreeFile) (sources : List FileSource) (is_read : Bool) : Type 0 where

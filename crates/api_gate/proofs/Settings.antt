@@ -9,12 +9,12 @@ use Rattle.api_gate.specs.declared.words.OptionName.TheVariants as option
 use Rattle.api_gate.specs.declared.words.Request.{Request}
 use Rattle.api_gate.specs.declared.words.Setting.{Setting}
 use Rattle.api_gate.specs.Words.{AreSettings, AsksFor, IsPlatform, IsRequest, IsSetting, spelling, values_of}
-use Rattle.api_gate.proofs.Drops.{next_drop, past_all, append_nothing}
+use Rattle.api_gate.proofs.ListRests.{next_drop, past_all, append_nothing}
 
 Words : Type 0
 Words = List (List ℕ)
 
--- the settings so far, read from the front of the words: more of them go on in the rest
+-- the settings so far, read from the prefix of the words: more of them go on in the rest
 pub record ReadTo (words rest : List (List ℕ)) (settings : List Setting) : Type 0 where
   pub forth : (more : List Setting) → AreSettings rest more → AreSettings words (settings ++ more)
   pub back : (all : List Setting) → AreSettings words all → (more : List Setting) × AreSettings rest more

@@ -1,5 +1,5 @@
 -- Which words are good, and what they ask for. The words are those after the program's name.
--- Source: this project's command line, docs/definitions.md, "Words".
+-- Own: this project's command line.
 use Rattle.std.specs.Prelude.{◌≡◌, ◌≢◌, ℕ, List, [], ◌∷◌, ◌++◌, codes}
 use Rattle.go_model.specs.declared.files.platform.Platform.{Platform}
 use Rattle.go_model.specs.declared.files.platform.Platform.TheVariants as platform
@@ -60,3 +60,7 @@ pub record IsRequest (words : List (List ℕ)) (request : Request) : Type 0 wher
   pub mode : words ≡ codes "features" ∷ rest
   pub spelled : AreSettings rest settings
   pub asked : AsksFor settings request
+
+-- no request is made: the words aren't good
+abbrev pub AreBad : List (List ℕ) → Type 0
+AreBad words = (request : Request) → IsRequest words request → ⊥

@@ -2,7 +2,7 @@
 ghost use Rattle.std.specs.Prelude.{◌≡◌, ◌≤◌, ◌∷◌, [], ℕ, List, map, string_bytes, MatchOption, IfOk, Decides, codes, length, ◌↔◌, IsTrue};
 ghost use Rattle.go_model.specs.declared.files.platform.Platform.{Platform};
 ghost use Rattle.api_gate.specs.Words.{AreSettings, AsksFor, IsPlatform, IsRequest, IsSetting, IsValue, spelling, values_of};
-ghost use Rattle.api_gate.specs.WordsReading.{IsGiven, optional};
+ghost use Rattle.api_gate.specs.inner.OptionValues.{IsGiven, optional};
 ghost use Rattle.api_gate.specs.declared.words.OptionName.{OptionName};
 ghost use Rattle.api_gate.specs.declared.words.OptionName.TheVariants as option;
 ghost use Rattle.api_gate.specs.declared.words.Request.{Request};
@@ -10,9 +10,9 @@ ghost use Rattle.api_gate.specs.declared.words.Setting.{Setting};
 
 use go_base::list::List;
 use go_base::memory::NoMemory;
-use go_model::files::platform::Platform;
 use go_base::text::Text;
-use go_tags::platforms::{one_platform, platform};
+use go_model::files::platform::Platform;
+use go_tags::platforms::platform;
 use std::alloc::Global;
 
 /// What good words ask for.
@@ -166,11 +166,4 @@ pub fn read_words(alloc: Global, words: &[String]) -> Result<Option<Request>, No
         None => Ok(None),
         Some(settings) => request_of(alloc, settings.items()),
     }
-}
-
-/// Words make at most one request.
-pub fn one_request()
-    ensures { (words : List (List ℕ)) (r s : Request) → IsRequest words r → IsRequest words s → r ≡ s }
-{
-    one_platform();
 }

@@ -14,13 +14,21 @@ enum Given {
     Told(Option<bool>),
 }
 
+fn shown_text(alloc: Global, bytes: &[u8]) -> Result<String, AllocError> {
+    if let [first, rest @ ..] = bytes
+        && rest.len() >= 64
+        && rest.iter().all(|byte| byte == first)
+    {
+        return format!(in alloc; "text:{first:02x}*{}", bytes.len());
+    }
+    let digits = hex::encode(alloc, bytes)?;
+    format!(in alloc; "text:{digits}")
+}
+
 fn shown_value(alloc: Global, value: &Value) -> Result<String, AllocError> {
     match value {
         Value::Int(number) => format!(in alloc; "int:{number}"),
-        Value::Str(text) => {
-            let digits = hex::encode(alloc, text.bytes())?;
-            format!(in alloc; "text:{digits}")
-        }
+        Value::Str(text) => shown_text(alloc, text.bytes()),
         Value::Truth(truth) => format!(in alloc; "truth:{truth}"),
     }
 }

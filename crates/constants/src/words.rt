@@ -4,7 +4,7 @@ use go_base::operator::CompareOp;
 use go_base::text::Text;
 use go_model::constants::value::{Basic, BinaryOp, Kind, UnaryOp, Untyped, Value};
 use hex::FromHexError;
-use std::alloc::Global;
+use std::alloc::{AllocError, Global};
 
 /// Why a line has no answer.
 #[derive(Debug, Drop)]
@@ -15,6 +15,12 @@ pub enum Refusal {
 
 impl From<NoMemory> for Refusal {
     fn from(_: NoMemory) -> Refusal {
+        Refusal::NoMemory
+    }
+}
+
+impl From<AllocError> for Refusal {
+    fn from(_: AllocError) -> Refusal {
         Refusal::NoMemory
     }
 }
@@ -114,11 +120,25 @@ pub fn bits(word: &str) -> Result<u32, Refusal> {
     }
 }
 
-fn text(alloc: Global, digits: &str) -> Result<Value, Refusal> {
+fn bytes(alloc: Global, digits: &str) -> Result<Vec<u8>, Refusal> {
     match hex::decode(alloc, digits) {
-        Ok(bytes) => Ok(Value::Str(Text::from_vec(bytes))),
+        Ok(bytes) => Ok(bytes),
         Err(FromHexError::OutOfMemory) => Err(Refusal::NoMemory),
         Err(_) => Err(Refusal::NotAnOperation),
+    }
+}
+
+fn text(alloc: Global, word: &str) -> Result<Value, Refusal> {
+    let Some((digits, count)) = word.split_once('*') else {
+        return Ok(Value::Str(Text::from_vec(bytes(alloc, word)?)));
+    };
+    let piece = bytes(alloc, digits)?;
+    match count.parse::<usize>() {
+        Ok(count) if count <= 65_536 => {
+            let whole = piece.repeat(alloc, count)?;
+            Ok(Value::Str(Text::from_vec(whole)))
+        }
+        _ => Err(Refusal::NotAnOperation),
     }
 }
 

@@ -1,6 +1,7 @@
-//! What the programs for conformance share that read many sources in one run: frames of a length and
-//! bytes, and why such a program stops.
+//! What the programs for conformance share: frames of a source with a question, escapes for bytes, and
+//! why such a program stops.
 #![tactic(auto)]
 
+pub mod escape;
 pub mod fault;
-pub mod source;
+pub mod frame;

@@ -1,4 +1,5 @@
 pub mod Fronts
 pub mod Lists
+pub mod Members
 pub mod Ordered
 pub mod Runs

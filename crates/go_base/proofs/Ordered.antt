@@ -2,6 +2,7 @@
 use Rattle.std.proofs.Common.{◌≡◌, ◌<◌, ◌≤◌, ◌+◌, ◌-◌, ◌/◌, ℕ, zero, suc, List, [], ◌∷◌, ◌++◌, append_assoc, map, length, take, drop, get_or, refl, sym, ap, ◌∙◌, subst, ◌⊎◌, inl, inr, arith, Bool, true, false, Option, Some, None, if◌then◌else◌}
 use mathlib.Core.Bool.{true≢false}
 use Rattle.std.specs.Str.{bytes_eq}
+use Rattle.std.proofs.lemmas.Slice.Eq.{bytes_eq-Decides}
 use Rattle.std.specs.Ordering.{nat_cmp, is_lt, is_eq, ordering_reverse}
 use Rattle.std.specs.declared.cmp.Ordering.{Ordering}
 use Rattle.std.specs.declared.cmp.Ordering.TheVariants.{Less, Equal, Greater}
@@ -11,7 +12,10 @@ use Rattle.std.proofs.lemmas.Cmp.{nat_list_cmp_total}
 use Rattle.std.proofs.lemmas.List.{take_more, take-append-drop, drop_all}
 use Rattle.std.proofs.lemmas.Map.Text.{is_eq-slice_cmp}
 use Rattle.go_base.specs.Lists.{Has, Each, Before, Ascending}
-use Rattle.go_base.specs.Keys.{first_with, placed, PlaceFor}
+use Rattle.go_base.specs.Keys.{first_with, item_of, placed, PlaceFor}
+use Rattle.std.specs.Prelude.{IfSome}
+use denote.Ref.{Bor}
+use Rattle.go_base.proofs.Members.{has_split}
 
 abbrev order : List ℕ → List ℕ → Ordering
 order = slice_cmp nat_cmp
@@ -66,11 +70,6 @@ module _ {A : Type 0} (key : A → List ℕ) where
   after_item : (xs ys : List A) (x y : A) → Ascending (map key (xs ++ x ∷ ys)) → Has ys y → order (key x) (key y) ≡ Less
   after_item [] ys x y a h = each_key (key x) ys y a.0 h
   after_item (z ∷ xs) ys x y a h = after_item xs ys x y a.1 h
-
-  has_split : (xs ys : List A) (x : A) → Has (xs ++ ys) x → Has xs x ⊎ Has ys x
-  has_split [] ys x h = inr h
-  has_split (y ∷ xs) ys x (inl e) = inl (inl e)
-  has_split (y ∷ xs) ys x (inr h) = elim (has_split xs ys x h) [ inl a ↦ inl (inr a) | inr b ↦ inr b ]
 
   drop_suc : (i : ℕ) (xs : List A) (d : A) → i < length xs → drop i xs ≡ get_or xs i d ∷ drop (suc i) xs
   drop_suc i [] d h = absurd (omega arith)
@@ -135,17 +134,76 @@ module _ {A : Type 0} (key : A → List ℕ) where
           same : key x ≡ k
           same = slice_cmp-IsAntisymmetric nat_cmp-IsAntisymmetric (key x) k h
 
-pub in_middle : (low high n : ℕ) → low < high → high ≤ n → low + (high - low) / 2 < n
-in_middle low high n a b = omega arith
+-- the place for a key, narrowed down
+module _ {A : Type 0} (key : A → List ℕ) (items : List A) (k : List ℕ) where
+  -- the key comes before no item in front of the place, and before each item behind it
+  pub record Parted (low high : ℕ) : Type 0 where
+    pub rises : low ≤ high
+    pub within : high ≤ length items
+    pub before : (x : A) → Has (take low items) x → is_lt (order k (key x)) ≡ false
+    pub after : (x : A) → Has (drop high items) x → is_lt (order k (key x)) ≡ true
+
+  pub parted_all : Parted 0 (length items)
+  parted_all = record { rises = omega arith; within = omega arith; before = λ x h. absurd h; after = λ x h. absurd (subst (λ (w : List A). Has w x) (drop_all (length items) items (omega arith)) h) }
+
+  not_less : (x y : List ℕ) (b : Bool) → is_lt (order k x) ≡ b → order x y ≡ Less → is_lt (order k y) ≡ false → b ≡ false
+  not_less x y true e l h = absurd (true≢false (sym (ap is_lt (less_less k x y (less_of (order k x) e) l)) ∙ h))
+  not_less x y false e l h = refl
+
+  module _ (ordered : Ascending (map key items)) (low high middle : ℕ) (x : A) (p : Parted low high) (in_range : middle < high) (is : x ≡ get_or items middle x) where
+    fits : middle < length items
+    fits = omega (arith, p.within)
+
+    split_middle : drop middle items ≡ x ∷ drop (middle + 1) items
+    split_middle = drop_suc key middle items x fits ∙ ap (λ (y : A). y ∷ drop (suc middle) items) (sym is) ∙ ap (λ (m : ℕ). x ∷ drop m items) (let e : suc middle ≡ middle + 1 = omega arith in e)
+
+    in_order : Ascending (map key (take middle items ++ x ∷ drop (middle + 1) items))
+    in_order = subst (λ (w : List A). Ascending (map key w)) (sym (take-append-drop middle items) ∙ ap (λ w. take middle items ++ w) split_middle) ordered
+
+    pub parted_later : is_lt (order k (key x)) ≡ false → Parted (middle + 1) high
+    parted_later h = record {
+      rises = omega arith;
+      within = p.within;
+      before = λ y i. elim (has_split (take middle items) (x ∷ []) y (subst (λ (w : List A). Has w y) (take_more items middle x fits ∙ ap (λ z. take middle items ++ z ∷ []) (sym is)) i)) [
+        | inl a ↦ not_less (key y) (key x) (is_lt (order k (key y))) refl (before_item key (take middle items) (drop (middle + 1) items) x y in_order a) h
+        | inr b ↦ elim b [ inl s ↦ subst (λ (w : A). is_lt (order k (key w)) ≡ false) s h | inr e ↦ absurd e ]
+      ];
+      after = p.after;
+    }
+
+    pub parted_sooner : low ≤ middle → is_lt (order k (key x)) ≡ true → Parted low middle
+    parted_sooner r h = record {
+      rises = r;
+      within = omega (arith, p.within);
+      before = p.before;
+      after = λ y i. elim (has_split (x ∷ []) (drop (middle + 1) items) y (subst (λ (w : List A). Has w y) split_middle i)) [
+        | inl b ↦ elim b [ inl s ↦ subst (λ (w : A). is_lt (order k (key w)) ≡ true) s h | inr e ↦ absurd e ]
+        | inr a ↦ ap is_lt (less_less k (key x) (key y) (less_of (order k (key x)) h) (after_item key (take middle items) (drop (middle + 1) items) x y in_order a))
+      ];
+    }
+
+  placed_front : (y : A) (xs : List A) → ((x : A) → Has xs x → is_lt (order (key y) (key x)) ≡ true) → placed key y xs ≡ y ∷ xs
+  placed_front y [] h = refl
+  placed_front y (x ∷ xs) h = ap (λ b. if b then y ∷ x ∷ xs else x ∷ placed key y xs) (h x (inl refl))
+
+  placed_between : (y : A) (xs ys : List A) → ((x : A) → Has xs x → is_lt (order (key y) (key x)) ≡ false) → ((x : A) → Has ys x → is_lt (order (key y) (key x)) ≡ true) → placed key y (xs ++ ys) ≡ xs ++ y ∷ ys
+  placed_between y [] ys h more = placed_front y ys more
+  placed_between y (x ∷ xs) ys h more = ap (λ b. if b then y ∷ x ∷ (xs ++ ys) else x ∷ placed key y (xs ++ ys)) (h x (inl refl)) ∙ ap (λ w. x ∷ w) (placed_between y xs ys (λ z i. h z (inr i)) more)
+
+  pub parted_place : (low high : ℕ) → high ≤ low → Parted low high → PlaceFor key items k low
+  parted_place low high h p = (
+    omega (arith, p.within),
+    λ y e. ap (placed key y) (sym (take-append-drop low items))
+        ∙ placed_between y (take low items) (drop low items)
+        (λ x i. ap (λ w. is_lt (order w (key x))) e ∙ p.before x i)
+        (λ x i. ap (λ w. is_lt (order w (key x))) e ∙ p.after x (subst (λ (m : ℕ). Has (drop m items) x) (let s : low ≡ high = omega (arith, p.rises) in s) i)),
+  )
 
 pub below_high : (low high : ℕ) → low < high → low + (high - low) / 2 < high
 below_high low high a = omega arith
 
 pub above_low : (low high : ℕ) → low ≤ low + (high - low) / 2
 above_low low high = omega arith
-
-pub weaker : (a n : ℕ) → a < n → a ≤ n
-weaker a n h = omega arith
 
 -- what holds of each item holds of the one that was found
 picked : {A : Type 0} (P : A → Type 0) (x y : A) (rest : Option A) (b : Bool) → P y → (Some x ≡ rest → P x) → Some x ≡ (if b then Some y else rest) → P x
@@ -156,16 +214,16 @@ pub each_first : {A : Type 0} (key : A → List ℕ) (P : A → Type 0) (xs : Li
 each_first {A} key P [] k x e h = absurd (cc)
 each_first {A} key P (y ∷ ys) k x e h = picked P x y (first_with key ys k) (bytes_eq (key y) k) h.0 (λ s. each_first key P ys k x s h.1) e
 
--- an item has its place before the first that comes after it
-module _ {A : Type 0} (key : A → List ℕ) (xs : List A) (i : ℕ) (x : A) (k : List ℕ) (h : i < length xs) (is : x ≡ get_or xs i x) where
-  split : drop i xs ≡ x ∷ drop (i + 1) xs
-  split = drop_suc key i xs x h ∙ ap (λ (z : A). z ∷ drop (suc i) xs) (sym is) ∙ ap (λ (m : ℕ). x ∷ drop m xs) (let e : suc i ≡ i + 1 = omega arith in e)
+-- the same of an item that a look-up gave
+pub each_item : {A : Type 0} (key : A → List ℕ) (P : A → Type 0) (xs : List A) (k : List ℕ) (r : Option (Bor A)) → item_of r ≡ first_with key xs k → Each P xs → IfSome r (λ x. P x.now)
+each_item key P xs k None e h = tt
+each_item key P xs k (Some x) e h = each_first key P xs k x.now e h
 
-  tested : (y : A) → key y ≡ k → (b : Bool) → is_lt (order k (key x)) ≡ b → placed key y (drop i xs) ≡ (if b then y ∷ drop i xs else x ∷ placed key y (drop (i + 1) xs))
-  tested y e b t = ap (placed key y) split ∙ ap (λ c. if c then y ∷ x ∷ drop (i + 1) xs else x ∷ placed key y (drop (i + 1) xs)) (ap (λ w. is_lt (order w (key x))) e ∙ t) ∙ ap (λ w. if b then y ∷ w else x ∷ placed key y (drop (i + 1) xs)) (sym split)
+key_picked : {A : Type 0} (key : A → List ℕ) (k : List ℕ) (x y : A) (rest : Option A) (b : Bool) → bytes_eq (key y) k ≡ b → Some x ≡ (if b then Some y else rest) → (Some x ≡ rest → key x ≡ k) → key x ≡ k
+key_picked key k x y rest true h e f = ap key (let i : x ≡ y = cc in i) ∙ (bytes_eq-Decides (key y) k).0 h
+key_picked key k x y rest false h e f = f e
 
-  pub placed_here : ((y : A) → key y ≡ k → placed key y xs ≡ take i xs ++ placed key y (drop i xs)) → is_lt (order k (key x)) ≡ true → PlaceFor key xs k i
-  placed_here f t = (weaker i (length xs) h, λ y e. f y e ∙ ap (λ w. take i xs ++ w) (tested y e true t))
-
-  pub placed_next : ((y : A) → key y ≡ k → placed key y xs ≡ take i xs ++ placed key y (drop i xs)) → is_lt (order k (key x)) ≡ false → (y : A) → key y ≡ k → placed key y xs ≡ take (i + 1) xs ++ placed key y (drop (i + 1) xs)
-  placed_next f t y e = f y e ∙ ap (λ w. take i xs ++ w) (tested y e false t) ∙ sym (append_assoc (take i xs) (x ∷ []) (placed key y (drop (i + 1) xs))) ∙ ap (λ w. w ++ placed key y (drop (i + 1) xs)) (sym (take_more xs i x h ∙ ap (λ z. take i xs ++ z ∷ []) (sym is)))
+-- what was found by a key has it
+pub first_key : {A : Type 0} (key : A → List ℕ) (xs : List A) (k : List ℕ) (x : A) → Some x ≡ first_with key xs k → key x ≡ k
+first_key key [] k x e = absurd (cc)
+first_key key (y ∷ ys) k x e = key_picked key k x y (first_with key ys k) (bytes_eq (key y) k) refl e (first_key key ys k x)

@@ -1,4 +1,5 @@
 -- The characters of names and of tags.
+-- Public source: Go specification, "Letters and digits", "Identifiers"; package go/build/constraint for tags.
 use Rattle.std.specs.Prelude.{◌≡◌, ℕ, Bool, true, List, ◌++◌, drop}
 use Rattle.std.specs.Char.{IsScalar, encode_utf8, len_utf8}
 use Rattle.go_base.specs.Characters.{is_name_character, is_tag_character}

@@ -1,6 +1,6 @@
--- Letters and digits of names, after "Characters", "Letters and digits", "Identifiers" and "Exported
--- identifiers" of the Go specification, with the general categories of the Unicode Standard; and runs of
--- characters in bytes, which need not be UTF-8 behind them.
+-- Letters and digits of names, and runs of characters in bytes, which need not be UTF-8 behind them.
+-- Public source: Go specification, "Characters", "Letters and digits", "Identifiers" and "Exported identifiers", with the
+-- general categories of the Unicode Standard.
 use Rattle.std.specs.Prelude.{◌≡◌, ℕ, Bool, true, false, ◌||◌, ◌==◌, List, [], ◌++◌}
 use Rattle.std.specs.Char.{IsScalar, encode_utf8}
 use Rattle.unicode.specs.GeneralCategory.{general_category}

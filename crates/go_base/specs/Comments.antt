@@ -1,5 +1,5 @@
--- White space and comments, after "Tokens" and "Comments" of the Go specification's "Lexical elements". Beyond
--- Go, a comment is UTF-8 without NUL.
+-- White space and comments.
+-- Public source: Go specification, "Tokens" and "Comments". Beyond Go, a comment is UTF-8 without NUL.
 use Rattle.std.specs.Prelude.{◌≡◌, ◌+◌, ℕ, Bool, true, false, ◌||◌, ◌&&◌, ◌==◌, not, if◌then◌else◌, Option, None, Some, option_map, List, [], ◌∷◌, length, take, drop, codes, bytes_eq}
 use Rattle.std.specs.Str.{is_utf8}
 use Rattle.std.specs.List.{position_or_len, list_all}
@@ -7,6 +7,10 @@ use Rattle.std.specs.List.{position_or_len, list_all}
 -- white space: a space, a tab, a carriage return or a newline
 abbrev pub is_space : ℕ → Bool
 is_space b = b == 32 || b == 9 || b == 13 || b == 10
+
+-- a blank: a space or a tab
+abbrev pub is_blank : ℕ → Bool
+is_blank b = b == 32 || b == 9
 
 -- the bytes begin with these
 abbrev pub starts_with : List ℕ → List ℕ → Bool

@@ -1,4 +1,5 @@
 -- What the items of a list give.
+-- Own: words on lists.
 use Rattle.std.specs.Prelude.{List, [], ◌∷◌, ◌++◌}
 
 -- what the items give, one after another

@@ -2,6 +2,8 @@ pub mod Alphabets
 pub mod Characters
 pub mod Comments
 pub mod Gathered
+pub mod Growing
 pub mod Keys
+pub mod Keywords
 pub mod Lists
 pub mod formers

@@ -6,10 +6,17 @@ use crate::memory::NoMemory;
 use std::alloc::Global;
 use std::marker::Model;
 
-/// One value on the heap.
-#[derive(Debug, Drop)]
+/// One value on the heap. Its `drop` is written out, so that a type that holds itself through it can
+/// write its own.
+#[derive(Debug)]
 pub struct Box<T> {
     inner: std::boxed::Box<T>,
+}
+
+impl<T: Drop> Drop for Box<T> {
+    fn drop(self) {
+        let Box { inner: _ } = self;
+    }
 }
 
 impl<T> Model for Box<T> {

@@ -13,9 +13,15 @@ use std::hash::{Hash, Hasher};
 use std::marker::Model;
 
 /// Bytes, which need not be UTF-8. Up to 16 of them, as most names have, stand in the value itself.
-#[derive(Debug, Drop)]
+#[derive(Debug)]
 pub struct Text {
     bytes: SmallVec<u8, 16>,
+}
+
+impl Drop for Text {
+    fn drop(self) {
+        let Text { bytes: _ } = self;
+    }
 }
 
 impl Model for Text {

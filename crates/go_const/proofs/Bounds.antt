@@ -8,7 +8,7 @@ use Rattle.std.proofs.lemmas.Nat.Bits.{ones_shr}
 use Rattle.std.proofs.Math.Dec.{leb-suc-suc}
 use Rattle.std.proofs.lemmas.Bool.{cases_lt, lt-leb}
 use Rattle.std.proofs.lemmas.Bool.Decides.{nat_tests}
-use Rattle.go_const.specs.Bounds.{bounded}
+use Rattle.go_const.specs.inner.Bounds.{bounded}
 use Rattle.go_model.specs.constants.Constants.{is_number_of}
 use Rattle.go_model.specs.declared.constants.class.Integer.TheVariants as i
 

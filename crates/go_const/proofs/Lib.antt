@@ -1,6 +1,6 @@
 pub mod Bits
 pub mod Bounds
-pub mod Constancy
-pub mod Keeping
+pub mod KeptNumbers
 pub mod Quotients
+pub mod ResultKinds
 pub mod Shifts

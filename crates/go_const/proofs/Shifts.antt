@@ -6,7 +6,7 @@ use Rattle.std.proofs.Math.Nat.{div-eq_of_lt}
 use Rattle.std.proofs.Math.Pow.{pow-lt}
 use Rattle.std.proofs.lemmas.Bool.{cases_lt}
 use Rattle.std.proofs.lemmas.Int.{to_z_pos}
-use Rattle.go_const.specs.Bounds.{bounded}
+use Rattle.go_const.specs.inner.Bounds.{bounded}
 use Rattle.go_const.proofs.Bounds.{checked, out_of_bounds}
 
 -- a quotient by 2 to the 127 and more is that by 2 to the 127

@@ -2,7 +2,7 @@
 ghost use Rattle.std.specs.Prelude.{◌≡◌, ◌-◌, ◌^◌, ◌-ℤ◌, min, Some, pos, true, false};
 ghost use Rattle.std.specs.Int.Signed.{mag};
 ghost use Rattle.go_model.specs.constants.Constants.{complement_of, binary_number, exact_shift, is_number_of, unary_number};
-ghost use Rattle.go_const.specs.Bounds.{bounded};
+ghost use Rattle.go_const.specs.inner.Bounds.{bounded};
 
 use go_model::constants::class::Integer;
 use go_model::constants::value::{BinaryOp, UnaryOp};

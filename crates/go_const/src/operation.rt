@@ -6,8 +6,8 @@ ghost use Rattle.go_model.specs.declared.constants.value.Value.TheVariants as v;
 
 use crate::number::{changed, combined, shifted_left, shifted_right};
 use crate::results::{number_result, text_result, truth_result};
-use go_model::constants::class::Class;
 use go_base::memory::NoMemory;
+use go_model::constants::class::Class;
 use go_model::constants::value::{BinaryOp, Kind, UnaryOp, Value};
 use std::alloc::Global;
 
@@ -31,7 +31,7 @@ fn truth_combined(op: BinaryOp, left: bool, right: bool) -> Option<bool>
 }
 
 /// The result of an operator that the kind has, before a value.
-#[tactic(auto, using(crate::proofs::Keeping::kept_from), unfolding(go_model::specs::constants::Constants::kept))]
+#[tactic(auto, using(crate::proofs::KeptNumbers::kept_from), unfolding(go_model::specs::constants::Constants::kept))]
 fn unary_result(op: UnaryOp, value: &Value, kind: Kind, bits: u32) -> Option<Value>
     ensures { result ≡ kept kind bits (exact_unary op (integer_of_kind kind bits) value.now) }
 {

@@ -2,7 +2,7 @@
 use Rattle.std.proofs.Common.{◌≡◌, ℕ, zero, suc, ◌<◌, Bool, true, false, ◌||◌, ◌&&◌, not, refl, sym, subst, arith, ◌⊎◌, inl, inr}
 use Rattle.ucd_category.proofs.Computing.{ucd_category}
 use Rattle.go_base.specs.Characters.{is_letter}
-use Rattle.go_lex.specs.Starts.{is_name_start}
+use Rattle.go_lex.specs.inner.Starts.{is_name_start}
 
 all_below : (ℕ → Bool) → ℕ → Bool
 all_below test zero = true

@@ -1,8 +1,8 @@
--- Digits at the front of some bytes.
+-- Digits at the start of some bytes.
 use Rattle.std.proofs.Common.{◌≡◌, ℕ, zero, suc, ◌+◌, ◌<◌, ◌≤◌, Bool, true, false, ◌||◌, ◌&&◌, ◌==◌, List, [], ◌∷◌, ◌++◌, length, take, drop, refl, sym, ap, ◌∙◌, subst, arith}
 use Rattle.std.proofs.lemmas.Bool.Decides.{nat_tests}
 use Rattle.go_syntax.specs.lexical.Numbers.{is_digit_of, AreDigits, one_digit, digit_more, digit_apart, AreBehind, directly, apart}
-use Rattle.go_lex.specs.Digits.{begins_digit, goes_on, more_len, digits_len}
+use Rattle.go_lex.specs.inner.DigitLengths.{begins_digit, goes_on, more_len, digits_len}
 
 or_right : (a b : Bool) → b ≡ true → (a || b) ≡ true
 or_right true b h = refl
@@ -36,7 +36,7 @@ digits_first base ds more (one_digit h) = h
 digits_first base ds more (digit_more h r) = h
 digits_first base ds more (digit_apart h r) = h
 
--- digits are part of those at the front of the bytes that they begin
+-- digits are part of those at the start of the bytes that they begin
 pub digits_bound : (base : ℕ) (ds more : List ℕ) → AreDigits base ds → length ds ≤ more_len base (ds ++ more)
 digits_bound base ds more (one_digit {d = d} h) = omega (arith, more_step base d more (digit_goes base d more h))
 digits_bound base ds more (digit_more {d = d} {ds = es} h r) =
@@ -49,7 +49,7 @@ digits_bound base ds more (digit_apart {d = d} {ds = es} h r) =
       digits_bound base es more r,
     )
 
--- digits behind which nothing goes on are those at the front of the bytes
+-- digits behind which nothing goes on are those at the start of the bytes
 pub digits_exact : (base : ℕ) (ds more : List ℕ) → AreDigits base ds → goes_on base more ≡ false → more_len base (ds ++ more) ≡ length ds
 digits_exact base ds more (one_digit {d = d} h) stop = omega (arith, more_step base d more (digit_goes base d more h), more_stop base more stop)
 digits_exact base ds more (digit_more {d = d} {ds = es} h r) stop =
@@ -154,7 +154,7 @@ taken base d (b ∷ (e ∷ es)) =
     ]
     refl
 
--- the digits at the front
+-- the digits at the start
 pub digits_stand : (base : ℕ) (bytes : List ℕ) → begins_digit base bytes ≡ true → AreDigits base (take (more_len base bytes) bytes)
 digits_stand base [] h = absurd (cc)
 digits_stand base (b ∷ bs) h = subst (λ (n : ℕ). AreDigits base (take n (b ∷ bs))) (sym (more_step base b bs (digit_goes base b bs h))) (taken base b bs h)
@@ -172,7 +172,7 @@ behind_stand base (b ∷ bs) h =
     ]
     refl
 
--- one more place at which digits go on
+-- one more index at which digits go on
 pub more_at : (base at : ℕ) (bytes : List ℕ) → goes_on base (drop at bytes) ≡ true → (at < length bytes) × (more_len base (drop at bytes) ≡ suc (more_len base (drop (at + 1) bytes)))
 more_at base zero [] h = absurd (cc)
 more_at base zero (b ∷ bs) h = (omega arith, more_step base b bs h)

@@ -7,7 +7,7 @@ use Rattle.go_syntax.specs.declared.token.Meaning.{Meaning}
 use Rattle.go_syntax.specs.declared.token.Meaning.TheVariants.{Character, Byte}
 use Rattle.go_syntax.specs.lexical.Numbers.{is_digit_of, value_from}
 use Rattle.go_syntax.specs.lexical.Quotes.{is_plain, sign_of, count_of, AreCounted, IsCharacter, plain, sign, octal, hexadecimal, point}
-use Rattle.go_lex.proofs.Counted.{front_counted}
+use Rattle.go_lex.proofs.CountedDigits.{front_counted}
 
 pub tail_same : (a b : ℕ) (xs ys : List ℕ) → a ∷ xs ≡ b ∷ ys → xs ≡ ys
 tail_same a b xs ys e = cc
@@ -135,23 +135,23 @@ meant quote text more rest m q (sign {e = x} {c = c} h) e =
     (subst (λ (f : Form). Meant f (x ∷ more) (92 ∷ (x ∷ [])) (Character c)) (sym (sign_form quote x c more h)) (refl, refl))
 meant quote text more rest m q (octal {ds = ds} c small) e =
     let is : ds ++ more ≡ rest = tail_same 92 92 (ds ++ more) rest e in
-    let front = front_counted 8 3 (ds ++ more) ds more c refl in
+    let prefix = front_counted 8 3 (ds ++ more) ds more c refl in
     subst (λ (xs : List ℕ). Meant (form_of quote xs) xs (92 ∷ ds) (Byte (value_from 8 0 ds))) is
     (subst (λ (f : Form). Meant f (ds ++ more) (92 ∷ ds) (Byte (value_from 8 0 ds))) (sym (octal_here quote ds more q c))
-    (subst (λ (xs : List ℕ). AreCounted 8 3 xs × (92 ∷ ds ≡ 92 ∷ xs) × (Byte (value_from 8 0 ds) ≡ Byte (value_from 8 0 xs)) × (value_from 8 0 xs ≤ 255)) (sym front.0) (c, refl, refl, small)))
+    (subst (λ (xs : List ℕ). AreCounted 8 3 xs × (92 ∷ ds ≡ 92 ∷ xs) × (Byte (value_from 8 0 ds) ≡ Byte (value_from 8 0 xs)) × (value_from 8 0 xs ≤ 255)) (sym prefix.0) (c, refl, refl, small)))
 meant quote text more rest m q (hexadecimal {ds = ds} c) e =
     let is : 120 ∷ (ds ++ more) ≡ rest = tail_same 92 92 (120 ∷ (ds ++ more)) rest e in
-    let front = front_counted 16 2 (ds ++ more) ds more c refl in
+    let prefix = front_counted 16 2 (ds ++ more) ds more c refl in
     subst (λ (xs : List ℕ). Meant (form_of quote xs) xs (92 ∷ (120 ∷ ds)) (Byte (value_from 16 0 ds))) is
     (subst (λ (f : Form). Meant f (120 ∷ (ds ++ more)) (92 ∷ (120 ∷ ds)) (Byte (value_from 16 0 ds))) (sym (hex_form quote (ds ++ more) q))
-    (subst (λ (xs : List ℕ). AreCounted 16 2 xs × (92 ∷ (120 ∷ ds) ≡ 92 ∷ (120 ∷ xs)) × (Byte (value_from 16 0 ds) ≡ Byte (value_from 16 0 xs)) × (120 ∷ (ds ++ more) ≡ 120 ∷ (ds ++ more))) (sym front.0)
+    (subst (λ (xs : List ℕ). AreCounted 16 2 xs × (92 ∷ (120 ∷ ds) ≡ 92 ∷ (120 ∷ xs)) × (Byte (value_from 16 0 ds) ≡ Byte (value_from 16 0 xs)) × (120 ∷ (ds ++ more) ≡ 120 ∷ (ds ++ more))) (sym prefix.0)
     (c, refl, refl, refl)))
 meant quote text more rest m q (point {e = x} {count = count} {ds = ds} h c scalar) e =
     let is : x ∷ (ds ++ more) ≡ rest = tail_same 92 92 (x ∷ (ds ++ more)) rest e in
-    let front = front_counted 16 count (ds ++ more) ds more c refl in
+    let prefix = front_counted 16 count (ds ++ more) ds more c refl in
     subst (λ (xs : List ℕ). Meant (form_of quote xs) xs (92 ∷ (x ∷ ds)) (Character (value_from 16 0 ds))) is
     (subst (λ (f : Form). Meant f (x ∷ (ds ++ more)) (92 ∷ (x ∷ ds)) (Character (value_from 16 0 ds))) (sym (point_form quote x count (ds ++ more) q h))
-    (subst (λ (xs : List ℕ). AreCounted 16 count xs × (92 ∷ (x ∷ ds) ≡ 92 ∷ (x ∷ xs)) × (Character (value_from 16 0 ds) ≡ Character (value_from 16 0 xs)) × IsScalar (value_from 16 0 xs)) (sym front.0) (c, refl, refl, scalar)))
+    (subst (λ (xs : List ℕ). AreCounted 16 count xs × (92 ∷ (x ∷ ds) ≡ 92 ∷ (x ∷ xs)) × (Character (value_from 16 0 ds) ≡ Character (value_from 16 0 xs)) × IsScalar (value_from 16 0 xs)) (sym prefix.0) (c, refl, refl, scalar)))
 
 -- a plain character or an escape
 pub data Split (quote : ℕ) (text : List ℕ) (m : Meaning) : Type 0 where

@@ -2,8 +2,9 @@
 use Rattle.std.proofs.Common.{◌≡◌, ℕ, Bool, true, false, cond, List, [], ◌∷◌, ◌++◌, Option, Some, None, refl, sym, ap, ◌∙◌}
 use Rattle.std.specs.Prelude.{bytes_eq}
 use Rattle.go_syntax.specs.declared.token.TokenKind.{TokenKind}
-use Rattle.go_syntax.specs.lexical.Words.{KindTable, kind_in, keywords}
-use Rattle.go_lex.specs.Keywords.{short_keywords, keywords_of_four, keywords_of_five, keywords_of_six, long_keywords}
+use Rattle.go_base.specs.Keywords.{keywords}
+use Rattle.go_syntax.specs.lexical.Words.{KindTable, kind_in, keyword_table, keyword_kinds}
+use Rattle.go_lex.specs.inner.KeywordParts.{short_keywords, keywords_of_four, keywords_of_five, keywords_of_six, long_keywords}
 
 -- the first answer, or else the second
 unfoldable pub or_else : Option TokenKind → Option TokenKind → Option TokenKind
@@ -29,9 +30,9 @@ kind_in-append [] second text = refl
 kind_in-append (row ∷ rows) second text = row_or_else (bytes_eq text row.0) row.1 _ _ _ (kind_in-append rows second text)
 
 -- the keywords are those of the five parts
-pub keywords_by_parts : (text : List ℕ) → kind_in keywords text
+pub keywords_by_parts : (text : List ℕ) → kind_in keyword_table text
     ≡ or_else (kind_in short_keywords text) (or_else (kind_in keywords_of_four text) (or_else (kind_in keywords_of_five text) (or_else (kind_in keywords_of_six text) (kind_in long_keywords text))))
-unfolding keywords
+unfolding keywords keyword_kinds
 keywords_by_parts text =
     let d = kind_in-append keywords_of_six long_keywords text in
     let c = kind_in-append keywords_of_five (keywords_of_six ++ long_keywords) text in

@@ -1,4 +1,4 @@
--- The one literal in quotes at the front of some bytes.
+-- The one literal in quotes at the start of some bytes.
 use Rattle.std.proofs.Common.{◌≡◌, inl, inr, ℕ, suc, ◌+◌, ◌<◌, ◌≤◌, Bool, true, false, ◌&&◌, ◌==◌, not, List, [], ◌∷◌, ◌++◌, length, take, drop, refl, sym, ap, ◌∙◌, subst, arith, length-append, length-drop, append_assoc, Option, Some, None}
 use Rattle.std.specs.List.{list_all, prefix_len}
 use Rattle.std.specs.Char.{encode_utf8}
@@ -11,10 +11,10 @@ use Rattle.go_base.specs.Comments.{is_text, text_len}
 use Rattle.go_syntax.specs.lexical.Quotes.{is_plain, meaning_bytes, IsCharacter, AreCharacters, no_character, character_more}
 use Rattle.go_syntax.specs.lexical.Lexemes.{quoted}
 use Rattle.go_base.proofs.Lists.{length_take}
-use Rattle.go_lex.specs.declared.quote.Character.{Character as CharacterFront}
-use Rattle.go_lex.specs.CharacterFronts.{BeginsCharacter, BeginsNoCharacter}
-use Rattle.go_lex.specs.Starts.{begins_byte}
-use Rattle.go_lex.specs.Only.{IsOnly, HasNone, IsRune, IsString, IsRaw}
+use Rattle.go_lex.specs.declared.quote.Character.{Character as CharacterPrefix}
+use Rattle.go_lex.specs.inner.CharacterPrefixes.{BeginsCharacter, BeginsNoCharacter}
+use Rattle.go_lex.specs.inner.Starts.{begins_byte}
+use Rattle.go_lex.specs.inner.OnlyTexts.{IsOnly, HasNone, IsRune, IsString, IsRaw}
 use Rattle.go_lex.proofs.Escapes.{head_same, tail_same, IsQuote, character_once, Split, is_plain_one, is_escape, split_of}
 
 byte_is : (a b : ℕ) → (a == b) ≡ true → a ≡ b
@@ -30,7 +30,7 @@ byte_self c = grind (arith, nat_tests)
 not_begins : (c : ℕ) (bytes more : List ℕ) → begins_byte c bytes ≡ false → bytes ≡ c ∷ more → ⊥
 not_begins c bytes more h e = let here : begins_byte c bytes ≡ true = ap (begins_byte c) e ∙ byte_self c in absurd (cc)
 
--- a quoted text at the front
+-- a quoted text at the start
 quoted_front : (q n : ℕ) (behind : List ℕ) → begins_byte q (drop n behind) ≡ true → (take (n + 2) (q ∷ behind) ≡ quoted q (take n behind)) × (n + 2 ≤ length (q ∷ behind))
 quoted_front q n behind h =
     let is = begins_is q (drop n behind) h in
@@ -63,7 +63,7 @@ unfolding encode_utf8
 quote_ends t r more m is e = quote_by 34 t r more m (omega arith) e (split_of 34 t m is) refl
 
 -- the first character is the one found
-pub same_first : (q : ℕ) (bytes t r : List ℕ) (m : Meaning) (x : CharacterFront) → IsQuote q → BeginsCharacter q bytes x → IsCharacter q t m → bytes ≡ t ++ r → (take x.len bytes ≡ t) × (x.meaning ≡ m) × (x.len ≡ length t) × (drop x.len bytes ≡ r)
+pub same_first : (q : ℕ) (bytes t r : List ℕ) (m : Meaning) (x : CharacterPrefix) → IsQuote q → BeginsCharacter q bytes x → IsCharacter q t m → bytes ≡ t ++ r → (take x.len bytes ≡ t) × (x.meaning ≡ m) × (x.len ≡ length t) × (drop x.len bytes ≡ r)
 same_first q bytes t r m x quote b is e =
     let same = character_once q (take x.len bytes) t (drop x.len bytes) r x.meaning m quote b.stands is (take-append-drop x.len bytes ∙ e) in
     let len : x.len ≡ length t = sym (length_take x.len bytes b.within) ∙ ap length same.0 in
@@ -76,19 +76,19 @@ pub double : IsQuote 34
 double = inl refl
 
 -- rune literals
-pub rune_only : (behind : List ℕ) (x : CharacterFront) → BeginsCharacter 39 behind x → begins_byte 39 (drop x.len behind) ≡ true → IsOnly IsRune (39 ∷ behind) (x.len + 2)
+pub rune_only : (behind : List ℕ) (x : CharacterPrefix) → BeginsCharacter 39 behind x → begins_byte 39 (drop x.len behind) ≡ true → IsOnly IsRune (39 ∷ behind) (x.len + 2)
 rune_only behind x b end =
-    let front = quoted_front 39 x.len behind end in
+    let prefix = quoted_front 39 x.len behind end in
     record {
       some = omega arith;
-      within = front.1;
-      stands = (take x.len behind, x.meaning, b.stands, front.0);
+      within = prefix.1;
+      stands = (take x.len behind, x.meaning, b.stands, prefix.0);
       only = λ text more is e.
           let first = same_first 39 behind is.0 (39 ∷ more) is.1 x single b is.2 (behind_quoted 39 behind text is.0 more e is.3) in
           omega (arith, quoted_length 39 text is.0 is.3, first.2);
     }
 
-pub rune_open : (behind : List ℕ) (x : CharacterFront) → BeginsCharacter 39 behind x → begins_byte 39 (drop x.len behind) ≡ false → HasNone IsRune (39 ∷ behind)
+pub rune_open : (behind : List ℕ) (x : CharacterPrefix) → BeginsCharacter 39 behind x → begins_byte 39 (drop x.len behind) ≡ false → HasNone IsRune (39 ∷ behind)
 rune_open behind x b end text more is e =
     let first = same_first 39 behind is.0 (39 ∷ more) is.1 x single b is.2 (behind_quoted 39 behind text is.0 more e is.3) in
     not_begins 39 (drop x.len behind) more end first.3
@@ -97,11 +97,11 @@ pub rune_none : (behind : List ℕ) → BeginsNoCharacter 39 behind → HasNone 
 rune_none behind none text more is e = none is.0 (39 ∷ more) is.1 is.2 (behind_quoted 39 behind text is.0 more e is.3)
 
 -- strings
--- what is left of a string's characters at a place
+-- what is left of a string's characters at an index
 abbrev Left : List ℕ → ℕ → List ℕ → List ℕ → Type 0
 Left behind at text more = (rest : List ℕ) × (out : List ℕ) × AreCharacters 34 rest out × (drop at behind ≡ rest ++ (34 ∷ more)) × (length text ≡ at + length rest)
 
--- characters up to a place, which each string has
+-- characters up to an index, which each string has
 pub record StringTo (behind : List ℕ) (at : ℕ) : Type 0 where
   pub within : at ≤ length behind
   pub whole : (text out : List ℕ) → AreCharacters 34 text out → (all : List ℕ) × AreCharacters 34 (take at behind ++ text) all
@@ -114,14 +114,14 @@ string_start behind = record {
   every = λ text out more a e. (text, out, a, e, (let zero_more : length text ≡ 0 + length text = omega arith in zero_more));
 }
 
-left_step : (behind : List ℕ) (at : ℕ) (x : CharacterFront) (text rest out more : List ℕ) → BeginsCharacter 34 (drop at behind) x → AreCharacters 34 rest out → drop at behind ≡ rest ++ (34 ∷ more) → length text ≡ at + length rest
+left_step : (behind : List ℕ) (at : ℕ) (x : CharacterPrefix) (text rest out more : List ℕ) → BeginsCharacter 34 (drop at behind) x → AreCharacters 34 rest out → drop at behind ≡ rest ++ (34 ∷ more) → length text ≡ at + length rest
     → Left behind (at + x.len) text more
 left_step behind at x text rest out more b no_character e l = absurd (quote_ends (take x.len (drop at behind)) (drop x.len (drop at behind)) more x.meaning b.stands (take-append-drop x.len (drop at behind) ∙ e))
 left_step behind at x text rest out more b (character_more {text = t} {rest = rs} {bytes = o} {meaning = m} is a) e l =
     let first = same_first 34 (drop at behind) t (rs ++ (34 ∷ more)) m x double b is (e ∙ append_assoc t rs (34 ∷ more)) in
     (rs, o, a, sym (drop-drop x.len at behind) ∙ first.3, omega (arith, l, length-append t rs, first.2))
 
-pub string_step : (behind : List ℕ) (at : ℕ) (x : CharacterFront) → StringTo behind at → BeginsCharacter 34 (drop at behind) x → StringTo behind (at + x.len)
+pub string_step : (behind : List ℕ) (at : ℕ) (x : CharacterPrefix) → StringTo behind at → BeginsCharacter 34 (drop at behind) x → StringTo behind (at + x.len)
 string_step behind at x s b = record {
   within = omega (arith, b.within, length-drop at behind, s.within);
   whole = λ text out a.
@@ -136,12 +136,12 @@ left_end behind at text rest out more none (character_more {text = t} {rest = rs
 
 pub string_only : (behind : List ℕ) (at : ℕ) → StringTo behind at → BeginsNoCharacter 34 (drop at behind) → begins_byte 34 (drop at behind) ≡ true → IsOnly IsString (34 ∷ behind) (at + 2)
 string_only behind at s none end =
-    let front = quoted_front 34 at behind end in
+    let prefix = quoted_front 34 at behind end in
     let w = s.whole [] [] no_character in
     record {
       some = omega arith;
-      within = front.1;
-      stands = (take at behind, w.0, subst (λ (xs : List ℕ). AreCharacters 34 xs w.0) (append-nil (take at behind)) w.1, front.0);
+      within = prefix.1;
+      stands = (take at behind, w.0, subst (λ (xs : List ℕ). AreCharacters 34 xs w.0) (append-nil (take at behind)) w.1, prefix.0);
       only = λ text more is e.
           let f = s.every is.0 is.1 more is.2 (behind_quoted 34 behind text is.0 more e is.3) in
           omega (arith, quoted_length 34 text is.0 is.3, (left_end behind at is.0 f.0 f.1 more none f.2 f.3 f.4).0);
@@ -198,11 +198,11 @@ text_tested bytes n m h =
 pub raw_only : (behind : List ℕ) (n m : ℕ) → n ≡ prefix_len no_quote behind → n < length behind → text_len behind (Some n) ≡ Some m → IsOnly IsRaw (96 ∷ behind) (n + 2)
 raw_only behind n m is more text =
     let end : begins_byte 96 (drop n behind) ≡ true = subst (λ (k : ℕ). begins_byte 96 (drop k behind) ≡ true) (sym is) (raw_quote behind (omega arith)) in
-    let front = quoted_front 96 n behind end in
+    let prefix = quoted_front 96 n behind end in
     record {
       some = omega arith;
-      within = front.1;
-      stands = (take n behind, text_tested behind n m text, subst (λ (k : ℕ). list_all no_quote (take k behind) ≡ true) (sym is) (raw_all behind), front.0);
+      within = prefix.1;
+      stands = (take n behind, text_tested behind n m text, subst (λ (k : ℕ). list_all no_quote (take k behind) ≡ true) (sym is) (raw_all behind), prefix.0);
       only = λ other rest raw e. omega (arith, quoted_length 96 other raw.0 raw.3, raw_same behind other rest raw e);
     }
 
@@ -213,7 +213,7 @@ raw_open behind whole text more is e =
 pub raw_bad : (behind : List ℕ) (n : ℕ) → n ≡ prefix_len no_quote behind → text_len behind (Some n) ≡ None → HasNone IsRaw (96 ∷ behind)
 raw_bad behind n is bad text more raw e =
     let len : n ≡ length raw.0 = is ∙ raw_same behind text more raw e in
-    let front : take n behind ≡ raw.0 = ap (λ (xs : List ℕ). take n xs) (behind_quoted 96 behind text raw.0 more e raw.3) ∙ take_at raw.0 (96 ∷ more) n (sym len) in
-    let good : is_text (take n behind) ≡ true = ap is_text front ∙ raw.1 in
+    let prefix : take n behind ≡ raw.0 = ap (λ (xs : List ℕ). take n xs) (behind_quoted 96 behind text raw.0 more e raw.3) ∙ take_at raw.0 (96 ∷ more) n (sym len) in
+    let good : is_text (take n behind) ≡ true = ap is_text prefix ∙ raw.1 in
     let some : ◌≡◌ {A = Option ℕ} (Some n) None = rw good at bad in
     absurd (cc)

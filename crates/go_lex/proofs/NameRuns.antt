@@ -1,4 +1,4 @@
--- The longest name at the front of some bytes.
+-- The longest name at the start of some bytes.
 use Rattle.std.proofs.Common.{◌≡◌, ℕ, ◌<◌, ◌≤◌, Bool, true, false, ◌||◌, List, [], ◌++◌, length, take, drop, refl, sym, ap, ◌∙◌, subst, arith, length-append, append_assoc}
 use Rattle.std.specs.Prelude.{IsTrue, ◌↔◌}
 use Rattle.std.specs.Char.{encode_utf8}
@@ -6,7 +6,7 @@ use Rattle.std.proofs.lemmas.Str.{encode_same, length-encode, len_utf8_bounds}
 use Rattle.std.proofs.lemmas.List.{take-append-drop}
 use Rattle.go_base.specs.Characters.{is_letter, is_name_character, BeginsPassing, IsRun, run_end, run_more}
 use Rattle.go_base.proofs.Lists.{length_take}
-use Rattle.go_lex.specs.Names.{IsName, IsLongestName, HasNoName}
+use Rattle.go_lex.specs.inner.NamePrefixes.{IsName, IsLongestName, HasNoName}
 
 or_left : (a b : Bool) → a ≡ true → (a || b) ≡ true
 or_left true b h = refl
@@ -15,22 +15,22 @@ or_left false b h = absurd (cc)
 letter_in_names : (c : ℕ) → is_letter c ≡ true → is_name_character c ≡ true
 letter_in_names c h = or_left (is_letter c) _ h
 
-some_encoded : (c : ℕ) (front : List ℕ) → encode_utf8 c ++ front ≡ [] → ⊥
-some_encoded c front e = absurd (omega (arith, ap length e, length-append (encode_utf8 c) front, length-encode c, (len_utf8_bounds c).0))
+some_encoded : (c : ℕ) (prefix : List ℕ) → encode_utf8 c ++ prefix ≡ [] → ⊥
+some_encoded c prefix e = absurd (omega (arith, ap length e, length-append (encode_utf8 c) prefix, length-encode c, (len_utf8_bounds c).0))
 
 nothing_passes : (test : ℕ → Bool) → BeginsPassing test [] → ⊥
 nothing_passes test b = some_encoded b.0 b.1 (sym b.4)
 
 -- a run to the end of its own text
-closed : (test : ℕ → Bool) (front rest : List ℕ) → IsRun test front rest → IsRun test front []
-closed test front rest (run_end none) = run_end (nothing_passes test)
-closed test front rest (run_more {c = c} {front = f} t s d) = run_more t s (closed test f rest d)
+closed : (test : ℕ → Bool) (prefix rest : List ℕ) → IsRun test prefix rest → IsRun test prefix []
+closed test prefix rest (run_end none) = run_end (nothing_passes test)
+closed test prefix rest (run_more {c = c} {front = f} t s d) = run_more t s (closed test f rest d)
 
 -- a text of characters that pass is part of the run
-part_of_run : (test : ℕ → Bool) (a none more front rest : List ℕ) → IsRun test a none → IsRun test front rest → a ++ more ≡ front ++ rest → length a ≤ length front
-part_of_run test a none more front rest (run_end _) d e = omega arith
-part_of_run test a none more front rest (run_more {c = c} {front = f} t s d) (run_end stop) e = absurd (stop (c, f ++ more, t, s, sym e ∙ append_assoc (encode_utf8 c) f more))
-part_of_run test a none more front rest (run_more {c = c} {front = f} t s d) (run_more {c = x} {front = g} u v w) e =
+part_of_run : (test : ℕ → Bool) (a none more prefix rest : List ℕ) → IsRun test a none → IsRun test prefix rest → a ++ more ≡ prefix ++ rest → length a ≤ length prefix
+part_of_run test a none more prefix rest (run_end _) d e = omega arith
+part_of_run test a none more prefix rest (run_more {c = c} {front = f} t s d) (run_end stop) e = absurd (stop (c, f ++ more, t, s, sym e ∙ append_assoc (encode_utf8 c) f more))
+part_of_run test a none more prefix rest (run_more {c = c} {front = f} t s d) (run_more {c = x} {front = g} u v w) e =
     let same = encode_same c x (f ++ more) (g ++ rest) (sym (append_assoc (encode_utf8 c) f more) ∙ e ∙ append_assoc (encode_utf8 x) g rest) in
     let later = part_of_run test f none more g rest d w same.1 in
     omega (arith, length-append (encode_utf8 c) f, length-append (encode_utf8 x) g, ap (λ (y : ℕ). length (encode_utf8 y)) same.0)
@@ -41,9 +41,9 @@ name_run text n = subst (λ (xs : List ℕ). IsRun is_name_character xs []) (sym
 name_some : (text : List ℕ) → IsName text → 0 < length text
 name_some text n = omega (arith, ap length n.5, length-append (encode_utf8 n.0) n.1, length-encode n.0, (len_utf8_bounds n.0).0)
 
-run_name : (front rest : List ℕ) → IsRun is_name_character front rest → BeginsPassing is_letter (front ++ rest) → IsName front
-run_name front rest (run_end none) b = absurd (none (b.0, b.1, letter_in_names b.0 b.2, b.3, b.4))
-run_name front rest (run_more {c = c} {front = f} t s d) b =
+run_name : (prefix rest : List ℕ) → IsRun is_name_character prefix rest → BeginsPassing is_letter (prefix ++ rest) → IsName prefix
+run_name prefix rest (run_end none) b = absurd (none (b.0, b.1, letter_in_names b.0 b.2, b.3, b.4))
+run_name prefix rest (run_more {c = c} {front = f} t s d) b =
     let same = (encode_same c b.0 (f ++ rest) b.1 (sym (append_assoc (encode_utf8 c) f rest) ∙ b.4)).0 in
     (c, f, ap is_letter same ∙ b.2, s, closed is_name_character f rest d, refl)
 

@@ -1,4 +1,4 @@
--- Number literals at the front of some bytes are no longer than what the parts' lengths say.
+-- Number literals at the start of some bytes are no longer than what the parts' lengths say.
 use Rattle.std.proofs.Common.{◌≡◌, ◌⊎◌, inl, inr, ℕ, zero, suc, ◌+◌, ◌<◌, ◌≤◌, Bool, true, false, ◌||◌, ◌==◌, List, [], ◌∷◌, ◌++◌, length, drop, refl, sym, ap, ◌∙◌, subst, arith, length-append, append_assoc, Some, nat_lt}
 use Rattle.std.proofs.lemmas.Bool.Decides.{nat_tests}
 use Rattle.std.proofs.lemmas.List.{drop_at, append-nil}
@@ -6,10 +6,10 @@ use Rattle.go_syntax.specs.declared.token.TokenKind.{TokenKind}
 use Rattle.go_syntax.specs.declared.token.TokenKind.TheVariants.{IntLit, FloatLit, ImagLit}
 use Rattle.go_syntax.specs.lexical.Numbers.{is_digit_of, is_first_digit, AreDigits, one_digit, digit_more, digit_apart, AreBehind, Optional, IsExponent}
 use Rattle.go_lex.specs.declared.number.Number.{Number}
-use Rattle.go_lex.specs.Digits.{more_len, digits_len}
-use Rattle.go_lex.specs.NumberLengths.{is_mark, exponent_len, fraction_len, tail_len, joined_len, imaginary_len, number_kind, number_of, integer_len, decimal_number, prefixed_number, if_digits}
+use Rattle.go_lex.specs.inner.DigitLengths.{more_len, digits_len}
+use Rattle.go_lex.specs.inner.NumberLengths.{is_mark, exponent_len, fraction_len, tail_len, joined_len, imaginary_len, number_kind, number_of, integer_len, decimal_number, prefixed_number, if_digits}
 use Rattle.go_lex.proofs.DigitRuns.{digits_bound, behind_bound, behind_some}
-use Rattle.go_lex.proofs.Parts.{all_digits, some_exact, exponent_bound, exponent_some, imaginary_here, both_len, IsTail, fraction_tail, exponent_tail, marked_ten, marked_sixteen, exponent_stops, exponent_no_fraction, tail_stops, tail_some, tail_bound, tail_exact, no_tail, fraction_exact}
+use Rattle.go_lex.proofs.NumberParts.{all_digits, some_exact, exponent_bound, exponent_some, imaginary_here, both_len, IsTail, fraction_tail, exponent_tail, marked_ten, marked_sixteen, exponent_stops, exponent_no_fraction, tail_stops, tail_some, tail_bound, tail_exact, no_tail, fraction_exact}
 
 -- a text of this kind is no longer than the literal, and one as long is of the same kind
 pub record Claim (kind : TokenKind) (text : List ℕ) (n : Number) : Type 0 where

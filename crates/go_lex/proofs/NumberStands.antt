@@ -5,15 +5,15 @@ use Rattle.std.proofs.Math.Seq.{take-add}
 use Rattle.go_syntax.specs.declared.token.TokenKind.{TokenKind}
 use Rattle.go_syntax.specs.lexical.Numbers.{is_digit_of, is_first_digit, is_x, base_of, AreDigits, AreBehind, Optional, IsExponent, IsInteger, decimal_integer, octal_integer, prefixed_integer, IsMantissa, whole_mantissa, pointed_mantissa, point_first_mantissa, IsFloat, pointed, pointless, point_first, hexadecimal, IsMultiple, digits_multiple, integer_multiple, float_multiple}
 use Rattle.go_lex.specs.declared.number.Number.{Number}
-use Rattle.go_lex.specs.Digits.{begins_digit, goes_on, more_len, digits_len}
-use Rattle.go_lex.specs.NumberLengths.{is_mark, exponent_len, fraction_len, tail_len, joined_len, imaginary_len, integer_len, number_of, number_kind, decimal_number, prefixed_number, if_digits, prefix_of, number_at, behind_of, IsNumber, int_number, float_number, imaginary_number}
-use Rattle.go_lex.specs.Starts.{begins_number}
+use Rattle.go_lex.specs.inner.DigitLengths.{begins_digit, goes_on, more_len, digits_len}
+use Rattle.go_lex.specs.inner.NumberLengths.{is_mark, exponent_len, fraction_len, tail_len, joined_len, imaginary_len, integer_len, number_of, number_kind, decimal_number, prefixed_number, if_digits, prefix_of, number_at, behind_of, IsNumber, int_number, float_number, imaginary_number}
+use Rattle.go_lex.specs.inner.Starts.{begins_number}
 use Rattle.go_lex.proofs.DigitRuns.{more_stop, more_step, digit_goes, more_within, digits_within, taken, digits_stand, behind_stand, digits_are_more, no_digits}
-use Rattle.go_lex.proofs.Parts.{both_len, IsTail, fraction_tail, exponent_tail, exponent_stand, exponent_none, exponent_within, fraction_point, fraction_other, fraction_empty, imaginary_stand, is_point}
+use Rattle.go_lex.proofs.NumberParts.{both_len, IsTail, fraction_tail, exponent_tail, exponent_stand, exponent_none, exponent_within, fraction_point, fraction_other, fraction_empty, imaginary_stand, is_point}
 use Rattle.go_lex.proofs.NumberClaims.{is_zero, len_of_some, len_of_int, kind_imaginary, kind_float, kind_int, decimal_is}
 use Rattle.go_lex.proofs.Numbers.{base_cases, number_plain, number_prefixed, some_base}
 
--- digits at the front, or none
+-- digits at the start, or none
 some_digits : (base : ℕ) (bs : List ℕ) → Optional (AreDigits base) (take (digits_len base bs) bs)
 some_digits base bs =
     elim (begins_digit base bs) as (λ t. begins_digit base bs ≡ t → Optional (AreDigits base) (take (digits_len base bs) bs)) [
@@ -79,7 +79,7 @@ unfolding imaginary_len
 imaginary_within [] = omega arith
 imaginary_within (b ∷ bs) = elim (b == 105) as (λ t. (b == 105) ≡ t → imaginary_len (b ∷ bs) ≤ length (b ∷ bs)) [ true ↦ (λ h. rw h (omega arith)) | false ↦ (λ h. rw h (omega arith)) ] refl
 
--- a literal stands at the front of some bytes
+-- a literal stands at the start of some bytes
 pub record IsAt (bytes : List ℕ) (n : Number) : Type 0 where
   pub some : 0 < n.len
   pub within : n.len ≤ length bytes
@@ -350,7 +350,7 @@ prefixed_at b base body n e is =
     (omega arith, omega (arith, more_within base body), int, integer_multiple int))
     (λ some. float_at b base body e some))
 
--- the number literal at the front
+-- the number literal at the start
 second_at : (bs : List ℕ) (n : Number) → behind_of (prefix_of (48 ∷ bs)) (drop 1 bs) ≡ Some n → IsAt (48 ∷ bs) (record { kind = n.kind; len = 2 + n.len })
 second_at [] n e = absurd (cc)
 second_at (b ∷ bs) n e =

@@ -1,4 +1,4 @@
--- The longest number literal at the front of some bytes.
+-- The longest number literal at the start of some bytes.
 use Rattle.std.proofs.Common.{◌≡◌, ◌⊎◌, inl, inr, ℕ, suc, ◌+◌, true, false, ◌||◌, ◌==◌, List, [], ◌∷◌, ◌++◌, length, drop, refl, sym, ap, ◌∙◌, subst, arith, append_assoc, Option, Some, None}
 use Rattle.std.proofs.lemmas.Bool.Decides.{nat_tests}
 use Rattle.std.proofs.lemmas.List.{append-nil}
@@ -6,10 +6,10 @@ use Rattle.go_syntax.specs.declared.token.TokenKind.{TokenKind}
 use Rattle.go_syntax.specs.declared.token.TokenKind.TheVariants.{IntLit, FloatLit, ImagLit}
 use Rattle.go_syntax.specs.lexical.Numbers.{is_x, base_of, AreBehind, IsExponent, IsInteger, decimal_integer, octal_integer, prefixed_integer, IsMantissa, whole_mantissa, pointed_mantissa, point_first_mantissa, IsFloat, pointed, pointless, point_first, hexadecimal, IsMultiple, digits_multiple, integer_multiple, float_multiple}
 use Rattle.go_lex.specs.declared.number.Number.{Number}
-use Rattle.go_lex.specs.Digits.{goes_on, more_len}
-use Rattle.go_lex.specs.NumberLengths.{is_mark, exponent_len, fraction_len, tail_len, joined_len, imaginary_len, decimal_number, prefix_of, number_at, behind_of, or_plain, IsNumber, int_number, float_number, imaginary_number}
+use Rattle.go_lex.specs.inner.DigitLengths.{goes_on, more_len}
+use Rattle.go_lex.specs.inner.NumberLengths.{is_mark, exponent_len, fraction_len, tail_len, joined_len, imaginary_len, decimal_number, prefix_of, number_at, behind_of, or_plain, IsNumber, int_number, float_number, imaginary_number}
 use Rattle.go_lex.proofs.DigitRuns.{more_stop, behind_exact, behind_some, digits_some}
-use Rattle.go_lex.proofs.Parts.{fraction_tail, exponent_tail, marked_sixteen, exponent_stops, fraction_exact}
+use Rattle.go_lex.proofs.NumberParts.{fraction_tail, exponent_tail, marked_sixteen, exponent_stops, fraction_exact}
 use Rattle.go_lex.proofs.NumberClaims.{Claim, BehindClaim, IsDecimal, decimal_digits, decimal_octal, decimal_float, decimal_multiple, decimal_float_multiple, decimal_claim, behind_int, behind_imaginary, IsHex, hex_of, hex_exponent, hex_fraction, behind_float, behind_float_imaginary, octal_digits}
 
 -- a hexadecimal mantissa and its exponent

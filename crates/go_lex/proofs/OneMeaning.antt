@@ -14,15 +14,15 @@ use Rattle.go_syntax.specs.lexical.Quotes.{meaning_number, meaning_bytes, AreCha
 use Rattle.go_syntax.specs.lexical.Words.{kind_in, operators, operators_of_three, operators_of_two, operators_of_one}
 use Rattle.go_base.specs.Comments.{comment_len}
 use Rattle.go_syntax.specs.lexical.Lexemes.{IsLexeme, blank, newline, name, operator, integer, float, imaginary, rune, string, raw_string, plain_value, quoted, Lexeme, Begins}
-use Rattle.go_lex.specs.declared.front.Start.{Start}
-use Rattle.go_lex.specs.declared.front.Start.TheVariants.{Blank, Newline, Comment, Number, Rune, Quoted, Raw, Name, Sign}
-use Rattle.go_lex.specs.NumberLengths.{number_at, IsNumber, int_number, float_number, imaginary_number}
+use Rattle.go_lex.specs.declared.longest.Start.{Start}
+use Rattle.go_lex.specs.declared.longest.Start.TheVariants.{Blank, Newline, Comment, Number, Rune, Quoted, Raw, Name, Sign}
+use Rattle.go_lex.specs.inner.NumberLengths.{number_at, IsNumber, int_number, float_number, imaginary_number}
 use Rattle.go_lex.proofs.Escapes.{head_same, tail_same, character_once, character_some}
 use Rattle.go_lex.proofs.Literals.{single, double}
 use Rattle.go_lex.proofs.Numbers.{number_claim}
-use Rattle.go_lex.proofs.Classes.{Class, number_begins}
+use Rattle.go_lex.proofs.LexemeClasses.{Class, number_begins}
 use Rattle.go_lex.proofs.NumberStands.{number_stands}
-use Rattle.go_lex.specs.Starts.{begins_number}
+use Rattle.go_lex.specs.inner.Starts.{begins_number}
 
 last_same : (q : ℕ) (xs ys : List ℕ) → xs ++ (q ∷ []) ≡ ys ++ (q ∷ []) → xs ≡ ys
 last_same q [] [] e = refl

@@ -1,4 +1,4 @@
--- The longest operator at the front of some bytes.
+-- The longest operator at the start of some bytes.
 use Rattle.std.proofs.Common.{◌≡◌, ℕ, ◌<◌, ◌≤◌, Bool, true, false, ◌&&◌, ◌==◌, List, [], ◌∷◌, ◌++◌, length, take, refl, sym, ap, ◌∙◌, subst, arith, Option, Some, None}
 use Rattle.std.specs.Prelude.{bytes_eq}
 use Rattle.std.specs.List.{list_all}
@@ -7,7 +7,7 @@ use Rattle.std.proofs.lemmas.Slice.Eq.{bytes_eq-Decides}
 use Rattle.go_syntax.specs.declared.token.TokenKind.{TokenKind}
 use Rattle.go_syntax.specs.lexical.Words.{KindTable, kind_in, operators, operators_of_three, operators_of_two, operators_of_one}
 use Rattle.go_lex.specs.declared.operator.Operator.{Operator}
-use Rattle.go_lex.specs.Operators.{or_shorter, operator_at}
+use Rattle.go_lex.specs.inner.LongestOperators.{or_shorter, operator_at}
 use Rattle.go_lex.proofs.KeywordParts.{or_else, found, missed, kind_in-append}
 
 both : (a b : Bool) → (a && b) ≡ true → (a ≡ true) × (b ≡ true)

@@ -4,12 +4,12 @@ use Rattle.std.proofs.lemmas.List.{append-nil, drop-drop, take-append-drop}
 use Rattle.std.proofs.Math.Nat.{mul-le-mul_left}
 use Rattle.go_syntax.specs.lexical.Numbers.{value_from}
 use Rattle.go_syntax.specs.lexical.Quotes.{meaning_bytes, AreCharacters, no_character, character_more}
-use Rattle.go_lex.specs.declared.quote.Character.{Character as CharacterFront}
-use Rattle.go_lex.specs.CharacterFronts.{BeginsCharacter, BeginsNoCharacter}
-use Rattle.go_lex.specs.Values.{value_more}
+use Rattle.go_lex.specs.declared.quote.Character.{Character as CharacterPrefix}
+use Rattle.go_lex.specs.inner.CharacterPrefixes.{BeginsCharacter, BeginsNoCharacter}
+use Rattle.go_lex.specs.inner.DigitValues.{value_more}
 use Rattle.go_lex.proofs.Literals.{same_first, double}
 
--- the characters up to a place are decoded, and characters follow
+-- the characters up to an index are decoded, and characters follow
 pub record Decoded (inner : List ℕ) (at : ℕ) (out : List ℕ) : Type 0 where
   pub within : at ≤ length inner
   pub whole : (more : List ℕ) → AreCharacters 34 (drop at inner) more → AreCharacters 34 inner (out ++ more)
@@ -19,26 +19,26 @@ pub decoded_start : (inner : List ℕ) → (out : List ℕ) × AreCharacters 34 
 decoded_start inner h = record { within = omega arith; whole = λ more a. a; rest = h }
 
 -- what follows the first character
-abbrev Follows : List ℕ → CharacterFront → List ℕ → Type 0
+abbrev Follows : List ℕ → CharacterPrefix → List ℕ → Type 0
 Follows bytes x more = (later : List ℕ) × AreCharacters 34 (drop x.len bytes) later
 
-follow : (bytes text out : List ℕ) (x : CharacterFront) → BeginsCharacter 34 bytes x → AreCharacters 34 text out → bytes ≡ text → Follows bytes x out
+follow : (bytes text out : List ℕ) (x : CharacterPrefix) → BeginsCharacter 34 bytes x → AreCharacters 34 text out → bytes ≡ text → Follows bytes x out
 follow bytes text out x b no_character e = absurd (omega (arith, ap length e, b.some, b.within))
 follow bytes text out x b (character_more {text = t} {rest = rs} {bytes = o} {meaning = m} is a) e =
     let first = same_first 34 bytes t rs m x double b is e in
     (o, subst (λ (xs : List ℕ). AreCharacters 34 xs o) (sym first.3) a)
 
-pub decoded_step : (inner out : List ℕ) (at : ℕ) (x : CharacterFront) → Decoded inner at out → BeginsCharacter 34 (drop at inner) x → Decoded inner (at + x.len) (out ++ meaning_bytes x.meaning)
+pub decoded_step : (inner out : List ℕ) (at : ℕ) (x : CharacterPrefix) → Decoded inner at out → BeginsCharacter 34 (drop at inner) x → Decoded inner (at + x.len) (out ++ meaning_bytes x.meaning)
 decoded_step inner out at x d b =
     let past = drop-drop x.len at inner in
     let f = follow (drop at inner) (drop at inner) d.rest.0 x b d.rest.1 refl in
     record {
       within = omega (arith, b.within, length-drop at inner, d.within);
       whole = λ more a.
-          let front : AreCharacters 34 (take x.len (drop at inner) ++ drop x.len (drop at inner)) (meaning_bytes x.meaning ++ more) =
+          let prefix : AreCharacters 34 (take x.len (drop at inner) ++ drop x.len (drop at inner)) (meaning_bytes x.meaning ++ more) =
           character_more b.stands (subst (λ (xs : List ℕ). AreCharacters 34 xs more) (sym past) a) in
           subst (AreCharacters 34 inner) (sym (append_assoc out (meaning_bytes x.meaning) more))
-          (d.whole (meaning_bytes x.meaning ++ more) (subst (λ (xs : List ℕ). AreCharacters 34 xs (meaning_bytes x.meaning ++ more)) (take-append-drop x.len (drop at inner)) front));
+          (d.whole (meaning_bytes x.meaning ++ more) (subst (λ (xs : List ℕ). AreCharacters 34 xs (meaning_bytes x.meaning ++ more)) (take-append-drop x.len (drop at inner)) prefix));
       rest = (f.0, subst (λ (xs : List ℕ). AreCharacters 34 xs f.0) past f.1);
     }
 

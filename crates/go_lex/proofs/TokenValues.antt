@@ -11,12 +11,13 @@ use Rattle.go_syntax.specs.declared.token.TokenValue.TheVariants as value
 use Rattle.go_syntax.specs.declared.token.LexemeKind.{LexemeKind}
 use Rattle.go_syntax.specs.declared.token.LexemeKind.TheVariants as lexeme
 use Rattle.go_syntax.specs.lexical.Quotes.{meaning_number, AreCharacters, raw_bytes}
-use Rattle.go_syntax.specs.lexical.Words.{KindTable, kind_in, keywords, operators, operators_of_three, operators_of_two, operators_of_one, name_kind}
+use Rattle.go_base.specs.Keywords.{keywords}
+use Rattle.go_syntax.specs.lexical.Words.{KindTable, kind_in, keyword_table, keyword_kinds, operators, operators_of_three, operators_of_two, operators_of_one, name_kind}
 use Rattle.go_syntax.specs.lexical.Lexemes.{plain_value, quoted, IsLexeme, blank, newline, name, operator, integer, float, imaginary, rune, string, raw_string}
-use Rattle.go_lex.specs.declared.quote.Character.{Character as CharacterFront}
-use Rattle.go_lex.specs.CharacterFronts.{BeginsCharacter, BeginsNoCharacter}
-use Rattle.go_lex.specs.Starts.{begins_byte}
-use Rattle.go_lex.specs.Only.{IsRune, IsRuneOf, IsString, IsRaw}
+use Rattle.go_lex.specs.declared.quote.Character.{Character as CharacterPrefix}
+use Rattle.go_lex.specs.inner.CharacterPrefixes.{BeginsCharacter, BeginsNoCharacter}
+use Rattle.go_lex.specs.inner.Starts.{begins_byte}
+use Rattle.go_lex.specs.inner.OnlyTexts.{IsRune, IsRuneOf, IsString, IsRaw}
 use Rattle.go_lex.proofs.Literals.{same_first, single}
 
 -- the kinds of literals in quotes
@@ -55,8 +56,8 @@ name_by None f = refl
 name_by (Some k) f = f k refl
 
 name_unquoted : (text : List ℕ) → is_quoted (name_kind text) ≡ false
-unfolding keywords
-name_unquoted text = name_by (kind_in keywords text) (λ k e. rows_unquoted keywords text k refl e)
+unfolding keywords keyword_kinds
+name_unquoted text = name_by (kind_in keyword_table text) (λ k e. rows_unquoted keyword_table text k refl e)
 
 same_token : (k j : TokenKind) → lexeme.Token k ≡ lexeme.Token j → k ≡ j
 same_token k j e = cc
@@ -122,7 +123,7 @@ rune_said kind text n e r =
 behind_first : (q : ℕ) (text inner : List ℕ) → text ≡ quoted q inner → drop 1 text ≡ inner ++ (q ∷ [])
 behind_first q text inner e = ap (drop 1) e
 
-pub rune_found : (text behind : List ℕ) (x : CharacterFront) (n : ℕ) → IsRune text → behind ≡ drop 1 text → BeginsCharacter 39 behind x → n ≡ meaning_number x.meaning → IsRuneOf text n
+pub rune_found : (text behind : List ℕ) (x : CharacterPrefix) (n : ℕ) → IsRune text → behind ≡ drop 1 text → BeginsCharacter 39 behind x → n ≡ meaning_number x.meaning → IsRuneOf text n
 rune_found text behind x n r is b e =
     let first = same_first 39 behind r.0 (39 ∷ []) r.1 x single b r.2 (is ∙ behind_first 39 text r.0 r.3) in
     (r.0, r.1, r.2, r.3, e ∙ ap meaning_number first.1)

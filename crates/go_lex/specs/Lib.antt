@@ -1,11 +1,2 @@
 pub mod Causes
-pub mod CharacterFronts
-pub mod Digits
-pub mod Fronts
-pub mod Keywords
-pub mod Names
-pub mod NumberLengths
-pub mod Only
-pub mod Operators
-pub mod Starts
-pub mod Values
+pub mod inner

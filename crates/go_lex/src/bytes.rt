@@ -1,8 +1,8 @@
 //! What is left of some bytes.
 ghost use Rattle.std.specs.Prelude.{◌≡◌, ◌≤◌, length, drop};
-ghost use Rattle.go_lex.specs.Starts.{begins_byte};
+ghost use Rattle.go_lex.specs.inner.Starts.{begins_byte};
 
-/// The bytes from this place on.
+/// The bytes from this index on.
 #[tactic(auto, using(std::proofs::lemmas::List::take_rest))]
 pub fn past(bytes: &[u8], at: usize) -> &[u8]
     requires { at ≤ length bytes.now }

@@ -1,8 +1,8 @@
-//! Digits at the front of some bytes.
+//! Digits at the start of some bytes.
 ghost use Rattle.std.specs.Prelude.{◌≡◌, ◌≤◌, length};
 ghost use Rattle.std.specs.Char.{digit_value};
 ghost use Rattle.go_syntax.specs.lexical.Numbers.{is_digit_of};
-ghost use Rattle.go_lex.specs.Digits.{begins_digit, goes_on, more_len, digits_len};
+ghost use Rattle.go_lex.specs.inner.DigitLengths.{begins_digit, goes_on, more_len, digits_len};
 
 use crate::bytes::past;
 
@@ -55,7 +55,7 @@ pub fn more_len(base: u32, bytes: &[u8]) -> usize
     at
 }
 
-/// How many bytes digits take at the front.
+/// How many bytes digits take at the start.
 pub fn digits_len(base: u32, bytes: &[u8]) -> usize
     ensures value { result ≡ digits_len base bytes.now }
     ensures within { result ≤ length bytes.now }

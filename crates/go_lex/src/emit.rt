@@ -6,7 +6,7 @@ ghost use Rattle.go_syntax.specs.declared.token.TokenValue.TheVariants as value;
 ghost use Rattle.go_syntax.specs.declared.token.TokenValue.{TokenValue};
 ghost use Rattle.go_syntax.specs.lexical.Lexemes.{IsLexeme};
 ghost use Rattle.go_syntax.specs.lexical.Tokens.{ends_line, inserted, lexeme_tokens, pending_after};
-ghost use Rattle.go_lex.specs.Fronts.{Says};
+ghost use Rattle.go_lex.specs.inner.LongestLexemes.{Says};
 
 use crate::bytes::begins_byte;
 use crate::value::{integer_value, raw_bytes, rune_number, string_bytes};

@@ -1,7 +1,7 @@
 //! The keywords.
 ghost use Rattle.std.specs.Prelude.{◌≡◌};
-ghost use Rattle.go_syntax.specs.lexical.Words.{kind_in, keywords, name_kind};
-ghost use Rattle.go_lex.specs.Keywords.{short_keywords, keywords_of_four, keywords_of_five, keywords_of_six, long_keywords};
+ghost use Rattle.go_syntax.specs.lexical.Words.{kind_in, keyword_table, name_kind};
+ghost use Rattle.go_lex.specs.inner.KeywordParts.{short_keywords, keywords_of_four, keywords_of_five, keywords_of_six, long_keywords};
 
 use go_syntax::token::TokenKind;
 
@@ -13,7 +13,7 @@ pub fn name_kind(name: &[u8]) -> TokenKind
 }
 
 fn keyword_kind(name: &[u8]) -> Option<TokenKind>
-    ensures { result ≡ kind_in keywords name.now }
+    ensures { result ≡ kind_in keyword_table name.now }
 {
     if let Some(kind) = short_keyword(name) {
         return Some(kind);

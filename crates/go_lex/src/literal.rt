@@ -1,7 +1,7 @@
-//! Rune and string literals at the front of some bytes, from behind their first quote.
+//! Rune and string literals at the start of some bytes, from behind their first quote.
 ghost use Rattle.std.specs.Prelude.{◌≡◌, ◌<◌, ◌≤◌, ◌∷◌, length, IfSome, IfNone, not, ◌==◌};
 ghost use Rattle.std.specs.List.{prefix_len};
-ghost use Rattle.go_lex.specs.Only.{IsOnly, HasNone, IsRune, IsString, IsRaw};
+ghost use Rattle.go_lex.specs.inner.OnlyTexts.{IsOnly, HasNone, IsRune, IsString, IsRaw};
 
 use crate::bytes::{begins_byte, past};
 use crate::quote::character_at;

@@ -1,6 +1,6 @@
-//! Names at the front of some bytes.
+//! Names at the start of some bytes.
 ghost use Rattle.std.specs.Prelude.{IfSome, IfNone};
-ghost use Rattle.go_lex.specs.Names.{IsLongestName, HasNoName};
+ghost use Rattle.go_lex.specs.inner.NamePrefixes.{IsLongestName, HasNoName};
 
 use go_base::characters::{Alphabet, begins_with_letter, run_len};
 

@@ -1,7 +1,7 @@
-//! Number literals at the front of some bytes.
+//! Number literals at the start of some bytes.
 ghost use Rattle.std.specs.Prelude.{◌≡◌, ◌<◌, ◌≤◌, ◌+◌, ℕ, length, drop, IfSome};
 ghost use Rattle.go_syntax.specs.lexical.Numbers.{base_of};
-ghost use Rattle.go_lex.specs.NumberLengths.{is_mark, sign_len, exponent_len, fraction_len, joined_len, tail_len, imaginary_len, prefix_of, integer_len, number_kind, number_of, decimal_number, prefixed_number, number_at};
+ghost use Rattle.go_lex.specs.inner.NumberLengths.{is_mark, sign_len, exponent_len, fraction_len, joined_len, tail_len, imaginary_len, prefix_of, integer_len, number_kind, number_of, decimal_number, prefixed_number, number_at};
 
 use crate::bytes::past;
 use crate::digits::{digits_len, more_len};
@@ -35,7 +35,7 @@ fn sign_len(bytes: &[u8]) -> usize
 }
 
 /// The length of the exponent of a literal of this base, or 0.
-#[tactic(auto, unfolding(crate::specs::NumberLengths::exponent_len))]
+#[tactic(auto, unfolding(crate::specs::inner::NumberLengths::exponent_len))]
 fn exponent_len(base: u32, bytes: &[u8]) -> usize
     ensures value { result ≡ exponent_len base bytes.now }
     ensures within { result ≤ length bytes.now }
@@ -52,7 +52,7 @@ fn exponent_len(base: u32, bytes: &[u8]) -> usize
 }
 
 /// The length of the fraction with its point, or 0.
-#[tactic(auto, unfolding(crate::specs::NumberLengths::fraction_len))]
+#[tactic(auto, unfolding(crate::specs::inner::NumberLengths::fraction_len))]
 fn fraction_len(base: u32, bytes: &[u8]) -> usize
     ensures value { result ≡ fraction_len base bytes.now }
     ensures within { result ≤ length bytes.now }
@@ -78,7 +78,7 @@ fn joined_len(base: u32, whole: usize, fraction: usize, exponent: usize) -> usiz
     0
 }
 
-#[tactic(auto, unfolding(crate::specs::NumberLengths::tail_len))]
+#[tactic(auto, unfolding(crate::specs::inner::NumberLengths::tail_len))]
 fn tail_len(base: u32, whole: usize, bytes: &[u8]) -> usize
     requires { length bytes.now < 4294967296 }
     ensures value { result ≡ tail_len base whole bytes.now }
@@ -89,7 +89,7 @@ fn tail_len(base: u32, whole: usize, bytes: &[u8]) -> usize
     joined_len(base, whole, fraction, exponent)
 }
 
-#[tactic(auto, unfolding(crate::specs::NumberLengths::imaginary_len))]
+#[tactic(auto, unfolding(crate::specs::inner::NumberLengths::imaginary_len))]
 fn imaginary_len(bytes: &[u8]) -> usize
     ensures value { result ≡ imaginary_len bytes.now }
     ensures within { result ≤ length bytes.now }
@@ -167,7 +167,7 @@ fn number_of(int: usize, whole: usize, tail: usize, imaginary: usize) -> Number
 }
 
 /// The literal of digits to the base 10, or of octal ones.
-#[tactic(auto, unfolding(crate::specs::NumberLengths::decimal_number))]
+#[tactic(auto, unfolding(crate::specs::inner::NumberLengths::decimal_number))]
 fn decimal_number(bytes: &[u8]) -> Number
     requires { length bytes.now < 4294967296 }
     ensures { result ≡ decimal_number bytes.now }
@@ -179,7 +179,7 @@ fn decimal_number(bytes: &[u8]) -> Number
 }
 
 /// The literal behind a prefix.
-#[tactic(auto, unfolding(crate::specs::NumberLengths::prefixed_number))]
+#[tactic(auto, unfolding(crate::specs::inner::NumberLengths::prefixed_number))]
 fn prefixed_number(base: u32, bytes: &[u8]) -> Option<Number>
     requires { length bytes.now < 4294967296 }
     ensures value { result ≡ prefixed_number base bytes.now }
@@ -195,8 +195,8 @@ fn prefixed_number(base: u32, bytes: &[u8]) -> Option<Number>
     }
 }
 
-/// The longest number literal at the front of bytes that begin one.
-#[tactic(auto, unfolding(crate::specs::NumberLengths::number_at))]
+/// The longest number literal at the start of bytes that begin one.
+#[tactic(auto, unfolding(crate::specs::inner::NumberLengths::number_at))]
 pub fn number_at(bytes: &[u8]) -> Number
     requires { length bytes.now < 4294967296 }
     ensures { result ≡ number_at bytes.now }

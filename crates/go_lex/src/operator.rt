@@ -1,7 +1,7 @@
-//! Operators and punctuation at the front of some bytes.
+//! Operators and punctuation at the start of some bytes.
 ghost use Rattle.std.specs.Prelude.{◌≡◌, ◌≤◌, ◌<◌, [], ◌∷◌, length, take, IfSome};
 ghost use Rattle.go_syntax.specs.lexical.Words.{kind_in, operators_of_three, operators_of_two, operators_of_one};
-ghost use Rattle.go_lex.specs.Operators.{operator_at};
+ghost use Rattle.go_lex.specs.inner.LongestOperators.{operator_at};
 
 use go_syntax::token::TokenKind;
 
@@ -12,7 +12,7 @@ pub struct Operator {
     pub len: usize,
 }
 
-/// The longest operator at the front.
+/// The longest operator at the start.
 pub fn operator_at(bytes: &[u8]) -> Option<Operator>
     ensures { result ≡ operator_at bytes.now }
 {

@@ -1,7 +1,7 @@
-//! Characters and escapes at the front of some bytes.
+//! Characters and escapes at the start of some bytes.
 ghost use Rattle.std.specs.Prelude.{◌≡◌, ◌<◌, ◌≤◌, ◌^◌, ◌∷◌, ◌⊎◌, length, take, IfSome, IsNone, IfNone, option_map};
 ghost use Rattle.go_syntax.specs.lexical.Quotes.{is_plain, sign_of, count_of};
-ghost use Rattle.go_lex.specs.CharacterFronts.{HasCounted, HasNoCounted, IsOctal, HasNoOctal, IsHexadecimal, IsPoint, HasNoPoint, IsPlain, HasNoPlain, BeginsCharacter, BeginsEscape, BeginsNoCharacter};
+ghost use Rattle.go_lex.specs.inner.CharacterPrefixes.{HasCounted, HasNoCounted, IsOctal, HasNoOctal, IsHexadecimal, IsPoint, HasNoPoint, IsPlain, HasNoPlain, BeginsCharacter, BeginsEscape, BeginsNoCharacter};
 
 use crate::digits::{digit_value, is_digit_of};
 use go_base::characters::first_char;
@@ -52,7 +52,7 @@ fn count_of(e: u8) -> Option<usize>
     }
 }
 
-/// The value of exactly so many digits at the front.
+/// The value of exactly so many digits at the start.
 fn counted(base: u32, count: usize, bytes: &[u8]) -> Option<u64>
     requires { (base ≤ 16) × (count ≤ 8) }
     ensures some { IfSome result (HasCounted base count bytes.now) }
@@ -142,7 +142,7 @@ fn escape(quote: u8, rest: &[u8]) -> Option<Character>
     }
 }
 
-/// The character at the front that stands for itself.
+/// The character at the start that stands for itself.
 fn plain(quote: u8, bytes: &[u8]) -> Option<Character>
     ensures some { IfSome result (IsPlain quote bytes.now) }
     ensures none { IfNone result (HasNoPlain quote bytes.now) }
@@ -156,7 +156,7 @@ fn plain(quote: u8, bytes: &[u8]) -> Option<Character>
     }
 }
 
-/// The character or escape at the front.
+/// The character or escape at the start.
 pub fn character_at(quote: u8, bytes: &[u8]) -> Option<Character>
     requires { (quote ≡ 34) ⊎ (quote ≡ 39) }
     ensures some { IfSome result (BeginsCharacter quote bytes.now) }

@@ -2,14 +2,14 @@
 ghost use Rattle.std.specs.Prelude.{◌≡◌, ◌≤◌, ◌-◌, ℕ, List, length, drop, IfOk, IfErr};
 ghost use Rattle.go_syntax.specs.declared.token.Token.{Token};
 ghost use Rattle.go_base.specs.Comments.{without_mark};
-ghost use Rattle.go_syntax.specs.lexical.Lexemes.{CutTo, Lexeme, IsBadPlace};
+ghost use Rattle.go_syntax.specs.lexical.Lexemes.{CutTo, Lexeme, IsBadOffset};
 ghost use Rattle.go_syntax.specs.lexical.Tokens.{IsTokens};
 ghost use Rattle.go_lex.specs.Causes.{HasCause};
 
 use crate::bytes::past;
 use crate::emit::Emitter;
 use crate::error::LexError;
-use crate::front::front_of;
+use crate::longest::longest_lexeme;
 use go_base::list::List;
 use go_syntax::token::Token;
 use std::alloc::Global;
@@ -18,7 +18,7 @@ use std::alloc::Global;
 /// order mark at the start is skipped.
 ///
 /// `BadToken` comes exactly where the bytes can't be cut into longest lexemes, with the offset at
-/// which the longest such front ends.
+/// which the longest such prefix ends. `NoMemory` may come at any time.
 pub fn scan(alloc: Global, bytes: &[u8]) -> Result<List<Token>, LexError>
     requires { length bytes.now ≤ 4194304 }
     ensures tokens { IfOk result (IsTokens bytes.now) }
@@ -31,11 +31,11 @@ pub fn scan(alloc: Global, bytes: &[u8]) -> Result<List<Token>, LexError>
     let mut at = mark_len(bytes);
     while at < bytes.len() {
         let rest = past(bytes, at);
-        let Some(front) = front_of(rest) else {
+        let Some(lexeme) = longest_lexeme(rest) else {
             return Err(LexError::BadToken(at as u32));
         };
-        emitter.emit(alloc, front.kind, &rest[..front.len], at as u32)?;
-        at += front.len;
+        emitter.emit(alloc, lexeme.kind, &rest[..lexeme.len], at as u32)?;
+        at += lexeme.len;
     }
     emitter.end_line()?;
     let Emitter { tokens, pending: _ } = emitter;
@@ -53,11 +53,3 @@ fn mark_len(bytes: &[u8]) -> usize
         0
     }
 }
-
-/// A file has at most one list of tokens and at most one bad place, and never both.
-pub fn one_list()
-    ensures one { (bytes : List ℕ) (first second : List Token) → IsTokens bytes first → IsTokens bytes second → first ≡ second }
-    ensures one_place { (bytes : List ℕ) (first second : ℕ) → IsBadPlace bytes first → IsBadPlace bytes second → first ≡ second }
-    ensures not_both { (bytes : List ℕ) (place : ℕ) (tokens : List Token) → IsBadPlace bytes place → IsTokens bytes tokens → ⊥ }
-    ensures longest { (bytes : List ℕ) (place : ℕ) (lexemes : List Lexeme) (rest : List ℕ) → IsBadPlace bytes place → CutTo (without_mark bytes) lexemes rest → length bytes - length rest ≤ place }
-{}

@@ -4,8 +4,8 @@ ghost use Rattle.std.specs.List.{filter};
 ghost use Rattle.go_syntax.specs.lexical.Numbers.{value_from, integer_value};
 ghost use Rattle.go_syntax.specs.lexical.Quotes.{meaning_bytes, meaning_number, AreCharacters, raw_bytes};
 ghost use Rattle.go_syntax.specs.lexical.Lexemes.{number_value};
-ghost use Rattle.go_lex.specs.Only.{IsRune, IsRuneOf};
-ghost use Rattle.go_lex.specs.Values.{value_more};
+ghost use Rattle.go_lex.specs.inner.OnlyTexts.{IsRune, IsRuneOf};
+ghost use Rattle.go_lex.specs.inner.DigitValues.{value_more};
 
 use crate::bytes::past;
 use crate::digits::digit_value;

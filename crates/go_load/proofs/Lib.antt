@@ -1,11 +1,11 @@
-pub mod Counting
-pub mod Folders
+pub mod CountedEvents
+pub mod EntryPaths
+pub mod FolderEntries
+pub mod FolderOrder
 pub mod Loading
 pub mod Members
 pub mod ModuleLines
-pub mod Orders
-pub mod Paths
-pub mod State
-pub mod Told
 pub mod OneAnswer
 pub mod OneWalk
+pub mod StoreSteps
+pub mod WalkState

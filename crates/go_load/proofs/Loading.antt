@@ -6,11 +6,11 @@ use Rattle.go_outside.specs.Stores.{Contents}
 use Rattle.go_load.specs.Names.{go_mod}
 use Rattle.go_load.specs.Loads.{told_module}
 use Rattle.go_outside.specs.declared.files.Entry.{Entry}
-use Rattle.go_load.specs.Steps.{Reads, Lists, Parses, LacksModule, ReadsModule}
-use Rattle.go_load.proofs.Paths.{there_listed}
+use Rattle.go_load.specs.inner.Steps.{Reads, Lists, Parses, LacksModule, ReadsModule}
+use Rattle.go_load.proofs.EntryPaths.{there_listed}
 use Rattle.go_load.specs.declared.error.LoadError.{LoadError}
 use Rattle.go_load.specs.declared.error.LoadError.TheVariants as error
-use Rattle.go_load.proofs.Told.{told_then, told_both}
+use Rattle.go_load.proofs.StoreSteps.{told_then, told_both}
 
 module _ (m : Contents) (root : Path) where
   reads_parsed : (bytes : Path) (r : Result Path LoadError) → Reads (told_module m root) go_mod (Ok bytes) → Parses bytes r → ReadsModule m root r

@@ -15,7 +15,8 @@ use Rattle.std.specs.BTreeSet.{insert_key}
 use Rattle.go_base.specs.Lists.{Has, Each, Before, Ascending}
 use Rattle.go_outside.specs.Paths.{Path}
 use Rattle.go_outside.specs.declared.files.Entry.{Entry}
-use Rattle.go_load.specs.Steps.{Grows, IsAny}
+use Rattle.go_load.specs.inner.Steps.{IsAny}
+use Rattle.go_base.specs.Growing.{Grows}
 
 module _ {A : Type 0} where
   pub has-left : (xs ys : List A) (x : A) → Has xs x → Has (xs ++ ys) x

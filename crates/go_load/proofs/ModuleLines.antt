@@ -8,7 +8,7 @@ use Rattle.std.proofs.lemmas.List.{take-append-drop, length-append}
 use Rattle.std.proofs.lemmas.Slice.Eq.{bytes_eq-Decides}
 use Rattle.go_model.specs.files.Trees.{is_element_byte, is_element, is_within, begins_element, are_elements, IsModulePath}
 use Rattle.go_load.specs.GoMod.{second_word, IsWritten, before_comment}
-use Rattle.go_load.specs.Steps.{IsUnquoted, NamesModule}
+use Rattle.go_load.specs.inner.Steps.{IsUnquoted, NamesModule}
 use Rattle.go_load.specs.Names.{begins}
 
 abbrev Text : Type 0
@@ -43,16 +43,16 @@ pub parts_front : (separator : ℕ) (bytes : Text) → before separator bytes < 
 parts_front separator [] l = absurd (omega arith)
 parts_front separator (b ∷ bs) l = front_by separator b bs (nat_eq b separator) l (parts_front separator bs)
 
-pub parts_at : (separator : ℕ) (bytes front rest : Text) (n : ℕ) → n ≡ before separator bytes → n ≤ length bytes → (n ≡ length bytes → ⊥) → front ≡ take n bytes → rest ≡ drop (n + 1) bytes → parts separator bytes ≡ front ∷ parts separator rest
-parts_at separator bytes front rest n e l ne f r =
+pub parts_at : (separator : ℕ) (bytes prefix rest : Text) (n : ℕ) → n ≡ before separator bytes → n ≤ length bytes → (n ≡ length bytes → ⊥) → prefix ≡ take n bytes → rest ≡ drop (n + 1) bytes → parts separator bytes ≡ prefix ∷ parts separator rest
+parts_at separator bytes prefix rest n e l ne f r =
     parts_front separator bytes (omega (arith, e, l, ne)) ∙ (λ i. (ap (λ k. take k bytes) (sym e) ∙ sym f) i ∷ parts separator ((ap (λ k. drop (k + 1) bytes) (sym e) ∙ sym r) i))
 
 -- a text between two others
-pub fronted : (text front rest : Text) → pointwise nat_eq (take (length front) text) front ≡ true → rest ≡ drop (length front) text → text ≡ front ++ rest
-fronted text front rest t e = sym (take-append-drop (length front) text) ∙ (λ i. (bytes_eq-Decides (take (length front) text) front).0 t i ++ sym e i)
+pub fronted : (text prefix rest : Text) → pointwise nat_eq (take (length prefix) text) prefix ≡ true → rest ≡ drop (length prefix) text → text ≡ prefix ++ rest
+fronted text prefix rest t e = sym (take-append-drop (length prefix) text) ∙ (λ i. (bytes_eq-Decides (take (length prefix) text) prefix).0 t i ++ sym e i)
 
-pub not_fronted : (text front rest : Text) → pointwise nat_eq (take (length front) text) front ≡ false → text ≡ front ++ rest → ⊥
-not_fronted text front rest f e = true≢false (sym ((bytes_eq-Decides (take (length front) text) front).1 (ap (take (length front)) e ∙ take-append_seam front rest)) ∙ f)
+pub not_fronted : (text prefix rest : Text) → pointwise nat_eq (take (length prefix) text) prefix ≡ false → text ≡ prefix ++ rest → ⊥
+not_fronted text prefix rest f e = true≢false (sym ((bytes_eq-Decides (take (length prefix) text) prefix).1 (ap (take (length prefix)) e ∙ take-append_seam prefix rest)) ∙ f)
 
 pub tailed : (text tail rest : Text) → pointwise nat_eq (drop (length text - length tail) text) tail ≡ true → rest ≡ take (length text - length tail) text → text ≡ rest ++ tail
 tailed text tail rest t e = sym (take-append-drop (length text - length tail) text) ∙ (λ i. sym e i ++ (bytes_eq-Decides (drop (length text - length tail) text) tail).0 t i)

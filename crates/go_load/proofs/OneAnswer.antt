@@ -11,7 +11,7 @@ use Rattle.go_load.specs.GoMod.{IsModuleOf, IsWritten, second_word}
 use Rattle.go_load.specs.Walk.{IsThere}
 use Rattle.go_load.specs.Loads.{AreFiles, LoadsFiles, told_module, IsModuleAt, Passes, LoadsModule}
 use Rattle.go_load.specs.Answers.{Agree}
-use Rattle.go_load.specs.Steps.{IsUnquoted}
+use Rattle.go_load.specs.inner.Steps.{IsUnquoted}
 use Rattle.go_load.specs.declared.error.LoadError.{LoadError}
 use Rattle.go_load.specs.declared.error.LoadError.TheVariants as error
 use Rattle.go_load.specs.declared.kind.TreeKind.{TreeKind}

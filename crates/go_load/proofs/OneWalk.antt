@@ -14,8 +14,8 @@ use Rattle.go_outside.specs.Stores.{Contents}
 use Rattle.go_load.specs.Walk.{AreCandidates, IsNext, Event, folder_event, events_of, files_of, package_events, file_events, Walked, start, next, Reaches, before, within, IsWhole, Refusal, first_refusal, no_counts}
 use Rattle.go_load.specs.Loads.{AreFiles, PassesIn}
 use Rattle.go_load.specs.declared.kind.TreeKind.{TreeKind}
-use Rattle.go_load.proofs.Counting.{append_nil, first_front}
-use Rattle.go_load.proofs.Orders.{before_trans, not_before_itself}
+use Rattle.go_load.proofs.CountedEvents.{append_nil, first_front}
+use Rattle.go_load.proofs.FolderOrder.{before_trans, not_before_itself}
 
 -- paths that stand before no other are one
 tied_by : (f g : Path) (o : Ordering) → slice_cmp nat_cmp f g ≡ o → (Before f g → ⊥) → (Before g f → ⊥) → f ≡ g
@@ -132,7 +132,7 @@ module _ (m : Contents) (tree : TreeKind) (root : Path) where
       let s = same_walk w c.5 (sym c.6) in
       c.7.fresh (subst (λ (x : List Path). Has x c.3) s.0 (whole c.3 c.7.is))
 
-  -- the events of a place in the walk
+  -- the events of a turn of the walk
   abbrev Placed : List Event → Type 0
   Placed es = (l : List Path) × (f : List TreeFile) × (e : List Event) × (t : List Event) × Walked m tree root l f e × Tail l t × (es ≡ e ++ t)
 

@@ -3,12 +3,9 @@
 -- in the form of one line; only newlines end lines, so a carriage return belongs to its line.
 use Rattle.std.specs.Prelude.{◌≡◌, ◌⊎◌, ℕ, Bool, true, not, ◌||◌, nat_eq, if◌then◌else◌, List, [], ◌∷◌, ◌++◌, take, drop, filter, codes}
 use Rattle.std.specs.List.{prefix_len, slice_split, list_all}
+use Rattle.go_base.specs.Comments.{is_blank}
 use Rattle.go_model.specs.files.Trees.{IsModulePath}
 use Rattle.go_load.specs.Names.{begins, is_text}
-
--- a blank is a space or a tab
-abbrev pub is_blank : ℕ → Bool
-is_blank b = nat_eq b 32 || nat_eq b 9
 
 abbrev pub is_visible : ℕ → Bool
 is_visible b = not (is_blank b)

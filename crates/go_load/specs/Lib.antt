@@ -2,5 +2,5 @@ pub mod Answers
 pub mod GoMod
 pub mod Loads
 pub mod Names
-pub mod Steps
 pub mod Walk
+pub mod inner

@@ -1,5 +1,6 @@
 -- What the loads of one tree answer.
-use Rattle.std.specs.Prelude.{◌≡◌, ◌≤◌, ◌<◌, ◌⊎◌, ℕ, Option, Some, None, List, [], length, Result, Ok, Err}
+-- Own: the order in which a load is refused.
+use Rattle.std.specs.Prelude.{◌≡◌, ◌≢◌, ◌≤◌, ◌<◌, ◌⊎◌, ℕ, Option, Some, None, List, [], length, Result, Ok, Err}
 use Rattle.std.specs.FinMap.{get}
 use Rattle.go_model.specs.files.Trees.{most}
 use Rattle.go_model.specs.declared.files.tree.Tree.{Tree}
@@ -9,7 +10,7 @@ use Rattle.go_model.specs.declared.files.tree.LimitName.TheVariants as limit
 use Rattle.go_outside.specs.Faults.{Rose}
 use Rattle.go_outside.specs.Paths.{Path}
 use Rattle.go_outside.specs.Stores.{Contents}
-use Rattle.go_load.specs.Names.{go_mod, entry_place}
+use Rattle.go_load.specs.Names.{go_mod, entry_path}
 use Rattle.go_load.specs.GoMod.{IsModuleOf}
 use Rattle.go_load.specs.Walk.{IsThere, Event, Walked, Reaches, IsWhole, first_refusal, no_counts}
 use Rattle.go_load.specs.declared.error.LoadError.{LoadError}
@@ -44,7 +45,7 @@ LoadsFiles m tree root (Err e) = Walks m tree root (Err e)
 module _ (m : Contents) (root : Path) where
   -- what is told of the module's `go.mod`
   abbrev pub told_module : Option (List ℕ)
-  told_module = get m (entry_place root [] go_mod)
+  told_module = get m (entry_path root [] go_mod)
 
   -- a `go.mod` of at most so many bytes that names this module
   abbrev pub IsModuleAt : Path → Type 0
@@ -69,3 +70,7 @@ module _ (m : Contents) (root : Path) where
 abbrev pub LoadCause : {A : Type 0} → ℕ → ℕ → Result A LoadError → Type 0
 LoadCause before now (Err error.ReadFault) = Rose before now
 LoadCause before now _ = before ≤ now
+
+-- only the load of a module speaks of its `go.mod`
+abbrev pub IsOfWalk : LoadError → Type 0
+IsOfWalk e = (e ≢ error.NoModule) × (e ≢ error.BadModule)

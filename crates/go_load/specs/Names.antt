@@ -9,7 +9,7 @@ use Rattle.go_outside.specs.Paths.{Path}
 
 -- a text begins or ends with another
 abbrev pub begins : Path → Path → Bool
-begins name front = starts_with nat_eq name front
+begins name start = starts_with nat_eq name start
 
 abbrev pub ends : Path → Path → Bool
 ends name tail = ends_with nat_eq name tail
@@ -38,11 +38,11 @@ abbrev pub under : Path → Path → Path
 under [] name = name
 under (b ∷ bs) name = b ∷ (bs ++ 47 ∷ name)
 
--- where a folder of the tree at this root stands in the store
-abbrev pub place : Path → Path → Path
-place root [] = root
-place root (b ∷ bs) = root ++ 47 ∷ (b ∷ bs)
+-- the path of a folder below a root: of a folder of a tree in its store, and of a package below the path of its module
+abbrev pub folder_path : Path → Path → Path
+folder_path root [] = root
+folder_path root (b ∷ bs) = root ++ 47 ∷ (b ∷ bs)
 
--- where an entry of a folder of the tree stands in the store
-abbrev pub entry_place : Path → Path → Path → Path
-entry_place root folder name = place root folder ++ 47 ∷ name
+-- the path of an entry of a folder of the tree in the store
+abbrev pub entry_path : Path → Path → Path → Path
+entry_path root folder name = folder_path root folder ++ 47 ∷ name

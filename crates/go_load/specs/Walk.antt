@@ -1,5 +1,5 @@
 -- The walk over the told files of one tree: its folders, their candidate files, and the order of all that counts for a limit.
--- Public source for what is ignored: as in Names. The order and the limits are this project's own.
+-- Public source: `go list` and go/build for what is ignored, as in Names. The order and the limits are own.
 -- That the answers over one store agree is stated at the public calls.
 use Rattle.std.specs.Prelude.{◌≡◌, ℕ, ◌+◌, Bool, true, false, nat_le, if◌then◌else◌, Option, Some, None, unwrap_or, List, [], ◌∷◌, ◌++◌, length, map}
 use Rattle.std.specs.FinMap.{get}
@@ -10,7 +10,7 @@ use Rattle.go_model.specs.declared.files.tree.LimitName.{LimitName}
 use Rattle.go_model.specs.declared.files.tree.LimitName.TheVariants as limit
 use Rattle.go_outside.specs.Paths.{Path}
 use Rattle.go_outside.specs.Stores.{Contents, IsTold}
-use Rattle.go_load.specs.Names.{is_walked, is_candidate, go_mod, under, entry_place}
+use Rattle.go_load.specs.Names.{is_walked, is_candidate, go_mod, under, entry_path}
 use Rattle.go_load.specs.declared.kind.TreeKind.{TreeKind}
 use Rattle.go_load.specs.declared.kind.TreeKind.TheVariants as kind
 use Rattle.go_load.specs.declared.counts.Counts.{Counts}
@@ -36,15 +36,15 @@ module _ (m : Contents) (tree : TreeKind) (root : Path) where
   -- a folder below the root of a module that is the root of another module, and so ignored
   abbrev pub IsOtherModule : Path → Type 0
   IsOtherModule [] = ⊥
-  IsOtherModule (b ∷ bs) = (tree ≡ kind.Module) × IsTold m (entry_place root (b ∷ bs) go_mod)
+  IsOtherModule (b ∷ bs) = (tree ≡ kind.Module) × IsTold m (entry_path root (b ∷ bs) go_mod)
 
   -- a folder that lies in another by a name that is walked, and isn't a file there as well
   pub record IsChild (folder name : Path) : Type 0 where
     pub deep : is_deep tree ≡ true
     pub own : IsOtherModule folder → ⊥
     pub walked : is_walked name ≡ true
-    pub there : IsThere m (entry_place root folder name)
-    pub alone : IsTold m (entry_place root folder name) → ⊥
+    pub there : IsThere m (entry_path root folder name)
+    pub alone : IsTold m (entry_path root folder name) → ⊥
 
   -- the folders of the walk
   pub data IsFolder : Path → Type 0 where
@@ -56,7 +56,7 @@ module _ (m : Contents) (tree : TreeKind) (root : Path) where
     pub taken : takes_files tree folder ≡ true
     pub own : IsOtherModule folder → ⊥
     pub named : is_candidate name ≡ true
-    pub stored : IsTold m (entry_place root folder name)
+    pub stored : IsTold m (entry_path root folder name)
 
   -- the names of a folder's candidate files, in the order of bytes
   pub record AreCandidates (folder : Path) (names : List Path) : Type 0 where
@@ -76,7 +76,7 @@ bytes_of m path = unwrap_or (get m path) []
 
 -- a file of the tree
 abbrev pub file_of : Contents → Path → Path → Path → TreeFile
-file_of m root folder name = record { folder = folder; name = name; bytes = bytes_of m (entry_place root folder name) }
+file_of m root folder name = record { folder = folder; name = name; bytes = bytes_of m (entry_path root folder name) }
 
 abbrev pub files_of : Contents → Path → Path → List Path → List TreeFile
 files_of m root folder names = map (file_of m root folder) names

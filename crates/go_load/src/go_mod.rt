@@ -2,8 +2,9 @@
 ghost use Rattle.std.specs.Prelude.{◌≡◌, ◌≤◌, ℕ, true, false, length, [], ◌∷◌, ◌++◌, IfSome, IfNone, List};
 ghost use Rattle.std.specs.List.{prefix_len, list_all};
 ghost use Rattle.go_model.specs.files.Trees.{IsModulePath};
-ghost use Rattle.go_load.specs.GoMod.{is_blank, is_visible, from_word, first_word, after_word, before_comment, is_module_line, module_lines, second_word, after_second, IsModuleOf};
-ghost use Rattle.go_load.specs.Steps.{IsUnquoted, NamesModule};
+ghost use Rattle.go_load.specs.GoMod.{is_visible, from_word, first_word, after_word, before_comment, is_module_line, module_lines, second_word, after_second, IsModuleOf};
+ghost use Rattle.go_base.specs.Comments.{is_blank};
+ghost use Rattle.go_load.specs.inner.Steps.{IsUnquoted, NamesModule};
 
 use crate::error::LoadError;
 use crate::names::{cut, is_module_path};
@@ -51,9 +52,9 @@ fn before_comment(line: &[u8]) -> &[u8]
     ensures { result.now ≡ before_comment line.now }
 {
     for start in 0..line.len() {
-        let (front, rest) = line.split_at(start);
+        let (before, rest) = line.split_at(start);
         if rest.starts_with(b"//") {
-            return front;
+            return before;
         }
     }
     line

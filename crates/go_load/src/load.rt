@@ -3,13 +3,8 @@ ghost use Rattle.std.specs.Prelude.{◌≡◌, [], List, ℕ, Result, Err, IfOk,
 ghost use Rattle.go_model.specs.files.Trees.{IsTree, IsModulePath};
 ghost use Rattle.go_outside.specs.Faults.{Told};
 ghost use Rattle.go_load.specs.Loads.{LoadsModule, LoadsFiles, LoadCause};
-ghost use Rattle.go_load.specs.Steps.{Parses, LacksModule, ReadsModule, IsOfWalk};
-ghost use Rattle.go_load.specs.Answers.{Agree};
-ghost use Rattle.go_outside.specs.Paths.{Path};
-ghost use Rattle.go_outside.specs.Stores.{Contents};
-ghost use Rattle.go_model.specs.declared.files.tree.Tree.{Tree};
-ghost use Rattle.go_load.specs.declared.error.LoadError.{LoadError};
-ghost use Rattle.go_load.specs.declared.kind.TreeKind.{TreeKind};
+ghost use Rattle.go_load.specs.inner.Steps.{Parses, LacksModule, ReadsModule};
+ghost use Rattle.go_load.specs.Loads.{IsOfWalk};
 ghost use Rattle.go_load.specs.declared.kind.TreeKind.TheVariants as kind;
 
 use crate::error::LoadError;
@@ -62,9 +57,13 @@ fn read_module<F: Files>(alloc: Global, files: &mut F, root: &[u8]) -> Result<Te
 
 /// The tree of the module at a root: the path that its `go.mod` names, and its candidate files.
 ///
-/// A limit, [`LoadError::NoModule`] and [`LoadError::BadModule`] come exactly where the store tells
-/// what they say. Over a store that tells nothing, a path that it lists and then hasn't is
-/// [`LoadError::Missing`].
+/// Where the store tells its files, the answer is the first of these that applies:
+/// [`LoadError::Missing`] where no told path lies in the root, with the empty path;
+/// [`LoadError::NoModule`] where there is no `go.mod`; [`LoadError::Limit`] where that is too large;
+/// [`LoadError::BadModule`] where it doesn't name one module; [`LoadError::Limit`] at the first count
+/// of the walk that passes its number; else the tree. In place of it may come
+/// [`LoadError::ReadFault`], only where the store failed, and [`LoadError::NoMemory`], at any time.
+/// Over a store that tells nothing, a path that it lists and then hasn't is [`LoadError::Missing`].
 pub fn load_module<F: Files>(alloc: Global, files: &mut F, root: &[u8]) -> Result<Tree, LoadError>
     ensures same { F.told files.new ≡ F.told files.old }
     ensures told { Told (F.told files.old) (λ m. LoadsModule m root.now result) }
@@ -111,7 +110,8 @@ fn load_files<F: Files>(
     })
 }
 
-/// The tree at a root that holds packages at their import paths, without a module.
+/// The tree at a root that holds packages at their import paths, without a module. The answers are
+/// those of [`load_module`], but for what it says of `go.mod`.
 pub fn load_std<F: Files>(alloc: Global, files: &mut F, root: &[u8]) -> Result<Tree, LoadError>
     ensures same { F.told files.new ≡ F.told files.old }
     ensures told { Told (F.told files.old) (λ m. LoadsFiles m kind.Std root.now result) }
@@ -124,7 +124,8 @@ pub fn load_std<F: Files>(alloc: Global, files: &mut F, root: &[u8]) -> Result<T
     load_files(alloc, files, TreeKind::Std, root)
 }
 
-/// The one folder of a client, without its subfolders.
+/// The one folder of a client, without its subfolders. The answers are those of [`load_module`], but
+/// for what it says of `go.mod`.
 pub fn load_client<F: Files>(alloc: Global, files: &mut F, root: &[u8]) -> Result<Tree, LoadError>
     ensures same { F.told files.new ≡ F.told files.old }
     ensures told { Told (F.told files.old) (λ m. LoadsFiles m kind.Client root.now result) }
@@ -136,10 +137,3 @@ pub fn load_client<F: Files>(alloc: Global, files: &mut F, root: &[u8]) -> Resul
 {
     load_files(alloc, files, TreeKind::Client, root)
 }
-
-/// Over one store the answers of a load agree, but for a fault and want of memory. So each other
-/// answer comes exactly where its own condition holds.
-pub fn one_answer()
-    ensures module_answer { (m : Contents) (root : Path) (r s : Result Tree LoadError) → LoadsModule m root r → LoadsModule m root s → Agree r s }
-    ensures files_answer { (m : Contents) (tree : TreeKind) (root : Path) (r s : Result Tree LoadError) → LoadsFiles m tree root r → LoadsFiles m tree root s → Agree r s }
-{}

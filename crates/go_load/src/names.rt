@@ -2,7 +2,7 @@
 ghost use Rattle.std.specs.Prelude.{◌≡◌, ◌<◌, ◌≤◌, ◌↔◌, ◌++◌, [], ◌∷◌, length, nat_eq, not, IsTrue, IfOk, IfSome, IfNone};
 ghost use Rattle.std.specs.List.{slice_split, prefix_len, list_all};
 ghost use Rattle.go_model.specs.files.Trees.{is_element_byte, begins_element, is_element, are_elements, IsModulePath};
-ghost use Rattle.go_load.specs.Names.{is_hidden, is_walked, is_candidate, under, place};
+ghost use Rattle.go_load.specs.Names.{is_hidden, is_walked, is_candidate, under, folder_path};
 
 use go_base::memory::NoMemory;
 use go_base::text::Text;
@@ -25,9 +25,9 @@ pub(crate) fn cut(bytes: &[u8], separator: u8) -> Option<(&[u8], &[u8])>
     if length == bytes.len() {
         return None;
     }
-    let (front, _) = bytes.split_at(length);
+    let (before, _) = bytes.split_at(length);
     let (_, rest) = bytes.split_at(length + 1);
-    Some((front, rest))
+    Some((before, rest))
 }
 
 #[tactic(auto, unfolding(go_model::specs::files::Trees::is_element_byte, go_model::specs::files::Trees::is_within))]
@@ -105,13 +105,13 @@ pub(crate) fn is_candidate(name: &[u8]) -> bool
 }
 
 /// Two texts with a `/` between them, by one copy of each.
-pub(crate) fn joined(alloc: Global, front: &[u8], back: &[u8]) -> Result<Text, NoMemory>
-    ensures { IfOk result (λ text. text ≡ front.now ++ 47 ∷ back.now) }
+pub(crate) fn joined(alloc: Global, first: &[u8], second: &[u8]) -> Result<Text, NoMemory>
+    ensures { IfOk result (λ text. text ≡ first.now ++ 47 ∷ second.now) }
 {
-    let mut bytes = Vec::with_capacity(alloc, front.len() + 1 + back.len())?;
-    bytes.extend_from_slice(front)?;
+    let mut bytes = Vec::with_capacity(alloc, first.len() + 1 + second.len())?;
+    bytes.extend_from_slice(first)?;
     bytes.push(b'/')?;
-    bytes.extend_from_slice(back)?;
+    bytes.extend_from_slice(second)?;
     Ok(Text::from_vec(bytes))
 }
 
@@ -125,9 +125,9 @@ pub fn under(alloc: Global, folder: &[u8], name: &[u8]) -> Result<Text, NoMemory
     joined(alloc, folder, name)
 }
 
-/// Where a folder of the tree stands in the store.
-pub fn place(alloc: Global, root: &[u8], folder: &[u8]) -> Result<Text, NoMemory>
-    ensures { IfOk result (λ text. text ≡ place root.now folder.now) }
+/// The path of a folder below a root, which the empty path names.
+pub fn folder_path(alloc: Global, root: &[u8], folder: &[u8]) -> Result<Text, NoMemory>
+    ensures { IfOk result (λ text. text ≡ folder_path root.now folder.now) }
 {
     if folder.is_empty() {
         return Text::of(alloc, root);

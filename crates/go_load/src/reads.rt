@@ -4,7 +4,8 @@ ghost use Rattle.std.specs.FinMap as map;
 ghost use Rattle.go_outside.specs.Faults.{Told};
 ghost use Rattle.go_load.specs.Names.{under};
 ghost use Rattle.go_load.specs.Loads.{LoadCause};
-ghost use Rattle.go_load.specs.Steps.{Reads, Lists, IsOfWalk, IsRefusal};
+ghost use Rattle.go_load.specs.inner.Steps.{Reads, Lists, IsRefusal};
+ghost use Rattle.go_load.specs.Loads.{IsOfWalk};
 ghost use Rattle.go_model.specs.declared.files.tree.TheConstants.{MOST_FILE_BYTES};
 
 use crate::error::LoadError;
@@ -48,7 +49,7 @@ fn missing_folder(alloc: Global, folder: &[u8]) -> LoadError
     }
 }
 
-/// The bytes of a file of a folder, which stands at this place of the store.
+/// The bytes of a file of a folder, which stands at this path of the store.
 pub(crate) fn read<F: Files>(
     alloc: Global,
     files: &mut F,
@@ -75,7 +76,7 @@ pub(crate) fn read<F: Files>(
     }
 }
 
-/// The entries of a folder, which stands at this place of the store.
+/// The entries of a folder, which stands at this path of the store.
 pub(crate) fn list<F: Files>(
     alloc: Global,
     files: &mut F,

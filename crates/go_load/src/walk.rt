@@ -6,13 +6,15 @@ ghost use Rattle.go_outside.specs.Faults.{Told};
 ghost use Rattle.go_load.specs.Names.{under, go_mod};
 ghost use Rattle.go_load.specs.Walk.{event, file_events, count_with, counts_with};
 ghost use Rattle.go_load.specs.Loads.{LoadCause, Walks};
-ghost use Rattle.go_load.specs.Steps.{IsOfWalk, Counted, Grows, is_wanted, IsNameOf, IsName, IsWalked, IsSubOf, IsSub, Enters, ListsModule, package_of, Takes, TakesAll, IsKept, Visits, ArePlaced, file_entry};
+ghost use Rattle.go_load.specs.inner.Steps.{Counted, is_wanted, IsNameOf, IsName, IsWalked, IsSubOf, IsSub, Enters, ListsModule, package_of, Takes, TakesAll, IsKept, Visits, ArePlaced, file_entry};
+ghost use Rattle.go_load.specs.Loads.{IsOfWalk};
+ghost use Rattle.go_base.specs.Growing.{Grows};
 ghost use Rattle.go_model.specs.declared.files.tree.TheConstants.{MOST_FILES};
 
 use crate::counts::Counts;
 use crate::error::LoadError;
 use crate::kind::TreeKind;
-use crate::names::{is_candidate, is_walked, place, under};
+use crate::names::{folder_path, is_candidate, is_walked, under};
 use crate::reads::{list, read};
 use go_base::list::List;
 use go_base::memory::NoMemory;
@@ -259,7 +261,7 @@ fn add_file(
     Ok(())
 }
 
-/// Reads a candidate of a folder, which stands at this place of the store.
+/// Reads a candidate of a folder, which stands at this path of the store.
 fn take_file<F: Files>(
     alloc: Global,
     files: &mut F,
@@ -382,7 +384,7 @@ fn visit<F: Files>(
     if let Err(error) = count_folder(alloc, &mut taken.counts, LimitName::Folders, folder) {
         return Err(error);
     }
-    let stored = match place(alloc, root, folder) {
+    let stored = match folder_path(alloc, root, folder) {
         Ok(stored) => stored,
         Err(_) => return Err(LoadError::NoMemory),
     };

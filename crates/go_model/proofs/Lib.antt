@@ -1,1 +1,6 @@
 pub mod AddedPackages
+pub mod MethodOrder
+pub mod MoreWorlds
+pub mod Paths
+pub mod Sizes
+pub mod WorldTypes

@@ -3,6 +3,7 @@ pub mod Bounds
 pub mod Comparison
 pub mod Conversions
 pub mod Imports
+pub mod Members
 pub mod MethodSets
 pub mod Selectors
 pub mod Tables

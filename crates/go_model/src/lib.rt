@@ -4,4 +4,5 @@
 
 pub mod constants;
 pub mod files;
+pub mod laws;
 pub mod types;

@@ -6,12 +6,12 @@ use Rattle.go_base.specs.declared.memory.NoMemory.{NoMemory}
 use Rattle.go_outside.specs.declared.memory_files.FilePair.{FilePair}
 use Rattle.go_outside.specs.Paths.{Path, within}
 use Rattle.go_outside.specs.MemoryFiles.{IsTwice, IsAbove, Clashes}
-use Rattle.go_outside.specs.SortedPairs.{is_before, path_at, IsSorted, IsFirstFrom, IsClearBelow}
-use Rattle.go_outside.proofs.Order.{not_both, before_from, past_slash, slash_from, slash_before, same_path}
+use Rattle.go_outside.specs.inner.SortedPairs.{is_before, path_at, IsSorted, IsFirstFrom, IsClearBelow}
+use Rattle.go_outside.proofs.PathOrder.{not_both, before_from, past_slash, slash_from, slash_before, same_path}
 use Rattle.go_outside.proofs.Lists.{by_place, has_place, place_has}
 use Rattle.go_outside.proofs.Counts.{count_one, count_two}
-use Rattle.go_outside.proofs.Sorted.{sorted_up, path_default}
-use Rattle.go_outside.proofs.Within.{within_some, within_sure, within_never}
+use Rattle.go_outside.proofs.PairOrder.{sorted_up, path_default}
+use Rattle.go_outside.proofs.FolderPaths.{within_some, within_sure, within_never}
 
 -- what a path and a slash begin stands at no place before the first that isn't before them
 not_under : (pairs : List FilePair) (f rest : Path) (at k : ℕ) (d : FilePair) → IsFirstFrom pairs (f ++ 47 ∷ []) at → k < at → path_at pairs k d ≡ f ++ 47 ∷ rest → ⊥

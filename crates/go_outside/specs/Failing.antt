@@ -1,4 +1,5 @@
 -- A store and a sink that fail at some of their calls.
+-- Own: the edge to files and streams.
 use Rattle.std.specs.Prelude.{ℕ, ◌+◌, ◌-◌, ◌^◌, nat_eq, min, Bool, if◌then◌else◌, List}
 use Rattle.std.specs.List.{list_any}
 use Rattle.std.specs.Coded.{Coded, code_by, coded×, coded_ℕ, coded_list}

@@ -1,4 +1,5 @@
 -- Counts of faults, and contents that are told or not.
+-- Own: the edge to files and streams.
 use Rattle.std.specs.Prelude.{ℕ, ◌+◌, ◌-◌, ◌^◌, ◌≤◌, min, Option, Some, None}
 
 -- a count rose, or stands at the last value of its type

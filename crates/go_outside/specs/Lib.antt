@@ -4,5 +4,5 @@ pub mod MemoryFiles
 pub mod MemorySink
 pub mod Paths
 pub mod Sinks
-pub mod SortedPairs
 pub mod Stores
+pub mod inner

@@ -1,4 +1,5 @@
 -- Stores in memory: what pairs of a path and its bytes tell, and the paths among them that clash.
+-- Own: the edge to files and streams.
 use Rattle.std.specs.Prelude.{◌≡◌, ◌≢◌, ◌≤◌, ◌⊎◌, ◌↔◌, ℕ, nat_eq, Some, None, List, map, count_by}
 use Rattle.std.specs.Cmp.Lexicographic.{pointwise}
 use Rattle.std.specs.FinMap.{get, from_entries}

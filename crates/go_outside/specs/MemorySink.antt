@@ -1,4 +1,5 @@
 -- What a sink in memory is: the bytes taken, its room, and its count of faults.
+-- Own: the edge to files and streams.
 use Rattle.std.specs.Prelude.{ℕ, ◌+◌, ◌≤◌, nat_le, if◌then◌else◌, List, [], ◌++◌, length}
 use Rattle.go_outside.specs.Faults.{one_more}
 

@@ -1,4 +1,5 @@
 -- Paths, and the entry that a path has in a folder.
+-- Own: the edge to files and streams.
 use Rattle.std.specs.Prelude.{ℕ, Bool, not, nat_eq, if◌then◌else◌, Option, Some, None, List, [], ◌∷◌, length, take, drop}
 use Rattle.std.specs.List.{prefix_len}
 use Rattle.std.specs.Cmp.Lexicographic.{pointwise}
@@ -8,9 +9,9 @@ use Rattle.go_outside.specs.declared.files.EntryKind.TheVariants as kind
 abbrev pub Path : Type 0
 Path = List ℕ
 
--- what follows a front
+-- what follows a prefix
 abbrev pub after : Path → Path → Option Path
-after front path = if pointwise nat_eq (take (length front) path) front then Some (drop (length front) path) else None
+after prefix path = if pointwise nat_eq (take (length prefix) path) prefix then Some (drop (length prefix) path) else None
 
 abbrev pub after_slash : Option Path → Option Path
 after_slash None = None

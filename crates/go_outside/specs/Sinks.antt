@@ -1,4 +1,5 @@
 -- What a sink has taken, and the cause of its fault.
+-- Own: the edge to files and streams.
 use Rattle.std.specs.Prelude.{◌≡◌, ◌≤◌, ℕ, Option, Some, None, List, ◌++◌, length, take, Result, Ok, Err}
 use Rattle.go_outside.specs.declared.sink.SinkError.{SinkError}
 use Rattle.go_outside.specs.Faults.{Rose}
@@ -8,7 +9,7 @@ abbrev pub Takes : Option (List ℕ) → List ℕ → Option (List ℕ) → Type
 Takes None bytes new = new ≡ None
 Takes (Some old) bytes new = new ≡ Some (old ++ bytes)
 
--- some front of the bytes was taken
+-- some prefix of the bytes was taken
 abbrev pub TakesSome : Option (List ℕ) → List ℕ → Option (List ℕ) → Type 0
 TakesSome old bytes new = (n : ℕ) × (n ≤ length bytes) × Takes old (take n bytes) new
 

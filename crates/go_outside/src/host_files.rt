@@ -111,7 +111,7 @@ fn list<R: Runtime + AllocGlobal>(
 }
 
 // The bytes of an open file, one more than the limit at most.
-fn read_front<F: Read + Drop>(alloc: Global, file: F, limit: u64) -> io::Result<Vec<u8>> {
+fn read_most<F: Read + Drop>(alloc: Global, file: F, limit: u64) -> io::Result<Vec<u8>> {
     let mut bytes = Vec::new(alloc);
     file.take(limit.saturating_add(1)).read_to_end(&mut bytes)?;
     Ok(bytes)
@@ -129,7 +129,7 @@ fn read<R: Runtime + AllocGlobal>(
         Ok(file) => file,
         Err(error) => return Err(cause_of(error)),
     };
-    match read_front(alloc, file, limit) {
+    match read_most(alloc, file, limit) {
         Err(error) => Err(cause_of(error)),
         Ok(bytes) => {
             if bytes.len() as u64 > limit {

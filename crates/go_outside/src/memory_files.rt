@@ -3,7 +3,7 @@ ghost use Rattle.std.specs.Prelude.{◌≡◌, ◌≢◌, ◌≤◌, Some, Err, 
 ghost use Rattle.std.specs.FinMap as map;
 ghost use Rattle.go_outside.specs.Stores.{AnswersList, AnswersRead, FilesCause};
 ghost use Rattle.go_outside.specs.MemoryFiles.{Tells, IsClear, ClashCause};
-ghost use Rattle.go_outside.specs.SortedPairs.{IsSorted};
+ghost use Rattle.go_outside.specs.inner.SortedPairs.{IsSorted};
 
 mod clash;
 mod listing;
@@ -56,7 +56,7 @@ impl Model for MemoryFiles {
     ghost use Rattle.std.specs.FinMap.{code};
     ghost use Rattle.go_outside.specs.Stores.{Contents};
     ghost use Rattle.go_outside.specs.MemoryFiles.{contents_of};
-    ghost use Rattle.go_outside.specs.SortedPairs.{IsRising};
+    ghost use Rattle.go_outside.specs.inner.SortedPairs.{IsRising};
 
     ghost Value = { Contents };
 
@@ -78,7 +78,8 @@ fn sorted(pairs: List<FilePair>) -> Result<Vec<FilePair>, NoMemory>
 }
 
 impl MemoryFiles {
-    /// A store of these files.
+    /// A store of these files. `Clash` comes exactly where a path stands twice or a path and `/` begin
+    /// another, with the least such path; `NoMemory` may come at any time.
     pub fn new(alloc: Global, pairs: List<FilePair>) -> Result<MemoryFiles, MemoryFilesError>
         ensures told { IfOk result (λ store. Tells store pairs) }
         ensures clear { OnOk result (IsClear pairs) }

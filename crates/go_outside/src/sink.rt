@@ -20,7 +20,7 @@ pub trait Sink {
     /// How often it has failed: a count that never falls, and stands still at its last value.
     ghost faults: { Self → ℕ };
 
-    /// Takes a piece whole, or fails after some front of it. It takes no memory.
+    /// Takes a piece whole, or fails after some prefix of it. It takes no memory.
     fn write(&mut self, piece: &[u8]) -> Result<(), SinkError>
         ensures bytes { AnswersWrite (told self.old) piece.now (told self.new) result }
         ensures cause { SinkCause (faults self.old) (faults self.new) result };

@@ -14,7 +14,7 @@ use Rattle.go_syntax.specs.declared.declaration.TypeSpec.{TypeSpec}
 use Rattle.go_syntax.specs.declared.declaration.VarSpec.{VarSpec}
 use Rattle.go_syntax.specs.declared.expression.Expr.{Expr}
 use Rattle.go_syntax.specs.declared.name.Name.{Name}
-use Rattle.go_syntax.specs.declared.statement.Block.{Block}
+use Rattle.go_syntax.specs.declared.body.BodyRange.{BodyRange}
 use Rattle.go_syntax.specs.declared.types.ParameterDecl.{ParameterDecl}
 use Rattle.go_syntax.specs.declared.token.TokenKind.TheVariants as kind
 use Rattle.go_syntax.specs.grammar.Declarations.{constants, variables, IsSpecs, specs_none, specs_more, IsGroup, group_one, group_specs, IsConstSpec, const_names, const_values, const_typed, IsVarSpec, var_type, var_values, var_typed, IsTypeSpec, type_definition, type_alias, IsReceiver, receiver_none, receiver_some, IsOptionalBody, body_none, body_some, IsFunc, IsDecl, decl_const, decl_var, decl_type, decl_func}
@@ -25,15 +25,16 @@ use Rattle.go_syntax.specs.grammar.SourceFiles.{source_file, IsImportSpec, impor
 use Rattle.go_syntax.specs.grammar.SourceFiles as f
 use Rattle.go_syntax.specs.grammar.Symbols.{Rule, Takes, takes, TakesName, takes_name, takes_string, Ends, ends_semicolon, ends_closing, begins, begins_type, closes}
 use Rattle.go_syntax.specs.grammar.Terminals.{Terminal, Sign, Identifier}
-use Rattle.go_parse.specs.Declarations.{spec_item, specs, alone, group, values, typed_const, const_end, const_spec, typed_var, var_end, var_spec, type_end, type_spec, only_receiver, receiver, optional_body, func_end, func, with_semicolon, decl_item, decls, import_path, import_spec, import_item, put_all, step_all, imports, package_name, package_clause, file}
-use Rattle.go_parse.specs.Reading.{Found, Reader, Next, Stop, More, bind, after, turn, loop, step_of, expect, close, ended}
-use Rattle.go_parse.specs.Rules.{Parts, names, exprs, parameters}
-use Rattle.go_parse.proofs.Begins.{read, if_so, if_not, Gives, gives_stop, gives_more, runs, ends_comma, ends_type, ends_here, ends_stops, type_begins, parameters_begin, type_not_comma}
-use Rattle.go_parse.proofs.CompleteNames.{names_read}
-use Rattle.go_parse.proofs.CompleteParts.{CompleteParts, KnownBodies, OverExpr, over_semicolon, over_right_paren, over_right_brace}
-use Rattle.go_parse.proofs.CompletePosts.{exprs_read}
-use Rattle.go_parse.proofs.CompleteSignatures.{parameters_read}
-use Rattle.go_parse.proofs.Shorter.{ends_shorter, more_names_shorter, type_shorter, exprs_shorter, parameters_shorter, signature_shorter}
+use Rattle.go_cursor.specs.Names.{names}
+use Rattle.go_parse.specs.Declarations.{specs, alone, group, values, typed_const, const_end, const_spec, typed_var, var_end, var_spec, type_end, type_spec, only_receiver, receiver, optional_body, func_end, func, with_semicolon, decl_item, decls, import_path, import_spec, import_item, imports, package_name, package_clause, file}
+use Rattle.go_cursor.specs.Reading.{Found, Reader, Next, Stop, More, bind, after, turn, loop, step_of, expect, close, ended, spec_item, put_all, step_all}
+use Rattle.go_exprs.specs.Rules.{Parts, exprs, parameters}
+use Rattle.go_exprs.proofs.Begins.{read, if_so, if_not, Gives, gives_stop, gives_more, runs, ends_comma, ends_type, ends_here, ends_stops, type_begins, parameters_begin, type_not_comma}
+use Rattle.go_exprs.proofs.CompleteNames.{names_read}
+use Rattle.go_exprs.proofs.CompleteParts.{CompleteParts, KnownBodies, OverExpr, over_semicolon, over_right_paren, over_right_brace}
+use Rattle.go_exprs.proofs.CompletePosts.{exprs_read}
+use Rattle.go_exprs.proofs.CompleteSignatures.{parameters_read}
+use Rattle.go_exprs.proofs.Shorter.{ends_shorter, more_names_shorter, type_shorter, exprs_shorter, parameters_shorter, signature_shorter}
 
 -- What follows an item
 
@@ -119,7 +120,7 @@ module _ {A : Type 0} {X : Rule A} {reader : Reader A} (item : Item X reader) wh
 names_open : {ts rest : List Terminal} {ns : List Name} → IsNames ts ns rest → (closes ts ≡ false) × (begins kind.LeftParen ts ≡ false) × (length rest < length ts)
 names_open (g.names takes_name m) = (refl, refl, omega (arith, more_names_shorter m))
 
-module _ {Body : ℕ → Rule Block} (known : KnownBodies Body) {h : ℕ} {l : Parts} (p : CompleteParts Body l (suc h)) where
+module _ {Body : ℕ → Rule BodyRange} (known : KnownBodies Body) {h : ℕ} {l : Parts} (p : CompleteParts Body l (suc h)) where
   values_read : {A : Type 0} (made : List Expr → A) {ts rest more : List Terminal} {xs : List Expr} → IsExprs Body true h ts xs rest → Ends rest more → values made l ts ≡ Some (made xs, rest)
   unfolding values
   values_read made {ts} {rest} {xs = xs} d end = read (exprs l.expr ts) _ (exprs_read known.body_shorter l.expr p.reads_expr d (ends_over end) (ends_stops end)) refl
@@ -176,7 +177,7 @@ module _ {Body : ℕ → Rule Block} (known : KnownBodies Body) {h : ℕ} {l : P
   receiver_read {ts} {u} (receiver_some {d = d} ds o v) n =
       if_so _ _ _ (parameters_begin ds) (read (parameters l.typ ts) only_receiver (parameters_read known.body_shorter l.typ p.reads_typ ds) (if_not _ _ _ v (if_so _ _ _ o refl)))
 
-  optional_read : {ts rest more : List Terminal} {b : Option Block} → IsOptionalBody Body h ts b rest → Ends rest more → optional_body l ts ≡ Some (b, rest)
+  optional_read : {ts rest more : List Terminal} {b : Option BodyRange} → IsOptionalBody Body h ts b rest → Ends rest more → optional_body l ts ≡ Some (b, rest)
   unfolding optional_body
   optional_read body_none end = if_not _ _ _ (ends_brace end) refl
   optional_read {ts} {rest} (body_some {b = b} d) end = if_so _ _ _ (known.body_begins h ts b rest d) (read (l.body ts) _ (p.reads_body ts b rest d) refl)
@@ -190,7 +191,7 @@ module _ {Body : ℕ → Rule Block} (known : KnownBodies Body) {h : ℕ} {l : P
   receiver_shorter receiver_none = omega arith
   receiver_shorter (receiver_some ds o v) = parameters_shorter Body known.body_shorter ds
 
-  optional_shorter : {ts rest : List Terminal} {b : Option Block} → IsOptionalBody Body h ts b rest → length rest ≤ length ts
+  optional_shorter : {ts rest : List Terminal} {b : Option BodyRange} → IsOptionalBody Body h ts b rest → length rest ≤ length ts
   optional_shorter body_none = omega arith
   optional_shorter {ts} {rest} (body_some {b = b} d) = known.body_shorter h ts b rest d
 
@@ -271,7 +272,7 @@ clause_read : {ts u v rest : List Terminal} {n : Name} → Takes kind.PackageWor
 unfolding package_clause expect
 clause_read {n = n} (takes at) (takes_name {ts = v}) h t = read (package_name (Identifier n ∷ v)) (close kind.Semicolon) (package_read n h v) (semicolon_closes n t)
 
-no_import : {Body : ℕ → Rule Block} {h : ℕ} {ts rest : List Terminal} {xs : List Decl} → IsDecls Body h ts xs rest → rest ≡ [] → begins kind.ImportWord ts ≡ false
+no_import : {Body : ℕ → Rule BodyRange} {h : ℕ} {ts rest : List Terminal} {xs : List Decl} → IsDecls Body h ts xs rest → rest ≡ [] → begins kind.ImportWord ts ≡ false
 no_import decls_none e = ap (begins kind.ImportWord) e
 no_import (decls_more (decl_const (takes at) d) t ds) e = refl
 no_import (decls_more (decl_var (takes at) d) t ds) e = refl
@@ -279,7 +280,7 @@ no_import (decls_more (decl_type (takes at) d) t ds) e = refl
 no_import (decls_more (decl_func (d.func (takes at) r n s b)) t ds) e = refl
 
 -- each source file is found, with nothing left
-pub file_read : {Body : ℕ → Rule Block} (known : KnownBodies Body) {h : ℕ} {l : Parts} (p : CompleteParts Body l (suc h)) {ts : List Terminal} {x : File} → IsSourceFile Body h ts x → file l ts ≡ Some (x, [])
+pub file_read : {Body : ℕ → Rule BodyRange} (known : KnownBodies Body) {h : ℕ} {l : Parts} (p : CompleteParts Body l (suc h)) {ts : List Terminal} {x : File} → IsSourceFile Body h ts x → file l ts ≡ Some (x, [])
 unfolding file
 file_read known {l = l} p {ts} (f.file {w = w} {y = y} {n = n} {imports = xs} {decls = ds} k is h t i d) =
     read (package_clause ts) _ (clause_read k is h t) (read (imports w) _ (imports_read i (no_import d refl)) (read (decls l y) _ (decls_read known p d) refl))

@@ -2,29 +2,29 @@
 -- with nothing left, and so a list of terminals is at most one.
 use Rattle.std.proofs.Common.{◌≡◌, ◌≢◌, ℕ, suc, List, [], Some, None, refl, sym, ap, ◌∙◌, subst}
 use Rattle.go_syntax.specs.declared.declaration.File.{File}
-use Rattle.go_syntax.specs.declared.statement.Block.{Block}
+use Rattle.go_syntax.specs.declared.body.BodyRange.{BodyRange}
 use Rattle.go_syntax.specs.declared.token.Token.{Token}
 use Rattle.go_syntax.specs.grammar.SourceFiles.{Skips, IsSourceFile, HasOutline}
 use Rattle.go_syntax.specs.grammar.Symbols.{Rule}
 use Rattle.go_syntax.specs.grammar.Terminals.{Terminal, terminals}
 use Rattle.go_parse.specs.Declarations.{file}
-use Rattle.go_parse.specs.Reading.{Found, Reader}
-use Rattle.go_parse.specs.Rules.{parts}
-use Rattle.go_parse.specs.Skipping.{skipped_body}
-use Rattle.go_parse.proofs.Bodies.{skips_known, skips_sound, skips_read}
+use Rattle.go_cursor.specs.Reading.{Found, Reader}
+use Rattle.go_exprs.specs.Rules.{parts}
+use Rattle.go_cursor.specs.Skipping.{skipped_body}
+use Rattle.go_exprs.proofs.Bodies.{skips_known, skips_sound, skips_read}
 use Rattle.go_parse.proofs.CompleteDeclarations.{file_read}
-use Rattle.go_parse.proofs.CompleteLevels.{complete_parts}
-use Rattle.go_parse.proofs.CompleteParts.{KnownBodies}
+use Rattle.go_exprs.proofs.CompleteLevels.{complete_parts}
+use Rattle.go_exprs.proofs.CompleteParts.{KnownBodies}
 use Rattle.go_parse.proofs.SoundDeclarations.{file_sound}
-use Rattle.go_parse.proofs.SoundLevels.{parts_sound}
-use Rattle.go_parse.proofs.Steps.{Sound}
+use Rattle.go_exprs.proofs.SoundLevels.{parts_sound}
+use Rattle.go_cursor.proofs.Steps.{Sound}
 
 same_read : (p q : File × List Terminal) → ◌≡◌ {A = Found File} (Some p) (Some q) → p ≡ q
 same_read p q e = cc
 
 -- trees of a height of at most h, read by the readers of heights below n
-module _ {Body : ℕ → Rule Block} (known : KnownBodies Body) (body : ℕ → Reader Block) (body_sound : (h : ℕ) → Sound (Body h) (body h))
-    (body_read : (h : ℕ) (ts : List Terminal) (b : Block) (rest : List Terminal) → Body h ts b rest → body h ts ≡ Some (b, rest)) (h n : ℕ) (above : n ≡ suc h) (ts : List Terminal) where
+module _ {Body : ℕ → Rule BodyRange} (known : KnownBodies Body) (body : ℕ → Reader BodyRange) (body_sound : (h : ℕ) → Sound (Body h) (body h))
+    (body_read : (h : ℕ) (ts : List Terminal) (b : BodyRange) (rest : List Terminal) → Body h ts b rest → body h ts ≡ Some (b, rest)) (h n : ℕ) (above : n ≡ suc h) (ts : List Terminal) where
   pub found_file : (x : File) → file (parts body n) ts ≡ Some (x, []) → IsSourceFile Body h ts x
   found_file x e = file_sound Body h (parts body (suc h)) (parts_sound Body body body_sound (suc h)) ts x (subst (λ (m : ℕ). file (parts body m) ts ≡ Some (x, [])) above e)
 

@@ -11,7 +11,7 @@ use Rattle.go_syntax.specs.declared.declaration.Func.{Func}
 use Rattle.go_syntax.specs.declared.declaration.ImportSpec.{ImportSpec}
 use Rattle.go_syntax.specs.declared.expression.Expr.{Expr}
 use Rattle.go_syntax.specs.declared.name.Name.{Name}
-use Rattle.go_syntax.specs.declared.statement.Block.{Block}
+use Rattle.go_syntax.specs.declared.body.BodyRange.{BodyRange}
 use Rattle.go_syntax.specs.declared.types.ParameterDecl.{ParameterDecl, out-ParameterDecl}
 use Rattle.go_syntax.specs.declared.token.TokenKind.TheVariants as kind
 use Rattle.go_syntax.specs.grammar.Declarations.{constants, variables, IsSpecs, specs_none, specs_more, IsGroup, group_one, group_specs, IsConstSpec, const_names, const_values, const_typed, IsVarSpec, var_type, var_values, var_typed, IsTypeSpec, type_definition, type_alias, IsReceiver, receiver_none, receiver_some, IsOptionalBody, body_none, body_some, IsFunc, func as is_func, IsDecl, decl_const, decl_var, decl_type, decl_func}
@@ -19,13 +19,14 @@ use Rattle.go_syntax.specs.grammar.Grammar.{is_variadic, at_most_one, IsExprs, I
 use Rattle.go_syntax.specs.grammar.SourceFiles.{IsImportSpec, import_plain, import_named, IsImports, imports_none, imports_more, IsDecls, decls_none, decls_more, IsSourceFile, file as is_file}
 use Rattle.go_syntax.specs.grammar.Symbols.{Rule, Takes, TakesName, begins, begins_type}
 use Rattle.go_syntax.specs.grammar.Terminals.{Terminal}
-use Rattle.go_parse.specs.Declarations.{spec_item, specs, group, values, typed_const, const_end, const_spec, typed_var, var_end, var_spec, type_end, type_spec, only_receiver, receiver, optional_body, func_end, func, with_semicolon, decl_item, decls, import_at, import_path, import_spec, import_item, put_all, step_all, imports, package_name, package_clause, file}
-use Rattle.go_parse.specs.Reading.{Found, Reader, Next, Stop, Fail, More, bind, turn, loop, run, expect, close, name, begins_name, string_at}
-use Rattle.go_parse.specs.Rules.{Parts, names, exprs, parameters}
-use Rattle.go_parse.proofs.SoundParts.{SoundParts}
-use Rattle.go_parse.proofs.SoundPosts.{exprs_sound}
-use Rattle.go_parse.proofs.SoundSignatures.{parameters_sound}
-use Rattle.go_parse.proofs.Steps.{Sound, SoundTurn, with_bind, branch, same, taken, expected, closed, named_by, string_taken, after_more, item_if, Adds, run_sound, from_none, Ending, ending_item_sound, names_sound}
+use Rattle.go_cursor.specs.Names.{names}
+use Rattle.go_parse.specs.Declarations.{specs, group, values, typed_const, const_end, const_spec, typed_var, var_end, var_spec, type_end, type_spec, only_receiver, receiver, optional_body, func_end, func, with_semicolon, decl_item, decls, import_at, import_path, import_spec, import_item, imports, package_name, package_clause, file}
+use Rattle.go_cursor.specs.Reading.{Found, Reader, Next, Stop, Fail, More, bind, turn, loop, run, expect, close, name, begins_name, string_at, spec_item, put_all, step_all}
+use Rattle.go_exprs.specs.Rules.{Parts, exprs, parameters}
+use Rattle.go_exprs.proofs.SoundParts.{SoundParts}
+use Rattle.go_exprs.proofs.SoundPosts.{exprs_sound}
+use Rattle.go_exprs.proofs.SoundSignatures.{parameters_sound}
+use Rattle.go_cursor.proofs.Steps.{Sound, SoundTurn, with_bind, branch, same, taken, expected, closed, named_by, string_taken, after_more, item_if, Adds, run_sound, from_none, Ending, ending_item_sound, names_sound}
 
 -- Groups
 
@@ -43,7 +44,7 @@ module _ {A : Type 0} (X : Rule A) (read : Reader A) (sound : Sound X read) wher
 
 -- Specs and functions, above the readers of their parts
 
-module _ (Body : ℕ → Rule Block) (h : ℕ) (l : Parts) (s : SoundParts Body l (suc h)) where
+module _ (Body : ℕ → Rule BodyRange) (h : ℕ) (l : Parts) (s : SoundParts Body l (suc h)) where
   values_sound : {A : Type 0} (D : Rule A) (made : List Expr → A) (ts u : List Terminal) → ((xs : List Expr) (w : List Terminal) → IsExprs Body true h u xs w → D ts (made xs) w)
       → (a : A) (rest : List Terminal) → values made l u ≡ Some (a, rest) → D ts a rest
   unfolding values
@@ -184,7 +185,7 @@ unfolding package_clause
 package_clause_sound ts n rest e = with_bind (expect kind.PackageWord ts) _ e (λ _ u ep en. with_bind (package_name u) _ en (λ m v em ec.
     closed IsPackageClause kind.Semicolon ts v (λ w t. (u, v, expected kind.PackageWord ts ep, package_name_sound u m v em, t)) ec))
 
-module _ (Body : ℕ → Rule Block) (h : ℕ) (l : Parts) (s : SoundParts Body l (suc h)) where
+module _ (Body : ℕ → Rule BodyRange) (h : ℕ) (l : Parts) (s : SoundParts Body l (suc h)) where
   -- what the reader of files finds, where nothing is left, is a source file
   pub file_sound : (ts : List Terminal) (f : File) → file l ts ≡ Some (f, []) → IsSourceFile Body h ts f
   unfolding file

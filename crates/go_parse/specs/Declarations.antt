@@ -1,4 +1,5 @@
 -- What the readers of declarations and of a source file find, where the readers of the parts are given.
+-- Own: how the parser reads what the grammar derives.
 use Rattle.std.specs.Prelude.{ℕ, Bool, true, false, if◌then◌else◌, List, [], ◌∷◌, ◌++◌, drop, Option, Some, None, codes}
 use Rattle.std.specs.Str.{bytes_eq}
 use Rattle.go_syntax.specs.declared.declaration.ConstSpec.{ConstSpec}
@@ -11,7 +12,7 @@ use Rattle.go_syntax.specs.declared.declaration.TypeSpec.{TypeSpec}
 use Rattle.go_syntax.specs.declared.declaration.VarSpec.{VarSpec}
 use Rattle.go_syntax.specs.declared.expression.Expr.{Expr}
 use Rattle.go_syntax.specs.declared.name.Name.{Name}
-use Rattle.go_syntax.specs.declared.statement.Block.{Block}
+use Rattle.go_syntax.specs.declared.body.BodyRange.{BodyRange}
 use Rattle.go_syntax.specs.declared.types.ParameterDecl.{ParameterDecl, out-ParameterDecl}
 use Rattle.go_syntax.specs.declared.types.«Type».{«Type» as Typ}
 use Rattle.go_syntax.specs.declared.token.TokenKind.TheVariants as kind
@@ -21,13 +22,11 @@ use Rattle.go_syntax.specs.grammar.Grammar.{is_variadic, at_most_one}
 use Rattle.go_syntax.specs.grammar.SourceFiles.{import, source_file}
 use Rattle.go_syntax.specs.grammar.Symbols.{begins, begins_type, closes}
 use Rattle.go_syntax.specs.grammar.Terminals.{Terminal}
-use Rattle.go_parse.specs.Reading.{Found, Reader, Next, Stop, Fail, More, bind, after, run, step_of, expect, close, ended, name, begins_name, string_at}
-use Rattle.go_parse.specs.Rules.{Parts, names, exprs, parameters}
+use Rattle.go_cursor.specs.Names.{names}
+use Rattle.go_cursor.specs.Reading.{Found, Reader, Next, Stop, Fail, More, bind, after, run, step_of, expect, close, ended, spec_item, step_all, name, begins_name, string_at}
+use Rattle.go_exprs.specs.Rules.{Parts, exprs, parameters}
 
 -- Groups
-
-abbrev pub spec_item : {A : Type 0} → Reader A → List Terminal → Next A
-spec_item item ts = if closes ts then Stop else after (bind (item ts) ended)
 
 unfoldable pub specs : {A : Type 0} → Reader A → Reader (List A)
 specs item ts = run (step_of (spec_item item)) [] ts
@@ -83,7 +82,7 @@ only_receiver (d ∷ e ∷ ds) ts = None
 unfoldable pub receiver : Parts → Reader (Option ParameterDecl)
 receiver l ts = if begins kind.LeftParen ts then bind (parameters l.typ ts) only_receiver else Some (None, ts)
 
-unfoldable pub optional_body : Parts → Reader (Option Block)
+unfoldable pub optional_body : Parts → Reader (Option BodyRange)
 optional_body l ts = if begins kind.LeftBrace ts then bind (l.body ts) (λ b u. Some (Some b, u)) else Some (None, ts)
 
 -- from the name on
@@ -125,15 +124,6 @@ import_spec ts = if begins_name ts then bind (name ts) (λ n. import_path (Some 
 
 unfoldable pub import_item : List Terminal → Next (List ImportSpec)
 import_item ts = if begins kind.ImportWord ts then with_semicolon (λ xs. xs) (group import_spec (drop 1 ts)) else Stop
-
--- all of these items more
-abbrev pub put_all : {A : Type 0} → List A → Next (List A) → Next (List A)
-put_all acc Stop = Stop
-put_all acc Fail = Fail
-put_all acc (More xs ts) = More (acc ++ xs) ts
-
-abbrev pub step_all : {A : Type 0} → (List Terminal → Next (List A)) → List A → List Terminal → Next (List A)
-step_all item acc ts = put_all acc (item ts)
 
 unfoldable pub imports : Reader (List ImportSpec)
 imports ts = run (step_all import_item) [] ts

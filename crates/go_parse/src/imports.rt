@@ -3,13 +3,13 @@ ghost use Rattle.std.specs.Prelude.{◌≡◌, ◌++◌, IfOk};
 ghost use Rattle.go_syntax.specs.declared.token.TokenKind.TheVariants as kind;
 ghost use Rattle.go_syntax.specs.grammar.Terminals.{terminals};
 ghost use Rattle.go_parse.specs.Declarations as rules;
-ghost use Rattle.go_parse.specs.Reading.{bind, close};
-ghost use Rattle.go_parse.specs.Reads.{Reads, ReadsNext};
+ghost use Rattle.go_cursor.specs.Reading.{bind, close};
+ghost use Rattle.go_cursor.specs.Reads.{Reads, ReadsNext};
 
-use crate::cursor::Cursor;
-use crate::error::ParseError;
 use go_base::list::List;
 use go_base::memory::NoMemory;
+use go_cursor::cursor::Cursor;
+use go_cursor::error::ParseError;
 use go_syntax::declaration::ImportSpec;
 use go_syntax::name::Name;
 use go_syntax::token::TokenKind;
@@ -61,7 +61,7 @@ fn import_specs(alloc: Global, tokens: &mut Cursor<'_>) -> Result<List<ImportSpe
 }
 
 /// An import, or imports in brackets.
-#[tactic(auto, unfolding(crate::specs::Declarations::group, crate::specs::Reading::close, crate::specs::Reading::expect))]
+#[tactic(auto, unfolding(crate::specs::Declarations::group, go_cursor::specs::Reading::close, go_cursor::specs::Reading::expect))]
 fn import_group(alloc: Global, tokens: &mut Cursor<'_>) -> Result<List<ImportSpec>, ParseError>
     ensures { Reads (rules.group rules.import_spec (terminals tokens.old)) result tokens.new }
 {
@@ -77,7 +77,7 @@ fn import_group(alloc: Global, tokens: &mut Cursor<'_>) -> Result<List<ImportSpe
 }
 
 /// An import declaration, from behind `import` on, and the semicolon after it.
-#[tactic(auto, unfolding(crate::specs::Reading::close, crate::specs::Reading::expect))]
+#[tactic(auto, unfolding(go_cursor::specs::Reading::close, go_cursor::specs::Reading::expect))]
 fn import_decl(alloc: Global, tokens: &mut Cursor<'_>) -> Result<List<ImportSpec>, ParseError>
     ensures { Reads (bind (rules.group rules.import_spec (terminals tokens.old)) (λ xs. close kind.Semicolon xs)) result tokens.new }
 {

@@ -5,14 +5,14 @@ ghost use Rattle.go_syntax.specs.grammar.Terminals.{terminals};
 ghost use Rattle.go_syntax.specs.declared.declaration.File.{File};
 ghost use Rattle.go_syntax.specs.declared.token.Token.{Token};
 ghost use Rattle.go_parse.specs.Declarations as rules;
-ghost use Rattle.go_parse.specs.Levels.{levels, ReadsBelow};
-ghost use Rattle.go_parse.specs.Reads.{Reads};
+ghost use Rattle.go_exprs.specs.Levels.{levels};
+ghost use Rattle.go_cursor.specs.Reads.{Reads};
 
-use crate::cursor::Cursor;
-use crate::error::ParseError;
-use crate::grammar::{Grammar, Part, PartTree};
+use crate::declarations::decls;
 use crate::imports::imports;
-use crate::levels::below;
+use go_cursor::cursor::Cursor;
+use go_cursor::error::ParseError;
+use go_exprs::readers::Readers;
 use go_syntax::declaration::File;
 use go_syntax::name::Name;
 use go_syntax::token::{Token, TokenKind};
@@ -34,7 +34,7 @@ fn package_name(alloc: Global, tokens: &mut Cursor<'_>) -> Result<Name, ParseErr
 }
 
 /// `package p;`.
-#[tactic(auto, unfolding(crate::specs::Declarations::package_clause, crate::specs::Reading::close, crate::specs::Reading::expect))]
+#[tactic(auto, unfolding(crate::specs::Declarations::package_clause, go_cursor::specs::Reading::close, go_cursor::specs::Reading::expect))]
 fn package_clause(alloc: Global, tokens: &mut Cursor<'_>) -> Result<Name, ParseError>
     ensures { Reads (rules.package_clause (terminals tokens.old)) result tokens.new }
 {
@@ -44,34 +44,30 @@ fn package_clause(alloc: Global, tokens: &mut Cursor<'_>) -> Result<Name, ParseE
     Ok(name)
 }
 
-impl<F: Fn(Global, &mut Cursor<'_>, usize, Part) -> Result<PartTree, ParseError>> Grammar<F> {
-    /// A file.
-    #[tactic(auto, unfolding(crate::specs::Declarations::file))]
-    fn file(&self, tokens: &mut Cursor<'_>) -> Result<File, ParseError>
-        requires { ReadsBelow self.now.height (F.pre self.now.below) (F.post self.now.below) }
-        ensures { Reads (rules.file (levels self.now.height) (terminals tokens.old)) result tokens.new }
-    {
-        let package = package_clause(self.alloc, tokens)?;
-        let imports = imports(self.alloc, tokens)?;
-        let decls = self.decls(tokens)?;
-        Ok(File {
-            package,
-            imports,
-            decls: decls.take(),
-        })
-    }
+/// A file whose trees are of a height below that of these readers.
+#[tactic(auto, unfolding(crate::specs::Declarations::file))]
+fn file_below(readers: &Readers, tokens: &mut Cursor<'_>) -> Result<File, ParseError>
+    ensures { Reads (rules.file (levels readers.now.height) (terminals tokens.old)) result tokens.new }
+{
+    let package = package_clause(readers.alloc, tokens)?;
+    let imports = imports(readers.alloc, tokens)?;
+    let decls = decls(readers, tokens)?;
+    Ok(File {
+        package,
+        imports,
+        decls: decls.take(),
+    })
 }
 
 /// A file whose trees are of a height up to the greatest.
 fn file(alloc: Global, tokens: &mut Cursor<'_>) -> Result<File, ParseError>
     ensures { Reads (rules.file (levels 257) (terminals tokens.old)) result tokens.new }
 {
-    Grammar {
+    let readers = Readers {
         alloc,
         height: MAX_HEIGHT + 1,
-        below,
-    }
-    .file(tokens)
+    };
+    file_below(&readers, tokens)
 }
 
 /// A tree after which no token is left.

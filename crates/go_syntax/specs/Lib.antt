@@ -1,3 +1,4 @@
+pub mod Literals
 pub mod References
 pub mod grammar
 pub mod lexical

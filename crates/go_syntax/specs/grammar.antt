@@ -1,6 +1,7 @@
 pub mod Brackets
 pub mod Declarations
 pub mod Grammar
+pub mod ParsedBodies
 pub mod SourceFiles
 pub mod Statements
 pub mod Symbols

@@ -1,10 +1,10 @@
 //! Files and declarations.
-use go_base::boxed::Box;
-use go_base::list::List;
+use crate::body::BodyRange;
 use crate::expression::Expr;
 use crate::name::Name;
-use crate::statement::Block;
 use crate::types::{ParameterDecl, Signature, Type};
+use go_base::boxed::Box;
+use go_base::list::List;
 use go_base::text::Text;
 
 /// A source file.
@@ -45,7 +45,6 @@ pub enum Decl {
 
 /// Constants. One without values, which then has no type either, repeats type and values of the
 /// nearest earlier spec of its group that has values.
-#[cycle(syntax)]
 #[derive(Drop)]
 pub struct ConstSpec {
     pub names: List<Name>,
@@ -54,7 +53,6 @@ pub struct ConstSpec {
 }
 
 /// Variables, with a type, values or both.
-#[cycle(syntax)]
 #[derive(Drop)]
 pub struct VarSpec {
     pub names: List<Name>,
@@ -76,5 +74,5 @@ pub struct Func {
     pub receiver: Option<ParameterDecl>,
     pub name: Name,
     pub signature: Signature,
-    pub body: Option<Block>,
+    pub body: Option<BodyRange>,
 }

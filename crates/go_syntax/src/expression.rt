@@ -1,10 +1,10 @@
 //! Expressions.
+use crate::body::BodyRange;
+use crate::name::Name;
+use crate::types::{Signature, Type};
 use go_base::boxed::Box;
 use go_base::list::List;
-use crate::name::Name;
 use go_base::operator::{CompareOp, PrefixOperator, ProductOperator, SumOperator};
-use crate::statement::Block;
-use crate::types::{Signature, Type};
 use go_base::text::Text;
 
 /// An expression. The first five variants are chains of two operands and more: the first operand,
@@ -22,7 +22,8 @@ pub enum Expr {
     Primary(Box<Expr>, List<Post>),
     Literal(Literal),
     Name(Name),
-    FuncLit(Signature, Block),
+    /// The body, whose statements stand outside of this tree.
+    FuncLit(Signature, BodyRange),
     Composite(Type, List<Element>),
     /// The element type of `[...]T`, and the elements.
     CompositeArray(Type, List<Element>),

@@ -4,6 +4,7 @@
 //! grows with the length of a file.
 #![tactic(auto)]
 
+pub mod body;
 pub mod declaration;
 pub mod expression;
 pub mod held;

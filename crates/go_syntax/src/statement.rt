@@ -1,22 +1,29 @@
 //! Statements, which stand in the bodies of a client's functions.
-use go_base::boxed::Box;
-use go_base::list::List;
 use crate::declaration::{ConstSpec, VarSpec};
 use crate::expression::Expr;
 use crate::name::Name;
-use go_base::operator::{AssignOperator, StepOperator};
 use crate::types::Type;
+use go_base::boxed::Box;
+use go_base::list::List;
+use go_base::operator::{AssignOperator, StepOperator};
 
-/// The body of a function: skipped, with the offsets of its `{` and after its `}`, or parsed.
-#[cycle(syntax)]
+/// The body of a function with its statements, and the blocks of the function literals in it, in the order of
+/// their places.
 #[derive(Drop)]
-pub enum Block {
-    Skipped { start: u32, end: u32 },
-    Parsed(List<Stmt>),
+pub struct ParsedBody {
+    pub block: List<Stmt>,
+    pub literals: List<LiteralBlock>,
+}
+
+/// The statements of a function literal, and the byte offset of its `{`.
+#[derive(Drop)]
+pub struct LiteralBlock {
+    pub start: u32,
+    pub block: List<Stmt>,
 }
 
 /// A statement, and the byte offset at which it starts.
-#[cycle(syntax)]
+#[cycle(statements)]
 #[derive(Drop)]
 pub struct Stmt {
     pub start: u32,
@@ -25,7 +32,7 @@ pub struct Stmt {
 
 /// What a statement is. The variants from `Expr` to `Define` are the simple statements, and a
 /// statement in a control clause is one of these.
-#[cycle(syntax)]
+#[cycle(statements)]
 #[derive(Drop)]
 pub enum StmtKind {
     Empty,
@@ -45,23 +52,23 @@ pub enum StmtKind {
     Continue(Option<Name>),
     Goto(Name),
     Fallthrough,
-    Block(Block),
+    Block(List<Stmt>),
     /// What follows `else` is an `If` or a `Block`.
-    If(Option<Box<Stmt>>, Expr, Block, Option<Box<Stmt>>),
+    If(Option<Box<Stmt>>, Expr, List<Stmt>, Option<Box<Stmt>>),
     Switch(Option<Box<Stmt>>, Option<Expr>, List<Case>),
     /// The name that the clauses bind, and the operand before `.(type)`.
     TypeSwitch(Option<Box<Stmt>>, Option<Name>, Expr, List<TypeCase>),
     Select(List<SelectCase>),
-    For(Option<Box<Stmt>>, Option<Expr>, Option<Box<Stmt>>, Block),
+    For(Option<Box<Stmt>>, Option<Expr>, Option<Box<Stmt>>, List<Stmt>),
     /// A `for` with a condition alone, or with none.
-    While(Option<Expr>, Block),
-    Range(Expr, Block),
-    RangeAssign(List<Expr>, Expr, Block),
-    RangeDefine(List<Name>, Expr, Block),
+    While(Option<Expr>, List<Stmt>),
+    Range(Expr, List<Stmt>),
+    RangeAssign(List<Expr>, Expr, List<Stmt>),
+    RangeDefine(List<Name>, Expr, List<Stmt>),
 }
 
 /// A clause of a `switch`: without values it is `default`.
-#[cycle(syntax)]
+#[cycle(statements)]
 #[derive(Drop)]
 pub struct Case {
     pub values: Option<List<Expr>>,
@@ -69,7 +76,7 @@ pub struct Case {
 }
 
 /// A clause of a type switch: without types it is `default`.
-#[cycle(syntax)]
+#[cycle(statements)]
 #[derive(Drop)]
 pub struct TypeCase {
     pub types: Option<List<Type>>,
@@ -77,7 +84,7 @@ pub struct TypeCase {
 }
 
 /// A clause of a `select`: without communication it is `default`.
-#[cycle(syntax)]
+#[cycle(statements)]
 #[derive(Drop)]
 pub struct SelectCase {
     pub communication: Option<Box<Stmt>>,

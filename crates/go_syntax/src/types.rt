@@ -1,8 +1,8 @@
 //! Types as they are written.
-use go_base::boxed::Box;
-use go_base::list::List;
 use crate::expression::Expr;
 use crate::name::{Name, QualifiedName};
+use go_base::boxed::Box;
+use go_base::list::List;
 use go_base::text::Text;
 
 /// A type.

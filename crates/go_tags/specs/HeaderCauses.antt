@@ -1,4 +1,5 @@
 -- Why a file has no header.
+-- Public source: "Build constraints" of Go's package go/build; that a plus line alone is refused is own.
 use Rattle.std.specs.Prelude.{◌≡◌, ◌≢◌, ◌≤◌, ℕ, List, [], ◌∷◌, length, true}
 use Rattle.go_model.specs.declared.files.build.Constraint.{Constraint}
 use Rattle.go_model.specs.files.BuildConstraints.{IsExpression}

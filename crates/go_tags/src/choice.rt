@@ -3,7 +3,7 @@ ghost use Rattle.std.specs.Prelude.{◌≡◌, ◌++◌, ◌∷◌, [], None, So
 ghost use Rattle.std.specs.List.{position, before_first, list_any, list_all};
 ghost use Rattle.go_model.specs.files.BuildTags.{is_satisfied};
 ghost use Rattle.go_model.specs.files.BuildValues.{last_demanded, holds, name_parts, without_test, demanded, name_holds, is_chosen};
-ghost use Rattle.go_tags.specs.NameParts.{parts_back, IsCutAtLast};
+ghost use Rattle.go_tags.specs.inner.NameParts.{parts_back, IsCutAtLast};
 
 use crate::tags::{is_known_architecture, is_known_system, is_satisfied};
 use go_model::files::build::Constraint;

@@ -1,23 +1,25 @@
 //! The package clause of a file.
 ghost use Rattle.std.specs.Prelude.{◌≡◌, ℕ, List, length, take, drop, MatchOption, codes, option_map, IfSome, IsNone, IsTrue, ◌↔◌};
+ghost use Rattle.go_base.specs.Keywords.{keywords};
 ghost use Rattle.go_model.specs.files.BuildTags.{is_one_of};
 ghost use Rattle.go_base.specs.Characters.{is_letter, is_name_character, BeginsPassing, IsRun};
-ghost use Rattle.go_tags.specs.Clauses.{IsBehindKeyword};
-ghost use Rattle.go_model.specs.files.Headers.{keywords, IsPackageName, BeginsClause, IsClause};
+ghost use Rattle.go_tags.specs.inner.PackageKeyword.{IsBehindKeyword};
+ghost use Rattle.go_model.specs.files.Headers.{IsPackageName, BeginsClause, IsClause};
 
-use crate::words::is_one_of;
+use crate::names::is_one_of;
 use go_base::characters::{Alphabet, begins_with_letter, run_len};
 use go_base::comments::past_front;
 
 #[rattlefmt::skip]
 const KEYWORDS: [&[u8]; 25] = [
-    b"break",  b"case",   b"chan",        b"const",   b"continue", b"default",   b"defer",
-    b"else",   b"fallthrough", b"for",    b"func",    b"go",       b"goto",      b"if",
-    b"import", b"interface",   b"map",    b"package", b"range",    b"return",    b"select",
-    b"struct", b"switch", b"type",        b"var",
+    b"go",      b"if",      b"for",      b"map",       b"var",
+    b"case",    b"chan",    b"else",     b"func",      b"goto",   b"type",
+    b"break",   b"const",   b"defer",    b"range",
+    b"import",  b"return",  b"select",   b"struct",    b"switch",
+    b"default", b"package", b"continue", b"interface", b"fallthrough",
 ];
 
-#[tactic(auto, unfolding(go_model::specs::files::Headers::keywords))]
+#[tactic(auto, unfolding(go_base::specs::Keywords::keywords))]
 fn is_keyword(word: &[u8]) -> bool
     ensures { result ≡ is_one_of keywords word.now }
 {
@@ -30,7 +32,7 @@ fn is_package_name(name: &[u8]) -> bool
     begins_with_letter(name) && !is_keyword(name) && name != b"_".as_slice()
 }
 
-/// What follows the word `package` in front, and follows it apart.
+/// What follows the word `package` at the start, and follows it apart.
 fn past_keyword(bytes: &[u8]) -> Option<&[u8]>
     ensures some { IfSome result (λ behind. IsBehindKeyword bytes.now behind.now) }
     ensures none { IsNone result → (behind : List ℕ) → IsBehindKeyword bytes.now behind → ⊥ }

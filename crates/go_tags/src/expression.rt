@@ -2,20 +2,20 @@
 //! parentheses as a parameter.
 ghost use Rattle.std.specs.Prelude.{◌≡◌, ◌≢◌, ℕ, List as Sequence, [], IfOk, IfErr};
 ghost use Rattle.go_model.specs.files.BuildConstraints as grammar;
-ghost use Rattle.go_tags.specs.Reading as reading;
+ghost use Rattle.go_tags.specs.inner.RecursiveDescent as descent;
 ghost use Rattle.go_model.specs.files.BuildConstraints.{IsOr, IsExpression};
 ghost use Rattle.go_model.specs.declared.files.build.Constraint.{Constraint};
-ghost use Rattle.go_tags.specs.Causes.{OrCause, ExpressionCause};
-ghost use Rattle.go_tags.specs.Reads.{Reads, ReadsBelow};
+ghost use Rattle.go_tags.specs.inner.ExpressionCauses.{OrCause, ExpressionCause};
+ghost use Rattle.go_tags.specs.inner.ParserAnswers.{Reads, ReadsBelow};
 
 use crate::cursor::Cursor;
 use crate::error::TagError;
 use crate::parts::parts_of;
 use go_base::boxed::Box;
-use go_model::files::build::{Constraint, ConstraintPart};
 use go_base::list::List;
 use go_base::memory::NoMemory;
 use go_base::text::Text;
+use go_model::files::build::{Constraint, ConstraintPart};
 use std::alloc::Global;
 
 /// The rules, over a reader of expressions with parentheses less deep than `depth`.
@@ -55,13 +55,13 @@ fn and_chain(
 impl<F: Fn(Global, &mut Cursor<'_>, usize) -> Result<Constraint, TagError>> Grammar<F> {
     fn inner(&self, parts: &mut Cursor<'_>) -> Result<Constraint, TagError>
         requires { ReadsBelow self.now.depth (F.pre self.now.inner) (F.post self.now.inner) }
-        ensures { Reads (reading.or_below self.now.depth parts.old) result parts.new }
+        ensures { Reads (descent.or_below self.now.depth parts.old) result parts.new }
     {
         (self.inner)(self.alloc, parts, self.depth)
     }
 
     fn close(&self, parts: &mut Cursor<'_>, inner: Constraint) -> Result<Constraint, TagError>
-        ensures { Reads (reading.closed (Constraint.Paren inner) parts.old) result parts.new }
+        ensures { Reads (descent.closed (Constraint.Paren inner) parts.old) result parts.new }
     {
         match parts.peek() {
             Some(ConstraintPart::Close) => {
@@ -72,10 +72,10 @@ impl<F: Fn(Global, &mut Cursor<'_>, usize) -> Result<Constraint, TagError>> Gram
         }
     }
 
-    #[tactic(auto, unfolding(crate::specs::Reading::operand_of))]
+    #[tactic(auto, unfolding(crate::specs::inner::RecursiveDescent::operand_of))]
     fn operand(&self, parts: &mut Cursor<'_>) -> Result<Constraint, TagError>
         requires { ReadsBelow self.now.depth (F.pre self.now.inner) (F.post self.now.inner) }
-        ensures { Reads (reading.operand_of (reading.or_below self.now.depth) parts.old) result parts.new }
+        ensures { Reads (descent.operand_of (descent.or_below self.now.depth) parts.old) result parts.new }
     {
         match parts.peek() {
             Some(ConstraintPart::Tag(name)) => {
@@ -91,10 +91,10 @@ impl<F: Fn(Global, &mut Cursor<'_>, usize) -> Result<Constraint, TagError>> Gram
         }
     }
 
-    #[tactic(auto, unfolding(crate::specs::Reading::not_of))]
+    #[tactic(auto, unfolding(crate::specs::inner::RecursiveDescent::not_of))]
     fn not(&self, parts: &mut Cursor<'_>) -> Result<Constraint, TagError>
         requires { ReadsBelow self.now.depth (F.pre self.now.inner) (F.post self.now.inner) }
-        ensures { Reads (reading.not_of (reading.or_below self.now.depth) parts.old) result parts.new }
+        ensures { Reads (descent.not_of (descent.or_below self.now.depth) parts.old) result parts.new }
     {
         if let Some(ConstraintPart::Not) = parts.peek() {
             parts.advance();
@@ -106,7 +106,7 @@ impl<F: Fn(Global, &mut Cursor<'_>, usize) -> Result<Constraint, TagError>> Gram
 
     fn ands(&self, parts: &mut Cursor<'_>) -> Result<List<Constraint>, TagError>
         requires { ReadsBelow self.now.depth (F.pre self.now.inner) (F.post self.now.inner) }
-        ensures { Reads (reading.all_turns (reading.and_turn (reading.not_of (reading.or_below self.now.depth))) [] parts.old) result parts.new }
+        ensures { Reads (descent.all_turns (descent.and_turn (descent.not_of (descent.or_below self.now.depth))) [] parts.old) result parts.new }
     {
         let mut operands = List::new(self.alloc);
         for _turn in 0..parts.len() {
@@ -122,10 +122,10 @@ impl<F: Fn(Global, &mut Cursor<'_>, usize) -> Result<Constraint, TagError>> Gram
         Ok(operands)
     }
 
-    #[tactic(auto, unfolding(crate::specs::Reading::and_of, crate::specs::Reading::chain_of))]
+    #[tactic(auto, unfolding(crate::specs::inner::RecursiveDescent::and_of, crate::specs::inner::RecursiveDescent::chain_of))]
     fn and(&self, parts: &mut Cursor<'_>) -> Result<Constraint, TagError>
         requires { ReadsBelow self.now.depth (F.pre self.now.inner) (F.post self.now.inner) }
-        ensures { Reads (reading.and_of (reading.or_below self.now.depth) parts.old) result parts.new }
+        ensures { Reads (descent.and_of (descent.or_below self.now.depth) parts.old) result parts.new }
     {
         let first = self.not(parts)?;
         let others = self.ands(parts)?;
@@ -134,7 +134,7 @@ impl<F: Fn(Global, &mut Cursor<'_>, usize) -> Result<Constraint, TagError>> Gram
 
     fn ors(&self, parts: &mut Cursor<'_>) -> Result<List<Constraint>, TagError>
         requires { ReadsBelow self.now.depth (F.pre self.now.inner) (F.post self.now.inner) }
-        ensures { Reads (reading.all_turns (reading.or_turn (reading.and_of (reading.or_below self.now.depth))) [] parts.old) result parts.new }
+        ensures { Reads (descent.all_turns (descent.or_turn (descent.and_of (descent.or_below self.now.depth))) [] parts.old) result parts.new }
     {
         let mut operands = List::new(self.alloc);
         for _turn in 0..parts.len() {
@@ -150,10 +150,10 @@ impl<F: Fn(Global, &mut Cursor<'_>, usize) -> Result<Constraint, TagError>> Gram
         Ok(operands)
     }
 
-    #[tactic(auto, unfolding(crate::specs::Reading::or_of, crate::specs::Reading::chain_of))]
+    #[tactic(auto, unfolding(crate::specs::inner::RecursiveDescent::or_of, crate::specs::inner::RecursiveDescent::chain_of))]
     fn or(&self, parts: &mut Cursor<'_>) -> Result<Constraint, TagError>
         requires { ReadsBelow self.now.depth (F.pre self.now.inner) (F.post self.now.inner) }
-        ensures { Reads (reading.or_of (reading.or_below self.now.depth) parts.old) result parts.new }
+        ensures { Reads (descent.or_of (descent.or_below self.now.depth) parts.old) result parts.new }
     {
         let first = self.and(parts)?;
         let others = self.ors(parts)?;
@@ -163,7 +163,7 @@ impl<F: Fn(Global, &mut Cursor<'_>, usize) -> Result<Constraint, TagError>> Gram
 
 /// An expression with parentheses less deep than `depth`.
 fn or_below(alloc: Global, parts: &mut Cursor<'_>, depth: usize) -> Result<Constraint, TagError>
-    ensures { Reads (reading.or_below depth parts.old) result parts.new }
+    ensures { Reads (descent.or_below depth parts.old) result parts.new }
 {
     if depth == 0 {
         return Err(TagError::BadExpression);
@@ -210,8 +210,3 @@ pub fn expression_of(alloc: Global, text: &[u8]) -> Result<Constraint, TagError>
     let parts = parts_of(alloc, text)?;
     read_parts(alloc, parts.items())
 }
-
-/// A text is at most one build expression.
-pub fn one_expression()
-    ensures { (text : Sequence ℕ) (x y : Constraint) → IsExpression text x → IsExpression text y → x ≡ y }
-{}

@@ -4,16 +4,16 @@ ghost use Rattle.go_base.specs.Comments.{without_mark};
 ghost use Rattle.go_model.specs.files.Headers.{IsHeader, IsConstraint, IsClause, build_texts, has_plus_line};
 ghost use Rattle.go_model.specs.declared.files.build.Header.{Header};
 ghost use Rattle.go_tags.specs.HeaderCauses.{HasCause, ConstraintCause, IsOwnCause};
-ghost use Rattle.go_tags.specs.Lines.{Sums};
+ghost use Rattle.go_tags.specs.inner.HeaderLines.{Sums};
 ghost use Rattle.go_tags.specs.declared.error.TagError.{TagError};
 
 use crate::clause::clause_name;
 use crate::error::TagError;
 use crate::expression::expression_of;
-use crate::lines::{BuildLines, Lines, scan_front};
-use go_model::files::build::{Constraint, Header};
+use crate::lines::{BuildLines, Lines, scan_header};
 use go_base::memory::NoMemory;
 use go_base::text::Text;
+use go_model::files::build::{Constraint, Header};
 use std::alloc::Global;
 
 fn without_mark(bytes: &[u8]) -> &[u8]
@@ -56,20 +56,13 @@ fn clause_of(alloc: Global, rest: &[u8]) -> Result<Option<Text>, NoMemory>
 ///
 /// Errors, of which at most one applies: `Twice` exactly where there are two build lines or more,
 /// `BadExpression` exactly where there is one and its rest is no build expression, `PlusBuild`
-/// exactly where there is a plus line and no build line.
+/// exactly where there is a plus line and no build line. `NoMemory` may come at any time.
 pub fn header(alloc: Global, bytes: &[u8]) -> Result<Header, TagError>
     ensures header { IfOk result (IsHeader bytes.now) }
     ensures cause { IfErr result (HasCause bytes.now) }
 {
-    let scan = scan_front(without_mark(bytes));
+    let scan = scan_header(without_mark(bytes));
     let constraint = constraint_of(alloc, scan.lines)?;
     let clause = clause_of(alloc, scan.rest)?;
     Ok(Header { constraint, clause })
 }
-
-/// A file has at most one header, at most one cause, and not both.
-pub fn one_header()
-    ensures header { (bytes : List ℕ) (one two : Header) → IsHeader bytes one → IsHeader bytes two → one ≡ two }
-    ensures cause { (bytes : List ℕ) (one two : TagError) → IsOwnCause one → IsOwnCause two → HasCause bytes one → HasCause bytes two → one ≡ two }
-    ensures either { (bytes : List ℕ) (header : Header) (error : TagError) → IsOwnCause error → HasCause bytes error → IsHeader bytes header → ⊥ }
-{}

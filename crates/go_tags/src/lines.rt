@@ -1,10 +1,10 @@
 //! Build lines among the comments of a header.
 ghost use Rattle.std.specs.Prelude.{◌≡◌, ◌++◌, ◌∷◌, [], ℕ, List, Option, option_map, codes, true, ◌≤◌, length, if◌then◌else◌, Bool, IfSome, ◌||◌};
 ghost use Rattle.std.specs.List.{prefix_len};
-ghost use Rattle.go_model.specs.files.BuildConstraints.{is_blank};
+ghost use Rattle.go_base.specs.Comments.{is_blank};
 ghost use Rattle.go_base.specs.Comments.{starts_with, IsFront};
 ghost use Rattle.go_model.specs.files.Headers.{build_texts, ends_word, after_word, build_text, without_blanks, is_plus_line, is_open_after, opening_comment, opening_comments};
-ghost use Rattle.go_tags.specs.Lines.{Counts, Sums, IsScan};
+ghost use Rattle.go_tags.specs.inner.HeaderLines.{Counts, Sums, IsScan};
 
 use go_base::comments::piece_len;
 
@@ -122,8 +122,9 @@ fn with_piece<'a>(lines: Lines<'a>, is_open: bool, piece: &'a [u8]) -> Lines<'a>
     }
 }
 
-/// The build lines and plus lines in front of the bytes, and what follows the front.
-pub fn scan_front(bytes: &[u8]) -> Scan<'_>
+/// The build lines and plus lines before the first byte that is neither white space nor comment, and
+/// what follows.
+pub fn scan_header(bytes: &[u8]) -> Scan<'_>
     ensures { IsScan bytes.now result.lines result.rest.now }
 {
     let mut lines = Lines {

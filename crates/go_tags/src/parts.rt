@@ -1,17 +1,17 @@
 //! The text of a build expression, cut into signs and tags.
 ghost use Rattle.std.specs.Prelude.{◌≡◌, ◌≢◌, ◌<◌, ◌≤◌, length, IfOk, IfErr, OnOk, None, [], ◌++◌};
 ghost use Rattle.go_model.specs.files.BuildConstraints.{AreParts};
-ghost use Rattle.go_tags.specs.Parts.{is_next, sign_at, onto, BeginsStep, PartsCause};
+ghost use Rattle.go_tags.specs.inner.ExpressionParts.{is_next, sign_at, onto, BeginsStep, PartsCause};
 
 use crate::error::TagError;
-use go_model::files::build::ConstraintPart;
 use go_base::characters::{Alphabet, run_len};
 use go_base::list::List;
 use go_base::memory::NoMemory;
 use go_base::text::Text;
+use go_model::files::build::ConstraintPart;
 use std::alloc::Global;
 
-/// What stands at the front of a text: a part, or a blank, and its length in bytes.
+/// What stands at the start of a text: a part, or a blank, and its length in bytes.
 #[derive(Drop)]
 struct Step {
     part: Option<ConstraintPart>,

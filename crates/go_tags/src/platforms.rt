@@ -24,8 +24,3 @@ fn find_named(platforms: &[Platform], text: &[u8]) -> Option<Platform>
     }
     None
 }
-
-/// No two platforms share a name.
-pub fn one_platform()
-    ensures { (p q : Platform) → name_of p ≡ name_of q → p ≡ q }
-{}

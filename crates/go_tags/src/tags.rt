@@ -2,7 +2,7 @@
 ghost use Rattle.std.specs.Prelude.{◌≡◌};
 ghost use Rattle.go_model.specs.files.BuildTags.{is_one_of, known_systems, known_architectures, unix_systems, release_tags, is_system_tag, is_satisfied};
 
-use crate::words::is_one_of;
+use crate::names::is_one_of;
 use go_model::files::platform::Platform;
 
 #[rattlefmt::skip]

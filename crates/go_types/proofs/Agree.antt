@@ -1,29 +1,31 @@
 -- Two tables that agree on a set of names which is closed under the table give the same answers.
-use Rattle.std.proofs.Common.{◌≡◌, ◌≤◌, ℕ, zero, suc, Bool, true, false, ◌||◌, ◌&&◌, inl, inr, List, [], ◌∷◌, ◌++◌, length, map, refl, sym, ap, ◌∙◌, subst, Option, Some, None, if◌then◌else◌}
+use Rattle.std.proofs.Common.{◌≡◌, ℕ, Bool, true, false, ◌||◌, ◌&&◌, inl, inr, List, [], ◌∷◌, ◌++◌, map, refl, sym, ap, ◌∙◌, subst, Option, Some, None, if◌then◌else◌}
 use Rattle.go_base.specs.Lists.{Has}
 use Rattle.go_base.specs.Gathered.{gather}
 use Rattle.go_model.specs.types.Tables.{Table}
-use Rattle.go_model.specs.types.Terms.{Layer}
+use Rattle.std.specs.List.{filter}
+use Rattle.go_model.specs.types.Terms.{Layer, same_sel}
 use Rattle.go_model.specs.types.TypeNames.{Names, names, name_step, field_names, method_names, parameter_names, all_of}
-use Rattle.go_model.specs.types.Underlying.{entry, under, under_layer, under_entry, fields_of, methods_of, declared_methods, methods_of_entry}
+use Rattle.go_model.specs.types.Underlying.{entry, under, under_layer, under_entry, fields_of, declared_methods, methods_of_entry}
 use Rattle.go_model.specs.declared.types.names.TypeName.{TypeName}
 use Rattle.go_model.specs.declared.types.names.Sel.{Sel}
 use Rattle.go_model.specs.declared.types.package.Defined.{Defined}
 use Rattle.go_model.specs.declared.types.found.Found.{Found}
-use Rattle.go_model.specs.declared.types.found.Found.TheVariants as found
 use Rattle.go_model.specs.declared.types.term.Signature.{Signature}
 use Rattle.go_model.specs.declared.types.term.Term.{Term, Term-F, out-Term, roll-Term, roll-out-Term, fold-roll-Term}
 use Rattle.go_model.specs.declared.types.term.Field.{Field, out-Field, fold-Field, fold_out-Field}
 use Rattle.go_model.specs.declared.types.term.Method.{out-Method}
-use Rattle.go_model.specs.types.Selectors.{Spot, Ending, field_ending, declared_ending, method_ending, step, steps, endings, ends, start, start_layer, start_pointer, start_named, is_defined_pointer, is_defined_layer, is_pointer, base_of, base_layer, IsOnly, Finds}
+use Rattle.go_model.specs.types.Selectors.{Spot, step, steps, ends, start, start_layer, start_pointer, start_named, is_pointer, base_of, base_layer, Finds}
 use Rattle.go_model.specs.types.MethodSets.{InSet, Implements}
 use Rattle.go_model.specs.types.Comparison.{LeadsToIncomparable, at_slice, at_map, at_func, in_array, in_struct, Comparable}
 use Rattle.go_model.specs.types.Imports.{is_imported_struct, is_imported_open, imported_struct, imported_interface}
 use Rattle.go_model.specs.types.Tags.{untagged}
 use Rattle.go_model.specs.types.Assignability.{Assignable, assign_identical, assign_underlying, assign_interface, assign_channel, AreChannels}
-use Rattle.go_model.specs.types.Conversions.{Convertible, convert_assignable, convert_underlying, convert_pointer, convert_basic, UnderlyingConverts, is_characters, has_basic, is_character, is_string, both_basic, basics_convert}
+use Rattle.go_model.specs.types.Conversions.{Convertible, convert_assignable, convert_underlying, convert_pointer, convert_basic, UnderlyingConverts, is_characters, is_text, is_character, both_basic, basics_convert}
+use Rattle.go_selectors.specs.Ways.{OnWay, here, further, AgreeAt, AgreeFrom, AgreeIn}
+use Rattle.go_selectors.proofs.Ways.{ends_agree, finds_agree, set_agrees}
 use Rattle.go_types.specs.Regions.{Within, AgreeOn, IsClosed}
-use Rattle.go_types.proofs.Lists.{gather_of, has-left, has-right}
+use Rattle.go_selectors.proofs.Lists.{gather_of, has-left, has-right}
 
 -- the names of parts are names of the whole
 has_all : {A : Type 0} (f : A → Names) (xs : List A) (x : A) (n : TypeName) → Has xs x → Has (f x) n → Has (all_of (map f xs)) n
@@ -100,14 +102,6 @@ module _ (P : TypeName → Bool) where
         by (Term-F.Struct fs) e = refl
         by (Term-F.Interface ms) e = refl
 
-    endings_same : (s : Sel) (at : Spot) → Within P at.term → endings A s at ≡ endings B s at
-    endings_same s at i =
-        ap (λ l. gather (field_ending s at.through) (fields_of l) ++ gather (declared_ending s at.through) (declared_methods A (out-Term at.term)) ++ gather (method_ending s at.through) (methods_of l)) (under_same at.term i)
-        ∙ ap (λ ms. gather (field_ending s at.through) (fields_of (under B at.term)) ++ gather (declared_ending s at.through) ms ++ gather (method_ending s at.through) (methods_of (under B at.term))) (declared_same at.term i)
-
-    steps_same : (at : Spot) → Within P at.term → steps A at ≡ steps B at
-    steps_same at i = ap (λ l. gather (step at.through) (fields_of l)) (under_same at.term i)
-
     module _ (closed : IsClosed P A) where
       entry_within : (n : TypeName) (o : Option Defined) → P n ≡ true → entry A n ≡ o → Within P (roll-Term (Term-F.Named n)) → Within P (roll-Term (under_entry n o))
       entry_within n None h e w = w
@@ -154,34 +148,6 @@ module _ (P : TypeName → Bool) where
       steps_within : (at next : Spot) → Within P at.term → Has (steps A at) next → Within P next.term
       steps_within at next w h = let k = gather_of (step at.through) (fields_of (under A at.term)) next h in step_within at.through k.0 next (fields_within at.term (under A at.term) k.0 refl k.1 w) k.2
 
-      gather_same : (f g : Spot → List Ending) (xs : List Spot) → ((x : Spot) → Has xs x → f x ≡ g x) → gather f xs ≡ gather g xs
-      gather_same f g [] h = refl
-      gather_same f g (x ∷ xs) h = ap (λ w. w ++ gather f xs) (h x (inl refl)) ∙ ap (λ w. g x ++ w) (gather_same f g xs (λ y i. h y (inr i)))
-
-      pub ends_same : (s : Sel) (depth : ℕ) (at : Spot) → Within P at.term → ends A s depth at ≡ ends B s depth at
-      unfolding ends
-      ends_same s zero at w = endings_same s at w
-      ends_same s (suc depth) at w = gather_same (ends A s depth) (ends B s depth) (steps A at) (λ x h. ends_same s depth x (steps_within at x w h)) ∙ ap (gather (ends B s depth)) (steps_same at w)
-
-      -- where paths begin is the same, and within
-      pointer_same : (t base : Term) → Within P base → start_pointer t base (under A base) ≡ start_pointer t base (under B base)
-      pointer_same t base w = ap (start_pointer t base) (under_same base w)
-
-      start_same : (t : Term) → Within P t → start A t ≡ start B t
-      start_same t w = by (out-Term t) refl
-        where
-          by : (l : Layer) → out-Term t ≡ l → start_layer A t l ≡ start_layer B t l
-          by (Term-F.Plain b) e = refl
-          by (Term-F.Named n) e = ap (start_named t) (under_same t w)
-          by (Term-F.Pointer b) e = pointer_same t b (λ n h. rolled t (Term-F.Pointer b) e w n (base_names b n h))
-          by (Term-F.Slice b) e = refl
-          by (Term-F.Array k b) e = refl
-          by (Term-F.Map k b) e = refl
-          by (Term-F.Chan d b) e = refl
-          by (Term-F.Func g) e = refl
-          by (Term-F.Struct fs) e = refl
-          by (Term-F.Interface ms) e = refl
-
       start_pointer_within : (t base : Term) (l : Layer) → Within P t → Within P base → Within P (start_pointer t base l).term
       start_pointer_within t base (Term-F.Plain b) w v = v
       start_pointer_within t base (Term-F.Named n) w v = v
@@ -221,24 +187,27 @@ module _ (P : TypeName → Bool) where
           by (Term-F.Struct fs) e = w
           by (Term-F.Interface ms) e = w
 
-      reach_same : (s : Sel) (t : Term) → Within P t → (k : ℕ) → ends A s k (start A t) ≡ ends B s k (start B t)
-      reach_same s t w k = ends_same s k (start A t) (start_within t w) ∙ ap (ends B s k) (start_same t w)
+      way_within : (at x : Spot) → Within P at.term → OnWay A at x → Within P x.term
+      way_within at x w here = w
+      way_within at x w (further {next = next} i o) = way_within next x (steps_within at next w i) o
 
-      only_over : (s : Sel) (t : Term) (d : ℕ) (e : Ending) → Within P t → IsOnly A s t d e → IsOnly B s t d e
-      only_over s t d e w o = record { none = λ k h. sym (reach_same s t w k) ∙ o.none k h; only = sym (reach_same s t w d) ∙ o.only }
+      agree_at : (s : Sel) (t : Term) → Within P t → AgreeAt s A B t
+      agree_at s t w = record { underneath = under_same t w; methods = ap (filter (λ m. same_sel m.sel s)) (declared_same t w) }
 
-      pointer_over : (t : Term) (b : Bool) → Within P t → is_defined_pointer A t ≡ b → is_defined_pointer B t ≡ b
-      pointer_over t b w e = ap (is_defined_layer (out-Term t)) (sym (under_same t w)) ∙ e
+      pub agree_from : (s : Sel) (at : Spot) → Within P at.term → AgreeFrom s A B at
+      agree_from s at w x o = agree_at s x.term (way_within at x w o)
+
+      pub agree_in : (s : Sel) (t : Term) → Within P t → AgreeIn s A B t
+      agree_in s t w = record { base = under_same (base_of t) (base_within t w); way = agree_from s (start A t) (start_within t w) }
+
+      pub ends_over : (s : Sel) (at : Spot) (depth : ℕ) → Within P at.term → ends A s depth at ≡ ends B s depth at
+      ends_over s at depth w = ends_agree s A B depth at (agree_from s at w)
 
       pub finds_over : (s : Sel) (t : Term) (r : Found) → Within P t → Finds A s t r → Finds B s t r
-      finds_over s t (found.FieldAt f) w a = (a.0, only_over s t a.0 _ w a.1, a.2)
-      finds_over s t (found.MethodAt m) w a = (a.0, only_over s t a.0 _ w a.1, a.2, pointer_over t false w a.3)
-      finds_over s t found.Ambiguous w a = (a.0, λ k h. sym (reach_same s t w k) ∙ a.1 k h, subst (λ (es : List Ending). 2 ≤ length es) (reach_same s t w a.0) a.2)
-      finds_over s t found.Nothing w (inl a) = inl (λ k. sym (reach_same s t w k) ∙ a k)
-      finds_over s t found.Nothing w (inr a) = inr (a.0, a.1, a.2, a.3, only_over s t a.0 _ w a.4, pointer_over t true w a.5)
+      finds_over s t r w f = finds_agree s A B t (agree_in s t w) r f
 
       pub set_over : (t : Term) (s : Sel) (g : Signature) → Within P t → InSet A t s g → InSet B t s g
-      set_over t s g w i = record { depth = i.depth; through = i.through; pointer = i.pointer; only = only_over s t i.depth _ w i.only; counts = pointer_over t false w i.counts; reaches = i.reaches }
+      set_over t s g w i = set_agrees s A B t (agree_in s t w) g i
 
       pub implements_over : (t i : Term) → Within P t → Within P i → Implements A t i → Implements B t i
       implements_over t i w v a = (a.0, sym (under_same i v) ∙ a.1, λ m h. set_over t (out-Method m).sel (out-Method m).signature w (a.2 m h))
@@ -282,7 +251,7 @@ module _ (P : TypeName → Bool) where
           by (Term-F.Plain b) e = refl
           by (Term-F.Named n) e = refl
           by (Term-F.Pointer b) e = refl
-          by (Term-F.Slice b) e = ap (has_basic is_character) (under_same b (λ n h. under_within t (Term-F.Slice b) e w n (slice_names b n h)))
+          by (Term-F.Slice b) e = ap (is_character) (under_same b (λ n h. under_within t (Term-F.Slice b) e w n (slice_names b n h)))
           by (Term-F.Array k b) e = refl
           by (Term-F.Map k b) e = refl
           by (Term-F.Chan d b) e = refl
@@ -292,10 +261,10 @@ module _ (P : TypeName → Bool) where
 
       basics_over : (t u : Term) → Within P t → Within P u → basics_convert A t u ≡ basics_convert B t u
       basics_over t u w v =
-          ap (λ l. both_basic l (under A u) || (has_basic is_string l && is_characters A (under A u)) || (is_characters A (under A t) && has_basic is_string (under A u))) (under_same t w)
-          ∙ ap (λ l. both_basic (under B t) l || (has_basic is_string (under B t) && is_characters A (under A u)) || (is_characters A (under A t) && has_basic is_string l)) (under_same u v)
-          ∙ ap (λ b. both_basic (under B t) (under B u) || (has_basic is_string (under B t) && b) || (is_characters A (under A t) && has_basic is_string (under B u))) (characters_over u v)
-          ∙ ap (λ b. both_basic (under B t) (under B u) || (has_basic is_string (under B t) && is_characters B (under B u)) || (b && has_basic is_string (under B u))) (characters_over t w)
+          ap (λ l. both_basic l (under A u) || (is_text l && is_characters A (under A u)) || (is_characters A (under A t) && is_text (under A u))) (under_same t w)
+          ∙ ap (λ l. both_basic (under B t) l || (is_text (under B t) && is_characters A (under A u)) || (is_characters A (under A t) && is_text l)) (under_same u v)
+          ∙ ap (λ b. both_basic (under B t) (under B u) || (is_text (under B t) && b) || (is_characters A (under A t) && is_text (under B u))) (characters_over u v)
+          ∙ ap (λ b. both_basic (under B t) (under B u) || (is_text (under B t) && is_characters B (under B u)) || (b && is_text (under B u))) (characters_over t w)
 
       pub convertible_over : (profile : Bool) (t u : Term) → Within P t → Within P u → Convertible A profile t u → Convertible B profile t u
       convertible_over profile t u w v (convert_assignable a) = convert_assignable (assignable_over profile t u w v a)

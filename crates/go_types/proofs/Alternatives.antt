@@ -3,7 +3,7 @@ use Rattle.std.proofs.Common.{◌≡◌, ◌↔◌, IsTrue, Bool, true, false, s
 use mathlib.Core.Bool.{true≢false}
 use Rattle.go_model.specs.types.Tables.{Table}
 use Rattle.go_model.specs.declared.types.term.Term.{Term}
-use Rattle.go_types.specs.Answers.{Decides}
+use Rattle.go_selectors.specs.Answers.{Decides}
 use Rattle.go_model.specs.types.MethodSets.{Implements}
 use Rattle.go_model.specs.types.Assignability.{UnderlyingAssigns, ChannelAssigns, Assignable, assign_identical, assign_underlying, assign_interface, assign_channel}
 use Rattle.go_model.specs.types.Conversions.{UnderlyingConverts, PointerConverts, Convertible, convert_assignable, convert_underlying, convert_pointer, convert_basic, basics_convert}

@@ -1,19 +1,19 @@
 -- Types with the same interface underneath implement each other.
-use Rattle.std.proofs.Common.{◌≡◌, Bool, true, false, inl, inr, List, [], ◌∷◌, ◌++◌, map, refl, sym, ap, ◌∙◌, subst, arith, if◌then◌else◌}
+use Rattle.std.proofs.Common.{◌≡◌, Bool, true, false, inl, inr, List, [], ◌∷◌, ◌++◌, map, refl, sym, ap, ◌∙◌, subst, arith, None, if◌then◌else◌}
 use Rattle.go_base.specs.Lists.{Has, Once}
 use Rattle.go_base.specs.Gathered.{gather}
 use Rattle.go_model.specs.types.Tables.{Table}
 use Rattle.go_model.specs.types.Terms.{Layer, same_sel}
 use Rattle.go_model.specs.types.Underlying.{under, under_layer, fields_of, methods_of, declared_methods}
-use Rattle.go_model.specs.types.Selectors.{Ending, method, field_ending, declared_ending, method_ending, endings, ends, start, start_layer, start_named, is_defined_pointer, is_defined_layer}
+use Rattle.go_model.specs.types.Selectors.{Ending, method, name_of, field_ending, declared_ending, method_ending, endings, ends, start, start_layer, start_named, is_defined_pointer, is_defined_layer}
 use Rattle.go_model.specs.types.MethodSets.{InSet, Implements, method_sel}
 use Rattle.go_model.specs.declared.types.names.Sel.{Sel}
 use Rattle.go_model.specs.declared.types.term.Term.{Term, Term-F, out-Term}
 use Rattle.go_model.specs.declared.types.term.Method.{Method, out-Method}
-use Rattle.go_types.proofs.Noted.{sel_is, sel_self}
+use Rattle.go_selectors.proofs.Noting.{sel_is, sel_self}
 
 abbrev method_end : Method → Ending
-method_end m = record { through = false; target = method false (out-Method m).signature }
+method_end m = record { through = false; target = method None false (out-Method m).signature }
 
 -- no method of the list has the selector
 none_named : (ms : List Method) (s : Sel) → (Has (map method_sel ms) s → ⊥) → gather (method_ending s false) ms ≡ []
@@ -84,12 +84,12 @@ module _ (T : Table) (t : Term) (ms : List Method) (e : under T t ≡ Term-F.Int
     unfolding ends
     at_once m h =
         ap (endings T (method_sel m)) start_self
-        ∙ ap (λ l. gather (field_ending (method_sel m) false) (fields_of l) ++ gather (declared_ending (method_sel m) false) (declared_methods T (out-Term t)) ++ gather (method_ending (method_sel m) false) (methods_of l)) e
-        ∙ ap (λ w. gather (declared_ending (method_sel m) false) w ++ gather (method_ending (method_sel m) false) ms) bare
+        ∙ ap (λ l. gather (field_ending (method_sel m) false) (fields_of l) ++ gather (declared_ending (name_of (out-Term t)) (method_sel m) false) (declared_methods T (out-Term t)) ++ gather (method_ending (method_sel m) false) (methods_of l)) e
+        ∙ ap (λ w. gather (declared_ending (name_of (out-Term t)) (method_sel m) false) w ++ gather (method_ending (method_sel m) false) ms) bare
         ∙ one_named ms m once h
 
     has_all : (m : Method) → Has ms m → InSet T t (method_sel m) (out-Method m).signature
-    has_all m h = record { depth = 0; through = false; pointer = false; only = record { none = λ k l. absurd (omega arith); only = at_once m h }; counts = not_defined; reaches = inl refl }
+    has_all m h = record { depth = 0; through = false; owner = None; pointer = false; only = record { none = λ k l. absurd (omega arith); only = at_once m h }; counts = not_defined; reaches = inl refl }
 
 pub same_implement : (T : Table) (t i : Term) (ms : List Method) → under T t ≡ Term-F.Interface ms → under T i ≡ Term-F.Interface ms → Once (map method_sel ms) → declared_methods T (out-Term t) ≡ [] → Implements T t i
 same_implement T t i ms e f once bare = (ms, f, λ m h. has_all T t ms e bare once m h)

@@ -3,9 +3,8 @@ use Rattle.std.proofs.Common.{◌≡◌, ℕ, List, sym, ap, ◌∙◌}
 use Rattle.go_model.specs.types.Tables.{Table}
 use Rattle.go_model.specs.declared.types.term.Term.{Term, Term-F, out-Term}
 use Rattle.go_model.specs.declared.types.term.Term.TheVariants as t
-use Rattle.go_model.specs.declared.types.term.Term.TheVariants.{outs-Slice, outs-Map, outs-Func, outs-Array, outs-Struct, outs-Interface, outs-Pointer}
+use Rattle.go_model.specs.declared.types.term.Term.TheVariants.{outs-Slice, outs-Map, outs-Func, outs-Array, outs-Struct}
 use Rattle.go_model.specs.declared.types.term.Field.{Field}
-use Rattle.go_model.specs.declared.types.term.Method.{Method}
 use Rattle.go_model.specs.declared.types.term.Signature.{Signature}
 use Rattle.go_model.specs.types.Underlying.{under}
 
@@ -24,9 +23,3 @@ module _ (T : Table) (u v : Term) (is : out-Term v ≡ under T u) where
 
   pub under_struct : (fs : List Field) → v ≡ t.Struct fs → under T u ≡ Term-F.Struct fs
   under_struct fs s = sym is ∙ ap out-Term s ∙ outs-Struct fs
-
-  pub under_interface : (ms : List Method) → v ≡ t.Interface ms → under T u ≡ Term-F.Interface ms
-  under_interface ms s = sym is ∙ ap out-Term s ∙ outs-Interface ms
-
-  pub under_pointer : (e : Term) → v ≡ t.Pointer e → under T u ≡ Term-F.Pointer e
-  under_pointer e s = sym is ∙ ap out-Term s ∙ outs-Pointer e

@@ -2,9 +2,8 @@
 use Rattle.std.proofs.Common.{◌≡◌, ◌<◌, ◌+◌, ℕ, Bool, true, false, inl, inr, List, length, take, get_or, subst}
 use Rattle.go_base.specs.Lists.{Has}
 use Rattle.go_model.specs.declared.types.term.Method.{Method}
-use Rattle.go_types.specs.Answers.{Decides}
-use Rattle.go_types.proofs.Lists.{has-back, item_has}
-use Rattle.go_types.proofs.Walks.{taken_next}
+use Rattle.go_selectors.specs.Answers.{Decides}
+use Rattle.go_selectors.proofs.Lists.{has-back, item_has, taken_next}
 
 -- the fact holds of each
 abbrev pub Each : (Method → Type 0) → List Method → Type 0

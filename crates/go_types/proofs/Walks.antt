@@ -1,5 +1,5 @@
 -- A walk over the parts of a type decides whether it is comparable.
-use Rattle.std.proofs.Common.{◌≡◌, ◌≤◌, ◌<◌, ◌+◌, ℕ, zero, suc, Bool, true, false, inl, inr, List, [], ◌∷◌, ◌++◌, length, take, get_or, refl, sym, ap, ◌∙◌, subst, arith, length-append, append_assoc}
+use Rattle.std.proofs.Common.{◌≡◌, ◌≤◌, ◌<◌, ◌+◌, ℕ, zero, suc, Bool, true, false, ◌⊎◌, inl, inr, List, [], ◌∷◌, ◌++◌, length, take, get_or, refl, sym, ap, ◌∙◌, subst, arith, length-append, append_assoc}
 use Rattle.std.proofs.lemmas.List.{take_more}
 use Rattle.go_base.specs.Lists.{Has}
 use Rattle.go_model.specs.types.Tables.{Table}
@@ -9,8 +9,8 @@ use Rattle.go_model.specs.declared.types.term.Field.{Field, out-Field}
 use Rattle.go_model.specs.types.Terms.{Layer}
 use Rattle.go_model.specs.types.Underlying.{under}
 use Rattle.go_model.specs.types.Comparison.{LeadsToIncomparable, at_slice, at_map, at_func, in_array, in_struct}
-use Rattle.go_types.specs.Parts.{Known, Pushed, IsFieldTerm, MeetsTerm, Pushes, PushesFields, ByParts, Looked}
-use Rattle.go_types.proofs.Lists.{has-left, has-split, has-last, has-back}
+use Rattle.go_types.specs.Parts.{Known, Pushed, IsFieldTerm, SeesTerm, Pushes, PushesFields, ByParts, Looked}
+use Rattle.go_selectors.proofs.Lists.{has-left, has-split, has-last, has-back}
 
 append_nil : {A : Type 0} (xs : List A) → xs ++ [] ≡ xs
 append_nil [] = refl
@@ -46,22 +46,26 @@ pushed_as a b m n f p = record { more = p.more; is = p.is; each = λ t h. f t (p
 pub pushed_has : {P : Term → Type 0} (a b : List Term) (m n : List TypeName) (t : Term) → Pushed P a m b n → Has a t → Has b t
 pushed_has a b m n t p h = subst (λ (w : List Term). Has w t) (sym p.is) (has-left a p.more t h)
 
-pub push_met : (all : List Term) (met newer : List TypeName) (t : Term) → MeetsTerm met newer t true → Pushes all met all newer t
+pub push_met : (all : List Term) (met newer : List TypeName) (t : Term) → SeesTerm met newer t true → Pushes all met all newer t
 push_met all met newer t m = subst (λ (w : List TypeName). Pushes all met all w t) (sym m.1) (pushed_none all met, λ k. subst (Has all) m.0.2 (k m.0.0 m.0.1))
 
-pub push_new : (all : List Term) (met newer : List TypeName) (t : Term) → MeetsTerm met newer t false → Pushes all met (all ++ t ∷ []) newer t
+sees_had : (met newer : List TypeName) (t : Term) → SeesTerm met newer t false → (n : TypeName) → Has newer n → Has met n ⊎ (roll-Term (Term-F.Named n) ≡ t)
+sees_had met newer t (inl m) n h = elim (has-back met m.0 n (subst (λ (w : List TypeName). Has w n) m.1 h)) [ inl a ↦ inl a | inr e ↦ inr (ap (λ k. roll-Term (Term-F.Named k)) (sym e) ∙ m.2) ]
+sees_had met newer t (inr e) n h = inl (subst (λ (w : List TypeName). Has w n) e h)
+
+pub push_new : (all : List Term) (met newer : List TypeName) (t : Term) → SeesTerm met newer t false → Pushes all met (all ++ t ∷ []) newer t
 push_new all met newer t m = (
   record {
     more = t ∷ [];
     is = refl;
     each = λ u h. elim h [ inl e ↦ e | inr n ↦ absurd n ];
-    known = λ k n h. elim (m n h) [ inl a ↦ has-left all (t ∷ []) (roll-Term (Term-F.Named n)) (k n a) | inr e ↦ subst (Has (all ++ t ∷ [])) (sym e) (has-last all t) ];
+    known = λ k n h. elim (sees_had met newer t m n h) [ inl a ↦ has-left all (t ∷ []) (roll-Term (Term-F.Named n)) (k n a) | inr e ↦ subst (Has (all ++ t ∷ [])) (sym e) (has-last all t) ];
   },
   λ k. has-last all t,
 )
 
-pub push_as : (all new : List Term) (met newer : List TypeName) (t p : Term) (met_before : Bool) → new ≡ all ++ p ∷ [] → p ≡ t → met_before ≡ false → MeetsTerm met newer t met_before → Pushes all met new newer t
-push_as all new met newer t p b e s f m = subst (λ (w : List Term). Pushes all met w newer t) (sym (e ∙ ap (λ x. all ++ x ∷ []) s)) (push_new all met newer t (subst (MeetsTerm met newer t) f m))
+pub push_as : (all new : List Term) (met newer : List TypeName) (t p : Term) (met_before : Bool) → new ≡ all ++ p ∷ [] → p ≡ t → met_before ≡ false → SeesTerm met newer t met_before → Pushes all met new newer t
+push_as all new met newer t p b e s f m = subst (λ (w : List Term). Pushes all met w newer t) (sym (e ∙ ap (λ x. all ++ x ∷ []) s)) (push_new all met newer t (subst (SeesTerm met newer t) f m))
 
 pub no_fields : (all : List Term) (met : List TypeName) → PushesFields all met all met []
 no_fields all met = (pushed_none all met, λ k f h. absurd h)
@@ -146,9 +150,6 @@ module _ (T : Table) where
 
   pub walked : (t : Term) (at : ℕ) (all : List Term) (met : List TypeName) → Walks t at all met → length all ≤ at → LeadsToIncomparable T t → ⊥
   walked t at all met w h l = none_leads all (λ u i. w.closed u (subst (λ (z : List Term). Has z u) (sym (take_all at all h)) i)) t w.from l
-
-pub taken_next : {A : Type 0} (xs : List A) (i : ℕ) (x : A) → i < length xs → x ≡ get_or xs i x → take (i + 1) xs ≡ take i xs ++ x ∷ []
-taken_next xs i x h e = take_more xs i x h ∙ ap (λ y. take i xs ++ y ∷ []) (sym e)
 
 pub looked_so : (T : Table) (t : Term) (old : List Term) (met : List TypeName) (new : List Term) (newer : List TypeName) (answer told : Bool) → answer ≡ told → Looked T t old met new newer answer → Looked T t old met new newer told
 looked_so T t old met new newer answer told e l = subst (Looked T t old met new newer) e l

@@ -1,4 +1,5 @@
 -- Sets of names that are closed under a table, and the types whose names are in one.
+-- Own: what two tables have in common.
 use Rattle.std.specs.Prelude.{◌≡◌, Bool, true, Some}
 use Rattle.go_base.specs.Lists.{Has}
 use Rattle.go_model.specs.types.Tables.{Table}

@@ -1,30 +1,21 @@
 //! Laws of the relations on types, for the layers above.
-ghost use Rattle.std.specs.Prelude.{◌≡◌, ◌≢◌, ℕ, List, [], map, Bool, true, false};
-ghost use Rattle.go_base.specs.Lists.{Has, Once};
-ghost use Rattle.go_base.specs.Gathered.{gather};
+ghost use Rattle.std.specs.Prelude.{◌≡◌, ℕ, List, [], map, Bool, true, false};
+ghost use Rattle.go_base.specs.Lists.{Once};
 ghost use Rattle.go_model.specs.types.Tables.{Table};
 ghost use Rattle.go_model.specs.declared.types.names.Sel.{Sel};
 ghost use Rattle.go_model.specs.declared.types.term.Term.{Term, Term-F, out-Term};
 ghost use Rattle.go_model.specs.declared.types.term.Method.{Method};
 ghost use Rattle.go_model.specs.types.Underlying.{under, declared_methods};
-ghost use Rattle.go_model.specs.worlds.Worlds.{Packages, IsWorld, path_of};
-ghost use Rattle.go_model.specs.worlds.PackageTypes.{package_names, package_selectors};
 ghost use Rattle.go_model.specs.declared.types.term.Signature.{Signature};
 ghost use Rattle.go_model.specs.declared.types.found.Found.{Found};
-ghost use Rattle.go_model.specs.types.Selectors.{Finds};
+ghost use Rattle.go_model.specs.types.Selectors.{Spot, ends, Finds};
+ghost use Rattle.go_selectors.specs.Ways.{AgreeIn};
 ghost use Rattle.go_model.specs.types.MethodSets.{InSet, Implements, method_sel};
 ghost use Rattle.go_model.specs.types.Comparison.{Comparable};
 ghost use Rattle.go_types.specs.Regions.{Within, AgreeOn, IsClosed};
 ghost use Rattle.go_model.specs.declared.types.names.TypeName.{TypeName};
 ghost use Rattle.go_model.specs.types.Assignability.{Assignable};
 ghost use Rattle.go_model.specs.types.Conversions.{Convertible};
-
-/// A selector finds one thing in a type, with its pointer flag and its depth; the method set has one
-/// method of a selector.
-pub fn one_find()
-    ensures find { (T : Table) (s : Sel) (t : Term) (a b : Found) → Finds T s t a → Finds T s t b → a ≡ b }
-    ensures signature { (T : Table) (t : Term) (s : Sel) (g h : Signature) → InSet T t s g → InSet T t s h → g ≡ h }
-{}
 
 /// What is permitted in a client of the profile is permitted elsewhere.
 pub fn profile_permits_less()
@@ -35,6 +26,8 @@ pub fn profile_permits_less()
 /// Two tables that agree on a set of names which is closed under them give the same answers for the
 /// types whose names are in it.
 pub fn agreeing_tables()
+    ensures ends { (P : TypeName → Bool) (A B : Table) → AgreeOn P A B → IsClosed P A → (s : Sel) (at : Spot) (depth : ℕ) → Within P at.term → ends A s depth at ≡ ends B s depth at }
+    ensures way { (P : TypeName → Bool) (A B : Table) → AgreeOn P A B → IsClosed P A → (s : Sel) (t : Term) → Within P t → AgreeIn s A B t }
     ensures find { (P : TypeName → Bool) (A B : Table) → AgreeOn P A B → IsClosed P A → (s : Sel) (t : Term) (r : Found) → Within P t → Finds A s t r → Finds B s t r }
     ensures method_set { (P : TypeName → Bool) (A B : Table) → AgreeOn P A B → IsClosed P A → (t : Term) (s : Sel) (g : Signature) → Within P t → InSet A t s g → InSet B t s g }
     ensures implements { (P : TypeName → Bool) (A B : Table) → AgreeOn P A B → IsClosed P A → (t interface : Term) → Within P t → Within P interface → Implements A t interface → Implements B t interface }
@@ -49,11 +42,4 @@ pub fn agreeing_tables()
 /// in it and no method is declared for the type that implements.
 pub fn same_interfaces()
     ensures { (T : Table) (t interface : Term) (ms : List Method) → under T t ≡ Term-F.Interface ms → under T interface ≡ Term-F.Interface ms → Once (map method_sel ms) → declared_methods T (out-Term t) ≡ [] → Implements T t interface }
-{}
-
-/// Where no package of a world has a path, as none of a module has the client's, no type of the world
-/// names a type of that path and none has a selector of it.
-pub fn absent_path()
-    ensures names { (w : Packages) (path : List ℕ) → IsWorld w → path ≢ [] → (Has (map path_of w.packages) path → ⊥) → (n : TypeName) → Has (gather package_names w.packages) n → n.path ≢ path }
-    ensures selectors { (w : Packages) (path : List ℕ) → IsWorld w → path ≢ [] → (Has (map path_of w.packages) path → ⊥) → (s : Sel) → Has (gather package_selectors w.packages) s → s.«package» ≢ path }
 {}

@@ -1,7 +1,9 @@
-//! Worked examples of the relations on types.
+//! Worlds, which the program `relations` can't be given, and copies of packages.
 #![tactic(auto)]
 
 #[cfg(test)]
-mod tests;
+mod copies;
+#[cfg(test)]
+mod terms;
 #[cfg(test)]
 mod worlds;

@@ -1,4 +1,5 @@
 -- What a map of defined types by path and name holds for a name.
+-- Own: words of the contracts inside this program.
 use Rattle.std.specs.Prelude.{ℕ, List, option_and_then, bytes_eq}
 use Rattle.indexmap.specs.IndexMap.{IndexMap, get_by}
 use Rattle.go_model.specs.types.Tables.{Table}

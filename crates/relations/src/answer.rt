@@ -1,19 +1,20 @@
 //! The answer to a line.
 use crate::read::{Refusal, Stack, sel, type_name};
-use crate::show::{push_number, push_set, push_signature, push_term};
+use crate::show::{push_name, push_number, push_set, push_signature, push_term};
 use crate::table::Table;
 use go_base::boxed::Box;
 use go_base::text::Text;
 use go_model::types::found::{FieldFound, Found, MethodFound};
+use go_model::types::names::TypeName;
 use go_model::types::package::Defined;
 use go_model::types::term::Term;
-use go_types::assignable::assignable_in;
-use go_types::comparable::comparable_in;
-use go_types::convertible::convertible_in;
-use go_types::find::find_in;
-use go_types::identical::identical;
-use go_types::implements::implements_in;
-use go_types::method_set::method_set_in;
+use go_selectors::identity::identical;
+use go_selectors::method_sets::method_set_in;
+use go_selectors::selectors::find_in;
+use go_types::assignability::assignable_in;
+use go_types::comparison::comparable_in;
+use go_types::conversions::convertible_in;
+use go_types::implementing::implements_in;
 use std::alloc::Global;
 
 fn split(text: &str) -> Result<(&str, &str), Refusal> {
@@ -55,6 +56,15 @@ fn field(alloc: Global, found: &FieldFound) -> Result<Vec<u8>, Refusal> {
     Ok(out)
 }
 
+fn push_owner(out: &mut Vec<u8>, owner: &Option<TypeName>) -> Result<(), Refusal> {
+    match owner {
+        Some(name) => push_name(out, name)?,
+        None => out.extend_from_slice(b"interface")?,
+    }
+    out.push(b' ')?;
+    Ok(())
+}
+
 fn method(alloc: Global, found: &MethodFound) -> Result<Vec<u8>, Refusal> {
     let receiver = if found.pointer_receiver {
         "on-pointer "
@@ -65,6 +75,7 @@ fn method(alloc: Global, found: &MethodFound) -> Result<Vec<u8>, Refusal> {
     push_number(alloc, &mut out, u64::from(found.depth))?;
     out.extend_from_slice(way(found.through_pointer).as_bytes())?;
     out.extend_from_slice(receiver.as_bytes())?;
+    push_owner(&mut out, &found.owner)?;
     push_signature(alloc, &mut out, &found.signature)?;
     Ok(out)
 }
@@ -210,7 +221,7 @@ fn told(
 }
 
 /// The answer to a line, with its line's end; nothing where the line defines a type, which the table then
-/// has.
+/// has. A comment is `#` and a blank, and text.
 pub fn answer(
     alloc: Global,
     table: &mut Table,
@@ -218,6 +229,11 @@ pub fn answer(
     line: &str,
 ) -> Result<Vec<u8>, Refusal> {
     let (question, text) = split(line)?;
+    if question.starts_with('#') {
+        let mut out = Vec::from_slice(alloc, line.as_bytes())?;
+        out.push(b'\n')?;
+        return Ok(out);
+    }
     if question == "type" {
         add_type(alloc, table, stack, text)?;
         return Ok(Vec::new(alloc));

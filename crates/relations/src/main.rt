@@ -16,8 +16,9 @@
 //! the order of their selectors, and single blanks part words.
 //!
 //! Answers are `true` and `false`; `nothing`, `ambiguous`, `field DEPTH direct|through TERM` and
-//! `method DEPTH direct|through on-value|on-pointer TERM`; the methods of a set, or `empty`. A wrong
-//! line ends it with status 2 and the line's number on standard error.
+//! `method DEPTH direct|through on-value|on-pointer OWNER TERM`, where OWNER is a NAME or `interface`; the
+//! methods of a set, or `empty`. A line that begins with `#` is printed as it is. A wrong line ends it with
+//! status 2 and the line's number on standard error.
 #![tactic(auto)]
 
 mod answer;

@@ -161,9 +161,10 @@ impl Stack {
     }
 
     fn called(&mut self) -> Result<Signature, Refusal> {
-        match self.term()? {
-            Term::Func(signature) => Ok(signature),
-            _ => Err(Refusal::WrongLine),
+        let term = self.term()?;
+        match term.into_signature() {
+            Some(signature) => Ok(signature),
+            None => Err(Refusal::WrongLine),
         }
     }
 

@@ -25,7 +25,8 @@ fn push_count(
     push_number(alloc, out, count as u64)
 }
 
-fn push_name(out: &mut Vec<u8>, name: &TypeName) -> Result<(), AllocError> {
+/// Writes the name of a type.
+pub fn push_name(out: &mut Vec<u8>, name: &TypeName) -> Result<(), AllocError> {
     if name.path.bytes().is_empty() {
         return out.extend_from_slice(name.name.bytes());
     }

@@ -27,7 +27,7 @@ impl Table {
 
     /// Adds a type, whose name isn't there.
     pub fn add(&mut self, name: TypeName, defined: Defined) -> Result<(), Refusal> {
-        let TypeName { path, name } = name;
+        let (path, name) = name.into_parts();
         let package = self
             .packages
             .entry(path)?

@@ -1,14 +1,31 @@
-//! Reads Go sources on standard input and tells of each whether it is one of the grammar. A source is a
-//! frame: its length in bytes in decimal digits, at most 4194304, a newline, and the bytes. It prints a
-//! line for each: `ok`; `bad-token` and the offset at which no token stands; or `syntax`. Where the
-//! input isn't whole frames it says so on standard error and ends with status 2.
+//! Reads Go sources on standard input and answers a question about each. A source is a frame: a line
+//! with its length in bytes, at most 4194304, and then the bytes; or the question and the source on one line,
+//! parted by `> `, where `\n`, `\r`, `\t`, `\\` and `\xHH` in the source stand for bytes. The answer is a line:
+//!
+//! ```text
+//! (no words)      `ok` where the source is one of the grammar; `bad-token` and the offset at which no token
+//!                 stands; or `syntax`
+//! first N         the same of its first N tokens
+//! value N WORD    the same where its token N, from 0, says `nothing`, `wide` or an integer
+//! tree            its tree, where it has one
+//! references      the names that its declarations refer to outside of bodies, where it has a tree
+//! ```
+//!
+//! Of a tree each part is a word and further parts in parentheses. A name has its offset after `@`, a text
+//! is `text:` and hexadecimal digits, a body of a function its two offsets, and `-` is a part that isn't there.
+//! A line that begins with `#` is printed as it is. Where the input isn't such frames it says so on standard
+//! error and ends with status 2.
 #![tactic(auto)]
 
-mod verdict;
+mod changed;
+mod file;
+mod question;
+mod reading;
+mod tree;
 
-use crate::verdict::verdict_of;
+use crate::question::push_answer;
 use frames::fault::Fault;
-use frames::source::read_source;
+use frames::frame::read_frame;
 use std::io;
 use std::io::{BufReader, BufWriter, Write};
 use std::process::ExitCode;
@@ -17,11 +34,17 @@ fn answer_all(rt: &HostRuntime) -> Result<(), Fault> {
     let mut input = BufReader::with_capacity(rt.alloc(), 65_536, rt.reader())?;
     let mut output = BufWriter::with_capacity(rt.alloc(), 65_536, io::writer(rt))?;
     for _ in 0..u64::MAX {
-        let Some(source) = read_source(rt.alloc(), &mut input)? else {
+        let Some(frame) = read_frame(rt.alloc(), &mut input)? else {
             break;
         };
-        let answer = verdict_of(rt.alloc(), &source)?;
-        writeln!(output, "{answer}")?;
+        let mut answer = Vec::new(rt.alloc());
+        if frame.is_comment() {
+            answer.extend_from_slice(&frame.words)?;
+        } else {
+            push_answer(rt.alloc(), &mut answer, &frame.words, &frame.source)?;
+        }
+        output.write_all(&answer)?;
+        output.write_all(b"\n")?;
     }
     output.flush()?;
     Ok(())

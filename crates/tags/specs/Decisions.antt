@@ -1,4 +1,5 @@
 -- Whether a platform chooses a file.
+-- Own: words of the contracts inside this program.
 use Rattle.std.specs.Prelude.{◌≡◌, ℕ, Bool, false, Option, None, Some, List}
 use Rattle.go_model.specs.declared.files.platform.Platform.{Platform}
 use Rattle.go_model.specs.declared.files.build.Header.{Header}

@@ -3,7 +3,7 @@ ghost use Rattle.std.specs.Prelude.{IfOk, IfErr};
 ghost use Rattle.go_tags.specs.HeaderCauses.{HasCause};
 ghost use Rattle.tags.specs.Decisions.{IsDecision};
 
-use crate::escape::unescaped;
+use frames::escape::unescaped;
 use go_model::files::build::Header;
 use go_model::files::platform::Platform;
 use go_tags::choice::chosen;
@@ -55,15 +55,19 @@ fn shown(alloc: Global, decision: &Decision) -> Result<String, AllocError> {
 
 /// The answer to a line of input.
 pub fn answer(alloc: Global, line: &str) -> Result<String, AllocError> {
-    if let Some((system, rest)) = line.split_once(' ')
-        && let Some((name, text)) = rest.split_once(' ')
-        && let Some(known) = platform(system.as_bytes())
-    {
-        let bytes = unescaped(alloc, text.as_bytes())?;
-        return match decide(alloc, known, name.as_bytes(), &bytes) {
-            Ok(decision) => shown(alloc, &decision),
-            Err(error) => format!(in alloc; "refused {error}"),
-        };
+    let Some((system, rest)) = line.split_once(' ') else {
+        return format!(in alloc; "not a case");
+    };
+    let Some((name, text)) = rest.split_once(' ') else {
+        return format!(in alloc; "not a case");
+    };
+    let Some(known) = platform(&unescaped(alloc, system.as_bytes())?) else {
+        return format!(in alloc; "not a case");
+    };
+    let name = unescaped(alloc, name.as_bytes())?;
+    let text = unescaped(alloc, text.as_bytes())?;
+    match decide(alloc, known, &name, &text) {
+        Ok(decision) => shown(alloc, &decision),
+        Err(error) => format!(in alloc; "refused {error}"),
     }
-    format!(in alloc; "not a case")
 }

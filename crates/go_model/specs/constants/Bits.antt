@@ -1,5 +1,5 @@
--- Bits of whole numbers in two's complement without end, and the bitwise operators, after "Arithmetic
--- operators" of the Go specification.
+-- Bits of whole numbers in two's complement without end, and the bitwise operators.
+-- Public source: Go specification, "Arithmetic operators" and "Constant expressions".
 use Rattle.std.specs.Prelude.{ℕ, ◌-◌, ℤ, pos, negsuc, ◌-ℤ◌, neg_ℤ, bit_and, bit_or, bit_xor}
 use Rattle.std.specs.Int.{bit_at}
 

@@ -1,5 +1,5 @@
--- Classes of basic types and of kinds of untyped constants, and the sizes of integer types, after
--- "Boolean types", "Numeric types", "String types" and "Constants" of the Go specification.
+-- Classes of basic types and of kinds of untyped constants, and the sizes of integer types.
+-- Public source: Go specification, "Boolean types", "Numeric types", "String types" and "Constants".
 use Rattle.std.specs.Prelude.{ℕ, Bool, true, false, ◌||◌, Option, None, Some}
 use Rattle.go_model.specs.declared.constants.class.Class.{Class}
 use Rattle.go_model.specs.declared.constants.class.Class.TheVariants as c

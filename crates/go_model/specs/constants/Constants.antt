@@ -1,7 +1,7 @@
--- Values of constants and the operators on them, exact over the whole numbers, after "Constants",
--- "Constant expressions", "Representability", "Operators" and "Conversions to and from a string type" of
--- the Go specification. That a number has at most 128 bits and a text at most 65,536 bytes is this
--- project's own, and so is that there are no values of float and complex kinds.
+-- Values of constants and the operators on them, exact over the whole numbers.
+-- Public source: Go specification, "Constants", "Constant expressions", "Representability", "Operators" and "Conversions to
+-- and from a string type". That a number has at most 128 bits and a text at most 65,536 bytes is own, and so is that
+-- there are no values of float and complex kinds.
 use Rattle.std.specs.Prelude.{◌≡◌, ℕ, ◌-◌, ◌^◌, Bool, true, false, not, if◌then◌else◌, ◌&&◌, ◌||◌, nat_lt, nat_le, ℤ, pos, negsuc, ◌+ℤ◌, ◌-ℤ◌, ◌*ℤ◌, neg_ℤ, int_le, int_div, int_rem, Option, None, Some, List, ◌++◌, length}
 use Rattle.std.specs.Bool.{beq}
 use Rattle.std.specs.Char.{encode_utf8}

@@ -1,12 +1,14 @@
--- Which operators a class of kinds has, after "Arithmetic operators" and "Logical operators" of the Go
--- specification.
-use Rattle.std.specs.Prelude.{Bool, ◌||◌}
+-- Which operators a class of kinds has.
+-- Public source: Go specification, "Arithmetic operators", "Comparison operators" and "Logical operators".
+use Rattle.std.specs.Prelude.{Bool, true, ◌||◌}
+use Rattle.go_base.specs.declared.operator.CompareOp.{CompareOp}
+use Rattle.go_base.specs.declared.operator.CompareOp.TheVariants as compare
 use Rattle.go_model.specs.declared.constants.class.Class.{Class}
 use Rattle.go_model.specs.declared.constants.value.BinaryOp.{BinaryOp}
 use Rattle.go_model.specs.declared.constants.value.BinaryOp.TheVariants as binary
 use Rattle.go_model.specs.declared.constants.value.UnaryOp.{UnaryOp}
 use Rattle.go_model.specs.declared.constants.value.UnaryOp.TheVariants as unary
-use Rattle.go_model.specs.constants.Classes.{is_boolean, is_inexact, is_integer, is_string}
+use Rattle.go_model.specs.constants.Classes.{is_boolean, is_float, is_inexact, is_integer, is_string}
 
 -- integers, floats and complex numbers
 abbrev pub is_numeric : Class → Bool
@@ -33,3 +35,15 @@ binary_applies binary.LogicalOr class = is_boolean class
 
 abbrev pub shift_applies : Class → Bool
 shift_applies class = is_integer class
+
+-- integers, floats and strings, whose values have an order
+abbrev pub is_ordered : Class → Bool
+is_ordered class = is_integer class || (is_float class || is_string class)
+
+abbrev pub comparison_applies : CompareOp → Class → Bool
+comparison_applies compare.Equal class = true
+comparison_applies compare.NotEqual class = true
+comparison_applies compare.Less class = is_ordered class
+comparison_applies compare.LessEqual class = is_ordered class
+comparison_applies compare.Greater class = is_ordered class
+comparison_applies compare.GreaterEqual class = is_ordered class

@@ -1,18 +1,15 @@
--- Build expressions: how a text is cut into signs and tags, and the grammar of these, after "Build
--- constraints" of Go's package go/build and package go/build/constraint. Beyond Go, parentheses nest
--- at most to a bound.
--- In crate go_tags, proofs/Complete.antt and proofs/Sound.antt show that the reader finds exactly
+-- Build expressions: how a text is cut into signs and tags, and the grammar of these.
+-- Public source: "Build constraints" of Go's package go/build, and package go/build/constraint. Beyond Go, parentheses
+-- nest at most to a bound.
+-- In crate go_tags, proofs/CompleteExpressions.antt and proofs/SoundExpressions.antt show that the reader finds exactly
 -- the trees of this grammar, and that there is at most one.
-use Rattle.std.specs.Prelude.{◌≡◌, ◌≢◌, ℕ, suc, Bool, true, ◌||◌, ◌==◌, List, [], ◌∷◌, ◌++◌}
+use Rattle.std.specs.Prelude.{◌≡◌, ◌≢◌, ℕ, suc, true, List, [], ◌∷◌, ◌++◌}
 use Rattle.go_base.specs.Characters.{is_tag_character, IsRun}
+use Rattle.go_base.specs.Comments.{is_blank}
 use Rattle.go_model.specs.declared.files.build.ConstraintPart.{ConstraintPart}
 use Rattle.go_model.specs.declared.files.build.ConstraintPart.TheVariants as part
 use Rattle.go_model.specs.declared.files.build.Constraint.{Constraint}
 use Rattle.go_model.specs.declared.files.build.Constraint.TheVariants as c
-
--- a space or a tab
-abbrev pub is_blank : ℕ → Bool
-is_blank b = b == 32 || b == 9
 
 -- the text is these parts, with blanks between them
 pub data AreParts : List ℕ → List ConstraintPart → Type 0 where

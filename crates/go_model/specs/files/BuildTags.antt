@@ -1,5 +1,5 @@
--- Build tags: the systems and architectures that file names may carry, and the tags that a platform
--- satisfies, after "Build constraints" of Go's package go/build.
+-- Build tags: the systems and architectures that file names may carry, and the tags that a platform satisfies.
+-- Public source: "Build constraints" of Go's package go/build.
 -- In crate go_tags, the functions of src/tags.rt compute these.
 use Rattle.std.specs.Prelude.{ℕ, Bool, false, ◌||◌, ◌&&◌, List, [], ◌∷◌, codes, bytes_eq}
 use Rattle.go_model.specs.declared.files.platform.Platform.{Platform}

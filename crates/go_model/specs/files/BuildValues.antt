@@ -1,5 +1,5 @@
--- The value of a build expression on a platform, and the choice of a file, after "Build
--- constraints" of Go's package go/build.
+-- The value of a build expression on a platform, and the choice of a file.
+-- Public source: "Build constraints" of Go's package go/build.
 -- In crate go_tags, src/choice.rt computes these.
 use Rattle.std.specs.Prelude.{ℕ, Bool, ◌||◌, ◌&&◌, ◌==◌, not, if◌then◌else◌, Option, None, Some, List, [], ◌∷◌, drop, reverse, codes, bytes_eq}
 use Rattle.std.specs.List.{slice_split, before_first, list_any, list_all}

@@ -1,16 +1,16 @@
--- The header of a Go file: the white space and comments in front, the build lines among them, and
--- the package clause behind them; after "Comments", "Tokens" and "Package clause" of the Go
--- specification, and "Build constraints" of Go's package go/build. Beyond Go, comments are
--- UTF-8 without NUL, and a header ends before any other comment.
--- In crate go_tags, the function one_header of src/header.rt says that a file has one header or one
+-- The header of a Go file: the white space and comments in front, the build lines among them, and the package clause
+-- behind them.
+-- Public source: Go specification, "Comments", "Tokens" and "Package clause"; "Build constraints" of Go's package
+-- go/build. Beyond Go, comments are UTF-8 without NUL, and a header ends before any other comment.
+-- In crate go_tags, the function one_header of src/laws.rt says that a file has one header or one
 -- cause, and the function header finds it.
-use Rattle.std.specs.Prelude.{◌≡◌, ◌≢◌, ◌≤◌, ◌+◌, ℕ, Bool, true, false, ◌||◌, ◌&&◌, ◌==◌, not, if◌then◌else◌, Option, None, Some, option_map, List, [], ◌∷◌, ◌++◌, length, take, drop, codes, bytes_eq}
-use Rattle.std.specs.Str.{is_utf8}
-use Rattle.std.specs.List.{position_or_len, prefix_len, list_all, list_any}
-use Rattle.go_base.specs.Comments.{starts_with, IsFront, without_mark}
+use Rattle.std.specs.Prelude.{◌≡◌, ◌≢◌, ◌≤◌, ℕ, Bool, true, false, ◌||◌, ◌&&◌, if◌then◌else◌, Option, None, Some, List, [], ◌∷◌, ◌++◌, length, drop, codes, bytes_eq}
+use Rattle.std.specs.List.{prefix_len, list_any}
 use Rattle.go_base.specs.Characters.{is_letter, is_name_character, BeginsPassing, IsRun}
+use Rattle.go_base.specs.Comments.{is_blank, starts_with, IsFront, without_mark}
+use Rattle.go_base.specs.Keywords.{keywords}
 use Rattle.go_model.specs.files.BuildTags.{is_one_of}
-use Rattle.go_model.specs.files.BuildConstraints.{is_blank, IsExpression}
+use Rattle.go_model.specs.files.BuildConstraints.{IsExpression}
 use Rattle.go_model.specs.declared.files.build.Constraint.{Constraint}
 use Rattle.go_model.specs.declared.files.build.Header.{Header}
 
@@ -67,15 +67,7 @@ build_texts (comment ∷ comments) = as_list (build_text comment) ++ build_texts
 abbrev pub has_plus_line : List (List ℕ) → Bool
 has_plus_line comments = list_any is_plus_line comments
 
--- the keywords of Go, none of which is a name
-unfoldable pub keywords : List (List ℕ)
-keywords =
-    codes "break" ∷ codes "case" ∷ codes "chan" ∷ codes "const" ∷ codes "continue" ∷ codes "default" ∷ codes "defer"
-    ∷ codes "else" ∷ codes "fallthrough" ∷ codes "for" ∷ codes "func" ∷ codes "go" ∷ codes "goto" ∷ codes "if"
-    ∷ codes "import" ∷ codes "interface" ∷ codes "map" ∷ codes "package" ∷ codes "range" ∷ codes "return" ∷ codes "select"
-    ∷ codes "struct" ∷ codes "switch" ∷ codes "type" ∷ codes "var" ∷ []
-
--- a name that a package may have: an identifier, and not the blank one
+-- a name that a package may have: an identifier, which no keyword is, and not the blank one
 pub record IsPackageName (name : List ℕ) : Type 0 where
   pub letter : BeginsPassing is_letter name
   pub word : is_one_of keywords name ≡ false

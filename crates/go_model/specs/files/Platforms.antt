@@ -1,5 +1,5 @@
--- The platforms: names of systems and architectures as in Go's `go tool dist list`, and the sizes of
--- `int` as in "Numeric types" of the Go specification, which leaves them to the architecture.
+-- The platforms: names of systems and architectures, and the sizes of `int`.
+-- Public source: Go's `go tool dist list`; Go specification, "Numeric types", which leaves the sizes to the architecture.
 use Rattle.std.specs.Prelude.{ℕ, List, ◌++◌, codes}
 use Rattle.go_model.specs.declared.files.platform.Platform.{Platform}
 use Rattle.go_model.specs.declared.files.platform.Platform.TheVariants as p

@@ -1,10 +1,10 @@
 -- How large a type is, and how large it may be.
 -- Own: a name is one node, fields are free, and a method counts as the type of its function.
-use Rattle.std.specs.Prelude.{◌≤◌, ◌+◌, ◌++◌, ℕ, zero, suc, max, sum, List, [], ◌∷◌}
+use Rattle.std.specs.Prelude.{◌≡◌, ◌<◌, ◌≤◌, ◌+◌, ◌++◌, ◌⊎◌, ℕ, zero, suc, max, sum, List, [], ◌∷◌, Option, None, Some}
 use Rattle.go_model.specs.declared.types.term.Term.{Term, Term-F, fold-Term}
-use Rattle.go_model.specs.declared.types.term.Field.{Field-F}
-use Rattle.go_model.specs.declared.types.term.Method.{Method-F}
-use Rattle.go_model.specs.declared.types.term.Signature.{Signature-F}
+use Rattle.go_model.specs.declared.types.term.Field.{Field, Field-F, fold-Field}
+use Rattle.go_model.specs.declared.types.term.Method.{Method, Method-F, fold-Method}
+use Rattle.go_model.specs.declared.types.term.Signature.{Signature, Signature-F, fold-Signature}
 
 abbrev pub field_size : Field-F ℕ ℕ ℕ ℕ → ℕ
 field_size f = f.term
@@ -30,6 +30,16 @@ node_step (Term-F.Interface ms) = suc (sum ms)
 -- how many types stand in a type, itself among them
 abbrev pub nodes : Term → ℕ
 nodes = fold-Term ℕ ℕ ℕ ℕ node_step field_size method_size signature_nodes
+
+-- the same of a field, a method and a signature
+abbrev pub nodes_of_field : Field → ℕ
+nodes_of_field = fold-Field ℕ ℕ ℕ ℕ node_step field_size method_size signature_nodes
+
+abbrev pub nodes_of_method : Method → ℕ
+nodes_of_method = fold-Method ℕ ℕ ℕ ℕ node_step field_size method_size signature_nodes
+
+abbrev pub nodes_of_signature : Signature → ℕ
+nodes_of_signature = fold-Signature ℕ ℕ ℕ ℕ node_step field_size method_size signature_nodes
 
 abbrev pub greatest : List ℕ → ℕ
 greatest [] = zero
@@ -58,6 +68,21 @@ height_step (Term-F.Interface ms) = above ms
 -- how many types stand in one another, but for the innermost
 abbrev pub height : Term → ℕ
 height = fold-Term ℕ ℕ ℕ ℕ height_step field_size method_size signature_height
+
+-- the same of a field, a method and a signature
+abbrev pub height_of_field : Field → ℕ
+height_of_field = fold-Field ℕ ℕ ℕ ℕ height_step field_size method_size signature_height
+
+abbrev pub height_of_method : Method → ℕ
+height_of_method = fold-Method ℕ ℕ ℕ ℕ height_step field_size method_size signature_height
+
+abbrev pub height_of_signature : Signature → ℕ
+height_of_signature = fold-Signature ℕ ℕ ℕ ℕ height_step field_size method_size signature_height
+
+-- what is left of so much room after so many nodes of such a height; none exactly where they are more, or higher than the limit
+abbrev pub Leaves : ℕ → ℕ → ℕ → ℕ → Option ℕ → Type 0
+Leaves room limit size tall (Some left) = (left + size ≡ room) × (tall ≤ limit)
+Leaves room limit size tall None = (room < size) ⊎ (limit < tall)
 
 -- a type that is neither too large nor too high
 pub record IsWithinBounds (t : Term) : Type 0 where

@@ -1,6 +1,6 @@
 -- Method sets, and the types that implement an interface.
 -- Public source: Go specification, "Method sets" and "Implementing an interface".
-use Rattle.std.specs.Prelude.{◌≡◌, ◌⊎◌, ℕ, List, map, Bool, true, false}
+use Rattle.std.specs.Prelude.{◌≡◌, ◌⊎◌, ℕ, List, map, Option, Bool, true, false}
 use Rattle.std.specs.List.Sorted.{IsStrictlySortedBy}
 use Rattle.std.specs.Ordering.{nat_cmp, ordering_then}
 use Rattle.std.specs.declared.cmp.Ordering.{Ordering}
@@ -8,8 +8,9 @@ use Rattle.std.specs.Cmp.Lexicographic.{slice_cmp}
 use Rattle.go_base.specs.Lists.{Has}
 use Rattle.go_model.specs.types.Tables.{Table}
 use Rattle.go_model.specs.types.Underlying.{under}
-use Rattle.go_model.specs.types.Selectors.{method, IsOnly, is_defined_pointer}
+use Rattle.go_model.specs.types.Selectors.{method, start, IsOnly, is_defined_pointer}
 use Rattle.go_model.specs.declared.types.names.Sel.{Sel}
+use Rattle.go_model.specs.declared.types.names.TypeName.{TypeName}
 use Rattle.go_model.specs.declared.types.term.Term.{Term, Term-F}
 use Rattle.go_model.specs.declared.types.term.Method.{Method, out-Method}
 use Rattle.go_model.specs.declared.types.term.Signature.{Signature}
@@ -22,8 +23,9 @@ Reaches pointer through = (pointer ≡ false) ⊎ (through ≡ true)
 pub record InSet (T : Table) (t : Term) (s : Sel) (g : Signature) : Type 0 where
   pub depth : ℕ
   pub through : Bool
+  pub owner : Option TypeName
   pub pointer : Bool
-  pub only : IsOnly T s t depth (record { through = through; target = method pointer g })
+  pub only : IsOnly T s (start T t) depth (record { through = through; target = method owner pointer g })
   pub counts : is_defined_pointer T t ≡ false
   pub reaches : Reaches pointer through
 

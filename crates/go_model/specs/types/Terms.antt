@@ -1,6 +1,6 @@
 -- Types as terms, a level at a time.
 -- Public source: Go specification, "Types", "Type identity" and, for `error`, "Errors".
-use Rattle.std.specs.Prelude.{◌&&◌, ℕ, List, [], ◌∷◌, Bool, false, codes}
+use Rattle.std.specs.Prelude.{◌≡◌, ◌&&◌, ℕ, List, [], ◌∷◌, Bool, false, Option, None, Some, codes}
 use Rattle.std.specs.Str.{bytes_eq}
 use Rattle.go_model.specs.declared.types.names.TypeName.{TypeName}
 use Rattle.go_model.specs.declared.types.names.Sel.{Sel}
@@ -15,6 +15,11 @@ use Rattle.go_model.specs.declared.constants.value.Basic.TheVariants as basic
 abbrev pub Layer : Type 0
 Layer = Term-F Term Field Method Signature
 
+-- the signature of a function type
+abbrev pub signature_of : Layer → Option Signature
+signature_of (Term-F.Func g) = Some g
+signature_of l = None
+
 -- the type of a level
 abbrev pub pointer_to : Term → Term
 pointer_to base = roll-Term (Term-F.Pointer base)
@@ -22,6 +27,13 @@ pointer_to base = roll-Term (Term-F.Pointer base)
 -- two selectors are the same name of the same package
 abbrev pub same_sel : Sel → Sel → Bool
 same_sel a b = bytes_eq a.name b.name && bytes_eq a.«package» b.«package»
+
+-- the blank name, which stands for no field and no method
+abbrev pub blank : List ℕ
+blank = codes "_"
+
+abbrev pub IsBlank : Sel → Type 0
+IsBlank s = s.name ≡ blank
 
 -- the path of the package of a client
 abbrev pub client_path : List ℕ

@@ -1,4 +1,5 @@
 -- The selectors of fields and methods that stand in a type.
+-- Own: parts of a type.
 use Rattle.std.specs.Prelude.{List, [], ◌∷◌, ◌++◌}
 use Rattle.go_model.specs.declared.types.names.Sel.{Sel}
 use Rattle.go_model.specs.declared.types.term.Term.{Term, Term-F, fold-Term}

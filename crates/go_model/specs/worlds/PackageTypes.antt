@@ -1,4 +1,5 @@
--- The names and selectors that stand in the types of a package.
+-- The names, the selectors, and the struct and interface types that stand in the types of a package.
+-- Own: parts of a package.
 use Rattle.std.specs.Prelude.{List, [], ◌∷◌, ◌++◌}
 use Rattle.go_model.specs.declared.types.names.TypeName.{TypeName}
 use Rattle.go_model.specs.declared.types.names.Sel.{Sel}
@@ -13,6 +14,7 @@ use Rattle.go_model.specs.declared.types.term.Term.{Term}
 use Rattle.go_model.specs.declared.types.term.Signature.{Signature}
 use Rattle.go_base.specs.Gathered.{gather}
 use Rattle.go_model.specs.types.TypeNames.{names, signature_names}
+use Rattle.go_model.specs.types.Members.{Members, members, signature_members}
 use Rattle.go_model.specs.types.TypeSelectors.{selectors, signature_selectors}
 
 -- what the types give of what a name denotes
@@ -45,3 +47,13 @@ defined_selectors d = selectors d.underlying ++ gather declared_selectors d.meth
 -- the selectors in the types of a package, and those of its declared methods
 abbrev pub package_selectors : Package → List Sel
 package_selectors p = gather object_selectors p.objects ++ gather defined_selectors p.defined
+
+abbrev pub object_members : Object → List Members
+object_members o = of_entity members signature_members o.entity
+
+abbrev pub defined_members : Defined → List Members
+defined_members d = members d.underlying ++ gather (λ m. signature_members m.signature) d.methods
+
+-- the struct and interface types in the types of a package
+abbrev pub package_members : Package → List Members
+package_members p = gather object_members p.objects ++ gather defined_members p.defined

@@ -1,9 +1,10 @@
 //! Classes of kinds, and which operators a class has.
 ghost use Rattle.std.specs.Prelude.{◌≡◌};
 ghost use Rattle.go_model.specs.constants.Classes.{class_of, class_of_basic, integer_of, integer_of_kind, is_inexact};
-ghost use Rattle.go_model.specs.constants.Operators.{binary_applies, unary_applies};
+ghost use Rattle.go_model.specs.constants.Operators.{binary_applies, comparison_applies, is_ordered, unary_applies};
 
 use crate::constants::value::{Basic, BinaryOp, Kind, UnaryOp, Untyped};
+use go_base::operator::CompareOp;
 
 /// A group of kinds that have the same operators: the boolean, integer, float, complex or string ones.
 #[derive(Clone, Copy, Debug, PartialEq, Eq)]
@@ -28,6 +29,24 @@ impl Class {
         ensures { result ≡ is_inexact self }
     {
         matches!(self, Class::Float | Class::Complex)
+    }
+
+    /// Whether the values of its kinds have an order: whether they are integers, floats or strings.
+    pub fn is_ordered(self) -> bool
+        ensures { result ≡ is_ordered self }
+    {
+        matches!(self, Class::Integer | Class::Float | Class::Str)
+    }
+
+    /// Whether values of its kinds can be compared so, where they can be compared at all.
+    pub fn has_comparison(self, op: CompareOp) -> bool
+        ensures { result ≡ comparison_applies op self }
+    {
+        match op {
+            CompareOp::Equal | CompareOp::NotEqual => true,
+            CompareOp::Less | CompareOp::LessEqual => self.is_ordered(),
+            CompareOp::Greater | CompareOp::GreaterEqual => self.is_ordered(),
+        }
     }
 }
 

@@ -1,13 +1,13 @@
 //! Equal copies of types and packages.
 ghost use Rattle.std.specs.Prelude.{◌≡◌, IfOk};
 
+use crate::types::names::{Sel, TypeName};
+use crate::types::package::{ConstTerm, Defined, Entity, MethodOf, Object, Package};
+use crate::types::term::{Field, Method, Signature, Term};
 use go_base::boxed::Box;
 use go_base::list::List;
 use go_base::memory::NoMemory;
 use go_base::text::Text;
-use crate::types::names::{Sel, TypeName};
-use crate::types::package::{ConstTerm, Defined, Entity, MethodOf, Object, Package};
-use crate::types::term::{Field, Method, Signature, Term};
 use std::alloc::Global;
 
 fn copy_text(alloc: Global, text: &Text) -> Result<Text, NoMemory>

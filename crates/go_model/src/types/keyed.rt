@@ -5,8 +5,8 @@ ghost use Rattle.std.specs.Cmp.Lexicographic.{slice_cmp};
 ghost use Rattle.go_base.specs.Lists.{Ascending};
 ghost use Rattle.go_base.specs.Keys.{first_with, item_of, PlaceFor};
 
-use go_base::text::Text;
 use crate::types::package::{Defined, Object, Package};
+use go_base::text::Text;
 use std::cmp::Ordering;
 
 /// An item of a list that is ordered by a text of it.
@@ -84,12 +84,19 @@ fn goes_before<K: Keyed>(key: &[u8], item: &K) -> bool
 
 /// Where an item with this key stands in a list that is ordered by it.
 pub(crate) fn place_for<K: Keyed>(items: &[K], key: &[u8]) -> usize
+    requires { Ascending (map K.key items.now) }
     ensures { PlaceFor K.key items.now key.now result }
 {
-    for (at, item) in items.iter().enumerate() {
+    let mut low = 0usize;
+    let mut high = items.len();
+    while low < high {
+        let middle = low + (high - low) / 2;
+        let item = &items[middle];
         if goes_before(key, item) {
-            return at;
+            high = middle;
+        } else {
+            low = middle + 1;
         }
     }
-    items.len()
+    low
 }

@@ -1,18 +1,45 @@
 //! Names of types, and selectors.
+ghost use Rattle.std.specs.Prelude.{◌≡◌};
+
 use go_base::text::Text;
 
 /// The name of a defined type: the import path of its package, and the name in it. The predeclared
 /// `error` has an empty path.
-#[derive(Debug, Drop, PartialEq, Eq, PartialOrd, Ord)]
+#[derive(Debug, PartialEq, Eq, PartialOrd, Ord)]
 pub struct TypeName {
     pub path: Text,
     pub name: Text,
 }
 
+impl TypeName {
+    /// Its path and its name, moved out.
+    pub fn into_parts(self) -> (Text, Text)
+        ensures { result ≡ record { 0 = self.path; 1 = self.name } }
+    {
+        let TypeName { path, name } = self;
+        (path, name)
+    }
+}
+
+impl Drop for TypeName {
+    fn drop(self) {
+        let TypeName { path: _, name: _ } = self;
+    }
+}
+
 /// A selector: the name of a field or method, and the import path of the package that declares it,
 /// which is empty for an exported name. Selectors are ordered by name and then by package.
-#[derive(Debug, Drop, PartialEq, Eq, PartialOrd, Ord)]
+#[derive(Debug, PartialEq, Eq, PartialOrd, Ord)]
 pub struct Sel {
     pub name: Text,
     pub package: Text,
+}
+
+impl Drop for Sel {
+    fn drop(self) {
+        let Sel {
+            name: _,
+            package: _,
+        } = self;
+    }
 }

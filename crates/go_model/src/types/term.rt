@@ -1,10 +1,14 @@
 //! Types as terms, after the Go specification's "Types": two of them are identical exactly where
 //! they are equal.
+ghost use Rattle.std.specs.Prelude.{◌≡◌};
+ghost use Rattle.go_model.specs.declared.types.term.Term.{out-Term};
+ghost use Rattle.go_model.specs.types.Terms.{signature_of};
+
+use crate::constants::value::Basic;
+use crate::types::names::{Sel, TypeName};
 use go_base::boxed::Box;
 use go_base::list::List;
 use go_base::text::Text;
-use crate::types::names::{Sel, TypeName};
-use crate::constants::value::Basic;
 
 /// The direction of a channel type.
 #[derive(Clone, Copy, Debug, PartialEq, Eq)]
@@ -17,9 +21,9 @@ pub enum Direction {
     ReceiveOnly,
 }
 
-/// A type.
+/// A type. The drops of these types are written out, so that a crate which gives one up makes a call and
+/// proves none of them again.
 #[cycle(term)]
-#[derive(Drop)]
 pub enum Term {
     /// A predeclared type other than `error`.
     Plain(Basic),
@@ -37,9 +41,46 @@ pub enum Term {
     Interface(List<Method>),
 }
 
+impl Term {
+    /// The signature of a function type, moved out; None of any other type.
+    pub fn into_signature(self) -> Option<Signature>
+        ensures { result ≡ signature_of (out-Term self) }
+    {
+        match self {
+            Term::Func(signature) => Some(signature),
+            Term::Plain(_) => None,
+            Term::Named(_) => None,
+            Term::Pointer(_) => None,
+            Term::Slice(_) => None,
+            Term::Array(_, _) => None,
+            Term::Map(_, _) => None,
+            Term::Chan(_, _) => None,
+            Term::Struct(_) => None,
+            Term::Interface(_) => None,
+        }
+    }
+}
+
+impl Drop for Term {
+    #[cycle(term)]
+    fn drop(self) {
+        match self {
+            Term::Plain(_) => {}
+            Term::Named(_) => {}
+            Term::Pointer(_) => {}
+            Term::Slice(_) => {}
+            Term::Array(_, _) => {}
+            Term::Map(_, _) => {}
+            Term::Chan(_, _) => {}
+            Term::Func(_) => {}
+            Term::Struct(_) => {}
+            Term::Interface(_) => {}
+        }
+    }
+}
+
 /// A field of a struct type. A field without a tag has an empty one.
 #[cycle(term)]
-#[derive(Drop)]
 pub struct Field {
     pub sel: Sel,
     pub embedded: bool,
@@ -47,20 +88,51 @@ pub struct Field {
     pub tag: Text,
 }
 
+impl Drop for Field {
+    #[cycle(term)]
+    fn drop(self) {
+        let Field {
+            sel: _,
+            embedded: _,
+            term: _,
+            tag: _,
+        } = self;
+    }
+}
+
 /// A method of an interface type, or of a method set.
 #[cycle(term)]
-#[derive(Drop)]
 pub struct Method {
     pub sel: Sel,
     pub signature: Signature,
 }
 
+impl Drop for Method {
+    #[cycle(term)]
+    fn drop(self) {
+        let Method {
+            sel: _,
+            signature: _,
+        } = self;
+    }
+}
+
 /// The parameters and results of a function type. The last parameter of a variadic one is the slice
 /// of its arguments.
 #[cycle(term)]
-#[derive(Drop)]
 pub struct Signature {
     pub params: List<Term>,
     pub variadic: bool,
     pub results: List<Term>,
+}
+
+impl Drop for Signature {
+    #[cycle(term)]
+    fn drop(self) {
+        let Signature {
+            params: _,
+            variadic: _,
+            results: _,
+        } = self;
+    }
 }

@@ -1,28 +1,36 @@
 //! Worlds: typed packages together.
-ghost use Rattle.std.specs.Prelude.{◌≡◌, ◌<◌, [], OnOk, OnErr, IsOk, vec_len, vec_capacity};
+ghost use Rattle.std.specs.Prelude.{◌≡◌, ◌<◌, [], map, OnOk, OnErr, IsOk, IfSome, vec_len, vec_capacity};
 ghost use Rattle.go_base.specs.Lists.{Ascending};
 ghost use Rattle.go_base.specs.Keys.{first_with, item_of};
 ghost use Rattle.go_base.specs.Keys.{placed};
-ghost use Rattle.go_model.specs.worlds.Worlds.{IsWorld, with_package, table_of, path_of};
+ghost use Rattle.go_model.specs.worlds.Worlds.{IsPackage, IsWorld, with_package, table_of, path_of, object_in};
 
-use go_base::memory::NoMemory;
-use go_base::text::Text;
 use crate::types::keyed::{find_key, place_for};
 use crate::types::names::TypeName;
-use crate::types::package::{Defined, Package};
+use crate::types::package::{Defined, Object, Package};
 use crate::types::table::TypeTable;
+use go_base::memory::NoMemory;
+use go_base::text::Text;
 use std::alloc::Global;
 use std::marker::Model;
 
-/// Packages after typing, and the paths of those that are public, each ordered by path. Each name
-/// of a defined type that stands in a type of the world is one of a package in it, or `error`, and
-/// each unexported selector is of a package in it; no underlying type is a name; the names of a
-/// package are distinct.
-#[derive(Drop)]
+/// Packages after typing, and the paths of those that are public, each ordered by path. What it keeps
+/// is told by the definition of a world: among it, that each name of a defined type in it is one of a
+/// package in it, or `error`, and that no package of it is a client's.
 pub struct World {
     alloc: Global,
     packages: Vec<Package>,
     public: Vec<Text>,
+}
+
+impl Drop for World {
+    fn drop(self) {
+        let World {
+            alloc: _,
+            packages: _,
+            public: _,
+        } = self;
+    }
 }
 
 impl Model for World {
@@ -41,6 +49,7 @@ impl Model for World {
 }
 
 fn insert_package(packages: &mut Vec<Package>, package: Package) -> Result<(), NoMemory>
+    requires { Ascending (map path_of packages.old.items) }
     ensures ok { OnOk result (packages.new.items ≡ placed path_of «package» packages.old.items) }
     ensures err { OnErr result (packages.new.items ≡ packages.old.items) }
 {
@@ -51,6 +60,7 @@ fn insert_package(packages: &mut Vec<Package>, package: Package) -> Result<(), N
 
 // Where there is room, this succeeds.
 fn insert_text(texts: &mut Vec<Text>, text: Text) -> Result<(), NoMemory>
+    requires { Ascending texts.old.items }
     ensures room { vec_len texts.old < vec_capacity texts.old → IsOk result }
     ensures ok { OnOk result (texts.new.items ≡ placed (λ t. t) text texts.old.items) }
     ensures err { OnErr result (texts.new.items ≡ texts.old.items) }
@@ -103,13 +113,32 @@ impl World {
     }
 }
 
+impl World {
+    /// The package of a path; None where it has none.
+    pub fn package(&self, path: &[u8]) -> Option<&Package>
+        ensures package { item_of result ≡ first_with path_of self.now.packages path.now }
+        ensures kept { IfSome result (λ found. IsPackage (table_of self.now.packages) found.now) }
+    {
+        find_key(self.packages(), path)
+    }
+
+    /// The object of a name in the package of a path; None where there is none.
+    pub fn object(&self, path: &[u8], name: &[u8]) -> Option<&Object>
+        ensures { item_of result ≡ object_in (first_with path_of self.now.packages path.now) name.now }
+    {
+        match self.package(path) {
+            Some(found) => found.object(name),
+            None => None,
+        }
+    }
+}
+
 impl TypeTable for World {
     ghost lookup = { λ w. table_of w.packages };
 
     fn defined(&self, name: &TypeName) -> Option<&Defined> {
-        let packages = self.packages();
-        match find_key(packages, name.path.bytes()) {
-            Some(found) => find_key(found.defined.items(), name.name.bytes()),
+        match self.package(name.path.bytes()) {
+            Some(found) => found.defined_type(name.name.bytes()),
             None => None,
         }
     }

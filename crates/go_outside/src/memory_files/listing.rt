@@ -3,7 +3,7 @@ ghost use Rattle.std.specs.Prelude.{◌≡◌, ◌≢◌, ◌<◌, ◌++◌, ◌
 ghost use Rattle.go_outside.specs.MemoryFiles.{contents_of};
 ghost use Rattle.go_outside.specs.Paths.{entry_of};
 ghost use Rattle.go_outside.specs.Stores.{AnswersList};
-ghost use Rattle.go_outside.specs.SortedPairs.{path_at, IsRising, IsPast, IsListingBelow};
+ghost use Rattle.go_outside.specs.inner.SortedPairs.{path_at, IsRising, IsPast, IsListingBelow};
 
 use super::FilePair;
 use super::search::{ended, first_from};
@@ -15,16 +15,16 @@ use std::alloc::Global;
 
 // A key that comes after all that lies in the entry of a folder, and before all that follows it:
 // the byte after a slash ends it.
-fn past_key(alloc: Global, front: &[u8], name: &[u8]) -> Result<Vec<u8>, NoMemory>
-    ensures { IfOk result (λ v. v.items ≡ (front.now ++ name.now) ++ 48 ∷ []) }
+fn past_key(alloc: Global, prefix: &[u8], name: &[u8]) -> Result<Vec<u8>, NoMemory>
+    ensures { IfOk result (λ v. v.items ≡ (prefix.now ++ name.now) ++ 48 ∷ []) }
 {
-    let mut key = Vec::from_slice(alloc, front)?;
+    let mut key = Vec::from_slice(alloc, prefix)?;
     key.extend_from_slice(name)?;
     key.push(b'0')?;
     Ok(key)
 }
 
-// The place past the pairs of this entry, the first of which stands at the place given.
+// The index past the pairs of this entry, the first of which stands at the index given.
 fn past(
     alloc: Global,
     pairs: &[FilePair],
@@ -40,8 +40,8 @@ fn past(
     match entry.kind {
         EntryKind::File => Ok(at + 1),
         _ => {
-            let front = ended(alloc, folder, b'/')?;
-            let key = past_key(alloc, &front, entry.name.bytes())?;
+            let prefix = ended(alloc, folder, b'/')?;
+            let key = past_key(alloc, &prefix, entry.name.bytes())?;
             Ok(first_from(pairs, &key))
         }
     }
@@ -53,8 +53,8 @@ fn entries(alloc: Global, pairs: &[FilePair], folder: &[u8]) -> Result<List<Entr
     ensures { IfOk result (IsListingBelow pairs.now (length pairs.now) folder.now) }
 {
     let mut entries = List::new(alloc);
-    let front = ended(alloc, folder, b'/')?;
-    let mut at = first_from(pairs, &front);
+    let prefix = ended(alloc, folder, b'/')?;
+    let mut at = first_from(pairs, &prefix);
     while at < pairs.len() {
         let Some(entry) = entry_of(alloc, folder, pairs[at].path.bytes())? else {
             return Ok(entries);

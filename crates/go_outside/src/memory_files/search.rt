@@ -2,7 +2,7 @@
 ghost use Rattle.std.specs.Prelude.{◌≡◌, ◌≤◌, ◌++◌, ◌∷◌, [], IfOk, length, option_copied};
 ghost use Rattle.std.specs.FinMap as map;
 ghost use Rattle.go_outside.specs.MemoryFiles.{contents_of};
-ghost use Rattle.go_outside.specs.SortedPairs.{is_before, IsSorted, IsRising, IsFirstFrom};
+ghost use Rattle.go_outside.specs.inner.SortedPairs.{is_before, IsSorted, IsRising, IsFirstFrom};
 
 use super::FilePair;
 use go_base::memory::NoMemory;
@@ -15,7 +15,7 @@ fn is_before(left: &[u8], right: &[u8]) -> bool
     left.cmp(right) == Ordering::Less
 }
 
-// The place of the first pair whose path isn't before the key.
+// The index of the first pair whose path isn't before the key.
 pub(super) fn first_from(pairs: &[FilePair], key: &[u8]) -> usize
     requires { IsSorted pairs.now }
     ensures fits { result ≤ length pairs.now }

@@ -1,8 +1,8 @@
 -- Balanced runs: terminals whose round, square and curly brackets close in order. The body of a function
 -- that is skipped is one, in its braces.
+-- Own: after the blocks of the Go specification.
 use Rattle.std.specs.Prelude.{◌≡◌, ℕ, Bool, true, false, List, ◌∷◌, Option, Some, None}
-use Rattle.go_syntax.specs.declared.statement.Block.{Block}
-use Rattle.go_syntax.specs.declared.statement.Block.TheVariants as block
+use Rattle.go_syntax.specs.declared.body.BodyRange.{BodyRange}
 use Rattle.go_syntax.specs.declared.token.TokenKind.{TokenKind}
 use Rattle.go_syntax.specs.declared.token.TokenKind.TheVariants as kind
 use Rattle.go_syntax.specs.grammar.Terminals.{Terminal, Sign, Odd, Identifier, Basic, Extent}
@@ -37,7 +37,10 @@ pub data IsRun : List Terminal → List Terminal → Type 0 where
   run_nest : {j k : TokenKind} {ts u rest : List Terminal} (at end : Extent) → closer j ≡ Some k → IsRun ts (Sign k end ∷ u) → IsRun u rest
       → IsRun (Sign j at ∷ ts) rest
 
+abbrev pub body_range : ℕ → ℕ → BodyRange
+body_range start end = record { start = start; end = end }
+
 -- a body that is skipped: it reaches from the start of its `{` to the end of its `}`
-pub data IsSkipped : List Terminal → Block → List Terminal → Type 0 where
+pub data IsSkipped : List Terminal → BodyRange → List Terminal → Type 0 where
   skipped : {ts rest : List Terminal} (start start_end end_start end : ℕ) → IsRun ts (Sign kind.RightBrace (end_start, end) ∷ rest)
-      → IsSkipped (Sign kind.LeftBrace (start, start_end) ∷ ts) (block.Skipped start end) rest
+      → IsSkipped (Sign kind.LeftBrace (start, start_end) ∷ ts) (body_range start end) rest

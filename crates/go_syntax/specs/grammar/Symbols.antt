@@ -1,5 +1,6 @@
 -- What stands next in a list of terminal symbols: the steps of which the grammar's rules are made. A rule's
 -- relation speaks of the terminals at which a tree begins and of those that follow it.
+-- Public source: Go specification, "Notation" and "Semicolons".
 use Rattle.std.specs.Prelude.{◌≡◌, ℕ, Bool, true, false, List, [], ◌∷◌, Option, Some, None}
 use denote.Enum.Bare.{sameb}
 use Rattle.go_syntax.specs.contracts.token.TokenKind.{the_type}

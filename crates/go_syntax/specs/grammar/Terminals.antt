@@ -1,5 +1,5 @@
--- The terminal symbols of Go's grammar, and the one that a token is. After "Tokens" and "Operators and
--- punctuation" of the Go specification's "Lexical elements", and "BasicLit" of its "Operands".
+-- The terminal symbols of Go's grammar, and the one that a token is.
+-- Public source: Go specification, "Tokens", "Operators and punctuation", and "BasicLit" of "Operands".
 use Rattle.std.specs.Prelude.{ℕ, ℤ, pos, negsuc, List, map}
 use Rattle.go_syntax.specs.declared.expression.Literal.{Literal}
 use Rattle.go_syntax.specs.declared.expression.Literal.TheVariants as literal

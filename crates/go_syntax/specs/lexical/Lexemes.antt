@@ -1,8 +1,8 @@
--- The lexemes of a Go source file, and the cut of its bytes into longest ones, after the Go
--- specification, "Source code representation" and "Lexical elements". A lexeme is a character of
--- white space, a comment or a token.
--- In crate go_lex, proofs/Longest.antt shows that the scanner takes the longest lexeme, and
--- proofs/Cuts.antt that a text has one cut.
+-- The lexemes of a Go source file, and the cut of its bytes into longest ones. A lexeme is a character of white space, a
+-- comment or a token.
+-- Public source: Go specification, "Source code representation" and "Lexical elements".
+-- In crate go_lex, proofs/LongestByClass.antt shows that the scanner takes the longest lexeme, and
+-- proofs/OneCut.antt that a text has one cut.
 use Rattle.std.specs.Prelude.{◌≡◌, ◌≢◌, ◌≤◌, ◌-◌, ◌⊎◌, ℕ, Bool, ◌||◌, ◌==◌, not, true, false, if◌then◌else◌, Some, pos, nat_lt, ◌^◌, List, [], ◌∷◌, ◌++◌, length, codes}
 use Rattle.std.specs.List.{list_any, list_all}
 use Rattle.std.specs.Char.{IsScalar, encode_utf8}
@@ -20,8 +20,8 @@ use Rattle.go_syntax.specs.declared.token.LexemeKind.{LexemeKind}
 use Rattle.go_syntax.specs.declared.token.LexemeKind.TheVariants as lexeme
 
 -- a space, a tab or a carriage return
-abbrev pub is_blank : ℕ → Bool
-is_blank b = b == 32 || (b == 9 || b == 13)
+abbrev pub is_space_in_line : ℕ → Bool
+is_space_in_line b = b == 32 || (b == 9 || b == 13)
 
 -- a whole number as a token's value
 abbrev pub number_value : ℕ → TokenValue
@@ -39,7 +39,7 @@ quoted quote text = quote ∷ (text ++ (quote ∷ []))
 
 -- a lexeme that is no comment: what it is, what it says and its text
 pub data IsLexeme : LexemeKind → TokenValue → List ℕ → Type 0 where
-  blank : {b : ℕ} → is_blank b ≡ true → IsLexeme lexeme.Blank value.Nothing (b ∷ [])
+  blank : {b : ℕ} → is_space_in_line b ≡ true → IsLexeme lexeme.Blank value.Nothing (b ∷ [])
   newline : IsLexeme lexeme.Newline value.Nothing (10 ∷ [])
   name : {text : List ℕ} (c : ℕ) (cs : List ℕ) → is_letter c ≡ true → IsScalar c → IsRun is_name_character cs [] → text ≡ encode_utf8 c ++ cs →
       IsLexeme (lexeme.Token (name_kind text)) (plain_value (name_kind text) text) text
@@ -98,10 +98,10 @@ pub data CutTo : List ℕ → List Lexeme → List ℕ → Type 0 where
       BeginsLongest bytes x after → CutTo after lexemes rest → CutTo bytes (x ∷ lexemes) rest
 
 -- the offset at which the cut of a file, behind a byte order mark at its start, stops before the end: there no lexeme begins
-pub record IsBadPlace (bytes : List ℕ) (place : ℕ) : Type 0 where
+pub record IsBadOffset (bytes : List ℕ) (at : ℕ) : Type 0 where
   pub lexemes : List Lexeme
   pub rest : List ℕ
   pub cut : CutTo (without_mark bytes) lexemes rest
   pub more : rest ≢ []
   pub none : BeginsNone rest
-  pub offset : place ≡ length bytes - length rest
+  pub offset : at ≡ length bytes - length rest

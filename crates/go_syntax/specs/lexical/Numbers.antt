@@ -1,5 +1,5 @@
--- Number literals, after "Integer literals", "Floating-point literals" and "Imaginary literals" of the
--- Go specification's "Lexical elements".
+-- Number literals.
+-- Public source: Go specification, "Integer literals", "Floating-point literals" and "Imaginary literals".
 use Rattle.std.specs.Prelude.{◌≡◌, ◌⊎◌, ℕ, ◌+◌, ◌*◌, nat_lt, nat_le, Bool, true, ◌||◌, ◌&&◌, ◌==◌, if◌then◌else◌, Option, Some, None, List, [], ◌∷◌, ◌++◌}
 use Rattle.std.specs.Char.{digit_value}
 

@@ -1,5 +1,5 @@
--- Rune and string literals, after "Rune literals" and "String literals" of the Go specification's
--- "Lexical elements".
+-- Rune and string literals.
+-- Public source: Go specification, "Rune literals" and "String literals".
 use Rattle.std.specs.Prelude.{◌≡◌, ◌≤◌, ℕ, Bool, true, ◌||◌, ◌==◌, not, if◌then◌else◌, Option, Some, None, List, [], ◌∷◌, ◌++◌, length}
 use Rattle.std.specs.List.{filter}
 use Rattle.std.specs.Char.{IsScalar, encode_utf8}

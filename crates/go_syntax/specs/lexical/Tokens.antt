@@ -1,6 +1,6 @@
--- The tokens of a Go source file, after the Go specification, "Lexical elements": "Tokens" and
--- "Semicolons". They are read off the cut of the file into lexemes.
--- In crate go_lex, proofs/Scanned.antt shows that the scanner gives these tokens.
+-- The tokens of a Go source file. They are read off the cut of the file into lexemes.
+-- Public source: Go specification, "Tokens" and "Semicolons".
+-- In crate go_lex, proofs/ScanState.antt shows that the scanner gives these tokens.
 use Rattle.std.specs.Prelude.{◌≡◌, ℕ, ◌+◌, ◌-◌, Bool, true, false, if◌then◌else◌, Option, Some, None, List, [], ◌∷◌, ◌++◌, length}
 use Rattle.go_syntax.specs.declared.token.TokenKind.{TokenKind}
 use Rattle.go_syntax.specs.declared.token.TokenKind.TheVariants.{Ident, IntLit, FloatLit, ImagLit, RuneLit, StrLit, BreakWord, ContinueWord, FallthroughWord, ReturnWord, Increment, Decrement, RightParen, RightBracket, RightBrace, Semicolon}

@@ -1,6 +1,8 @@
--- Keywords and operators, after "Keywords" and "Operators and punctuation" of the Go specification's
--- "Lexical elements".
+-- Keywords and operators.
+-- Public source: Go specification, "Keywords" and "Operators and punctuation".
 use Rattle.std.specs.Prelude.{ℕ, if◌then◌else◌, Option, Some, None, unwrap_or, List, [], ◌∷◌, ◌++◌, codes, bytes_eq}
+use Rattle.std.specs.List.{zip}
+use Rattle.go_base.specs.Keywords.{keywords}
 use Rattle.go_syntax.specs.declared.token.TokenKind.{TokenKind}
 use Rattle.go_syntax.specs.declared.token.TokenKind.TheVariants as token
 
@@ -13,23 +15,22 @@ abbrev pub kind_in : KindTable → List ℕ → Option TokenKind
 kind_in [] text = None
 kind_in (row ∷ rows) text = if bytes_eq text row.0 then Some row.1 else kind_in rows text
 
--- the keywords, by length
-unfoldable pub keywords : KindTable
-keywords =
-    (codes "go", token.GoWord) ∷ (codes "if", token.IfWord) ∷ (codes "for", token.ForWord)
-    ∷ (codes "map", token.MapWord) ∷ (codes "var", token.VarWord)
-    ∷ (codes "case", token.CaseWord) ∷ (codes "chan", token.ChanWord) ∷ (codes "else", token.ElseWord)
-    ∷ (codes "func", token.FuncWord) ∷ (codes "goto", token.GotoWord) ∷ (codes "type", token.TypeWord)
-    ∷ (codes "break", token.BreakWord) ∷ (codes "const", token.ConstWord)
-    ∷ (codes "defer", token.DeferWord) ∷ (codes "range", token.RangeWord)
-    ∷ (codes "import", token.ImportWord) ∷ (codes "return", token.ReturnWord) ∷ (codes "select", token.SelectWord)
-    ∷ (codes "struct", token.StructWord) ∷ (codes "switch", token.SwitchWord)
-    ∷ (codes "default", token.DefaultWord) ∷ (codes "package", token.PackageWord) ∷ (codes "continue", token.ContinueWord)
-    ∷ (codes "interface", token.InterfaceWord) ∷ (codes "fallthrough", token.FallthroughWord) ∷ []
+-- the kinds of the keywords, in the order of their texts
+unfoldable pub keyword_kinds : List TokenKind
+keyword_kinds =
+    token.GoWord ∷ token.IfWord ∷ token.ForWord ∷ token.MapWord ∷ token.VarWord
+    ∷ token.CaseWord ∷ token.ChanWord ∷ token.ElseWord ∷ token.FuncWord ∷ token.GotoWord ∷ token.TypeWord
+    ∷ token.BreakWord ∷ token.ConstWord ∷ token.DeferWord ∷ token.RangeWord
+    ∷ token.ImportWord ∷ token.ReturnWord ∷ token.SelectWord ∷ token.StructWord ∷ token.SwitchWord
+    ∷ token.DefaultWord ∷ token.PackageWord ∷ token.ContinueWord ∷ token.InterfaceWord ∷ token.FallthroughWord ∷ []
+
+-- each keyword with its kind
+abbrev pub keyword_table : KindTable
+keyword_table = zip keywords keyword_kinds
 
 -- a name is a keyword, or else an identifier
 abbrev pub name_kind : List ℕ → TokenKind
-name_kind text = unwrap_or (kind_in keywords text) token.Ident
+name_kind text = unwrap_or (kind_in keyword_table text) token.Ident
 
 -- the operators and punctuation of three bytes
 unfoldable pub operators_of_three : KindTable

@@ -1,11 +1,11 @@
 //! Expressions and their parts in the making.
 ghost use Rattle.std.specs.Prelude.{◌≡◌, ◌++◌, ◌∷◌, [], IfOk, OnErr, OnOk, length};
 
+use crate::expression::{Element, ElementValue, Expr, Post};
+use crate::held::whole::Whole;
 use go_base::boxed::Box;
 use go_base::list::List;
 use go_base::memory::NoMemory;
-use crate::expression::{Element, ElementValue, Expr, Post};
-use crate::held::whole::Whole;
 use std::alloc::Global;
 use std::marker::Model;
 

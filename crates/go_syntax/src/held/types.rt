@@ -2,12 +2,12 @@
 ghost use Rattle.std.specs.Prelude.{◌≡◌, ◌++◌, ◌∷◌, [], IfOk, OnErr, OnOk, length, slice_get};
 ghost use Rattle.go_syntax.specs.declared.types.«Type».TheVariants.{Array, Map};
 
-use go_base::boxed::Box;
-use go_base::list::List;
-use go_base::memory::NoMemory;
 use crate::expression::Expr;
 use crate::held::whole::Whole;
 use crate::types::{FieldDecl, InterfaceElem, ParameterDecl, Signature, Type};
+use go_base::boxed::Box;
+use go_base::list::List;
+use go_base::memory::NoMemory;
 use std::alloc::Global;
 use std::marker::Model;
 

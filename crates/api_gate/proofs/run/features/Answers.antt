@@ -1,12 +1,10 @@
-use Rattle.std.proofs.Common.{Err}
-use Rattle.api_gate.proofs.Ran.{told_load, unloaded_read}
+use Rattle.api_gate.proofs.RunEnds.{tree_writes, unloaded_writes}
 use Rattle.api_gate.proofs.run.features.Goals as goal
 
-pub returns-in-Err-clause-told : goal.returns-in-Err-clause-told
-returns-in-Err-clause-told g c = told_load (g.F.Files.told c.args.files.now) c.args.request.now c.bytes.result.now (Err c.in-Err.error) c.unloaded.result c.bytes.ensures c.in-Err.ensures.told (c.unloaded.ensures c.args.request.now.platform)
+pub returns-in-Err-clause-written : goal.returns-in-Err-clause-written
+returns-in-Err-clause-written g c words i =
+    unloaded_writes words _ c.args.request.now c.bytes.result.now c.in-Err.error c.unloaded.result c.bytes.ensures i c.in-Err.ensures.told c.in-Err.ensures.cause c.unloaded.ensures
 
-pub returns-in-Err-clause-some : goal.returns-in-Err-clause-some
-returns-in-Err-clause-some g c = (Err c.in-Err.error, tt, c.unloaded.ensures c.args.request.now.platform)
-
-pub returns-in-Err-clause-read : goal.returns-in-Err-clause-read
-returns-in-Err-clause-read g c = unloaded_read c.args.request.now.platform c.in-Err.error c.unloaded.result _ _ (c.unloaded.ensures c.args.request.now.platform) c.in-Err.ensures.cause
+pub returns-in-Ok-clause-written : goal.returns-in-Ok-clause-written
+returns-in-Ok-clause-written g c words i =
+    tree_writes words _ c.args.request.now c.bytes.result.now c.in-Ok.tree c.tree_features.result c.bytes.ensures i c.in-Ok.ensures.told c.in-Ok.ensures.tree c.in-Ok.ensures.module_path c.tree_features.ensures

@@ -1,6 +1,6 @@
 use Rattle.std.proofs.Common.{List, subst}
 use Rattle.go_model.specs.declared.files.tree.TreeFile.{TreeFile}
-use Rattle.api_gate.specs.FilesReading.{ReadCause}
+use Rattle.api_gate.specs.inner.FileAnswers.{ReadCause}
 use Rattle.api_gate.proofs.run.tree_features.Goals as goal
 
 pub returns-in-Err : goal.returns-in-Err

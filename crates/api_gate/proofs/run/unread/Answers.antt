@@ -1,4 +1,4 @@
-use Rattle.api_gate.proofs.Ran.{tree_refused}
+use Rattle.api_gate.proofs.RunEnds.{tree_refused}
 use Rattle.api_gate.proofs.run.unread.Goals as goal
 
 pub returns-in-Refused : goal.returns-in-Refused

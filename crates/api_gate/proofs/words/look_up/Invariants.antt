@@ -1,7 +1,7 @@
 use Rattle.std.proofs.Common.{◌≡◌, ◌++◌, drop}
 use Rattle.std.specs.Prelude.{option_map}
 use Rattle.api_gate.specs.Words.{values_of}
-use Rattle.api_gate.specs.WordsReading.{optional}
+use Rattle.api_gate.specs.inner.OptionValues.{optional}
 use Rattle.api_gate.proofs.words.look_up.Given as goal
 
 abbrev pub invariant-loop-setting : goal.invariant-loop-setting

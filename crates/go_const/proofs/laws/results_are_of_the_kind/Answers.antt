@@ -1,4 +1,4 @@
-use Rattle.go_const.proofs.Constancy.{binary_constant, conversion_constant, shift_constant, unary_constant}
+use Rattle.go_const.proofs.ResultKinds.{binary_constant, conversion_constant, shift_constant, unary_constant}
 use Rattle.go_const.proofs.laws.results_are_of_the_kind.Goals as goal
 
 pub returns : goal.returns

@@ -1,7 +1,7 @@
 use Rattle.std.proofs.Common.{rules, ◌∙◌, ap₂, FitsSigned, to_z-of_z}
 use Rattle.std.specs.Int.{w128}
-use Rattle.go_const.specs.Bounds.{bounded}
-use Rattle.go_const.proofs.Keeping.{kept_from}
+use Rattle.go_const.specs.inner.Bounds.{bounded}
+use Rattle.go_const.proofs.KeptNumbers.{kept_from}
 use Rattle.go_const.proofs.operation.binary_result.Goals as goal
 use Rattle.go_model.specs.constants.Constants.{binary_number}
 

@@ -1,6 +1,6 @@
 use Rattle.std.proofs.Common.{◌∙◌, ap, true, Some, to_z-of_z}
-use Rattle.go_const.specs.Bounds.{bounded}
-use Rattle.go_const.proofs.Keeping.{kept_from}
+use Rattle.go_const.specs.inner.Bounds.{bounded}
+use Rattle.go_const.proofs.KeptNumbers.{kept_from}
 use Rattle.go_const.proofs.operation.shift_result.Goals as goal
 use Rattle.go_model.specs.constants.Constants.{exact_shift}
 

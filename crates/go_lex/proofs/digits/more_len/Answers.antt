@@ -1,5 +1,5 @@
 use Rattle.std.proofs.Common.{◌≡◌, drop, sym, subst, ◌∙◌, true, false, List, ℕ, arith}
-use Rattle.go_lex.specs.Digits.{goes_on}
+use Rattle.go_lex.specs.inner.DigitLengths.{goes_on}
 use Rattle.go_lex.proofs.DigitRuns.{more_at, more_stop}
 use Rattle.go_lex.proofs.digits.more_len.Goals as goal
 

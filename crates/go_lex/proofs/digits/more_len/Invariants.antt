@@ -1,5 +1,5 @@
 use Rattle.std.proofs.Common.{◌≡◌, ◌≤◌, ◌+◌, ◌-◌, length, drop}
-use Rattle.go_lex.specs.Digits.{more_len}
+use Rattle.go_lex.specs.inner.DigitLengths.{more_len}
 use Rattle.go_lex.proofs.digits.more_len.Given as goal
 
 abbrev pub invariant-loop-at : goal.invariant-loop-at

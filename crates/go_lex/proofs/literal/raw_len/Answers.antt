@@ -1,5 +1,5 @@
 use Rattle.std.proofs.Common.{◌≡◌, ℕ, length, sym, ◌∙◌, subst, arith, ◌∷◌, ◌+◌, ◌≤◌, ◌<◌}
-use Rattle.go_lex.specs.Only.{IsOnly, IsRaw}
+use Rattle.go_lex.specs.inner.OnlyTexts.{IsOnly, IsRaw}
 use Rattle.go_lex.proofs.Literals.{raw_only, raw_open, raw_bad}
 use Rattle.go_lex.proofs.literal.raw_len.Goals as goal
 

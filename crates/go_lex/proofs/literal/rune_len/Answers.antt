@@ -1,5 +1,5 @@
 use Rattle.std.proofs.Common.{◌≡◌, List, ℕ, true, false, sym, ◌∙◌, subst}
-use Rattle.go_lex.specs.Starts.{begins_byte}
+use Rattle.go_lex.specs.inner.Starts.{begins_byte}
 use Rattle.go_lex.proofs.Literals.{rune_only, rune_open, rune_none}
 use Rattle.go_lex.proofs.literal.rune_len.Goals as goal
 

@@ -1,6 +1,6 @@
 use Rattle.std.proofs.Common.{◌≡◌, List, ℕ, true, false, sym, ◌∙◌, subst}
-use Rattle.go_lex.specs.Starts.{begins_byte}
-use Rattle.go_lex.specs.CharacterFronts.{BeginsCharacter, BeginsNoCharacter}
+use Rattle.go_lex.specs.inner.Starts.{begins_byte}
+use Rattle.go_lex.specs.inner.CharacterPrefixes.{BeginsCharacter, BeginsNoCharacter}
 use Rattle.go_lex.proofs.Literals.{string_start, string_step, string_only, string_open}
 use Rattle.go_lex.proofs.literal.string_len.Goals as goal
 

@@ -1,7 +1,7 @@
 use Rattle.std.proofs.Common.{List, ℕ, ◌∷◌, IfSome, sym, subst}
 use Rattle.std.specs.Prelude.{IfNone}
-use Rattle.go_lex.specs.CharacterFronts.{BeginsCharacter, BeginsNoCharacter}
-use Rattle.go_lex.proofs.EscapeFronts.{map_some, map_none, nothing_begins, plain_begins, plain_none, no_slash_there}
+use Rattle.go_lex.specs.inner.CharacterPrefixes.{BeginsCharacter, BeginsNoCharacter}
+use Rattle.go_lex.proofs.EscapePrefixes.{map_some, map_none, nothing_begins, plain_begins, plain_none, no_slash_there}
 use Rattle.go_lex.proofs.quote.character_at.Goals as goal
 
 pub returns-in_default-clause-none : goal.returns-in_default-clause-none

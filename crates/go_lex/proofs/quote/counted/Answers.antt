@@ -2,7 +2,7 @@ use Rattle.std.proofs.Common.{◌≡◌, get_or, take, length, true, sym, ◌∙
 use Rattle.std.specs.Char.{digit_value}
 use Rattle.go_syntax.specs.lexical.Numbers.{is_digit_of}
 use Rattle.go_base.proofs.Lists.{length_take}
-use Rattle.go_lex.proofs.Counted.{wrong_digit, value_more, passes_more, small_more, digit_below, small_enough}
+use Rattle.go_lex.proofs.CountedDigits.{wrong_digit, value_more, passes_more, small_more, digit_below, small_enough}
 use Rattle.go_lex.proofs.quote.counted.Goals as goal
 
 pub returns-then-not-is_digit_of-clause-none : goal.returns-then-not-is_digit_of-clause-none

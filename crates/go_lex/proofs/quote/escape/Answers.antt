@@ -2,8 +2,8 @@ use Rattle.std.proofs.Common.{List, ℕ, ◌∷◌, IfSome, sym, ◌∙◌, subs
 use Rattle.std.specs.Prelude.{IfNone}
 use Rattle.go_lex.specs.declared.quote.Character.{Character}
 use Rattle.go_syntax.specs.declared.token.Meaning.TheVariants.{Character as Character'}
-use Rattle.go_lex.specs.CharacterFronts.{BeginsEscape, BeginsNoCharacter, HasNoOctal}
-use Rattle.go_lex.proofs.EscapeFronts.{map_some, map_none, empty_slash, sign_begins, hexadecimal_begins, hexadecimal_none, point_begins, point_none, octal_begins, octal_none, other_byte}
+use Rattle.go_lex.specs.inner.CharacterPrefixes.{BeginsEscape, BeginsNoCharacter, HasNoOctal}
+use Rattle.go_lex.proofs.EscapePrefixes.{map_some, map_none, empty_slash, sign_begins, hexadecimal_begins, hexadecimal_none, point_begins, point_none, octal_begins, octal_none, other_byte}
 use Rattle.go_lex.proofs.quote.escape.Goals as goal
 
 pub returns-in_default-clause-none : goal.returns-in_default-clause-none

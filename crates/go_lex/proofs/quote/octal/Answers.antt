@@ -1,6 +1,6 @@
 use Rattle.std.proofs.Common.{ap, arith}
 use Rattle.go_syntax.specs.lexical.Numbers.{value_from}
-use Rattle.go_lex.proofs.Counted.{front_counted}
+use Rattle.go_lex.proofs.CountedDigits.{front_counted}
 use Rattle.go_lex.proofs.quote.octal.Goals as goal
 
 pub returns-in_default-clause-none : goal.returns-in_default-clause-none

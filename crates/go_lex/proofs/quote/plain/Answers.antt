@@ -1,5 +1,5 @@
 use Rattle.std.proofs.Common.{sym, ◌∙◌}
-use Rattle.go_lex.proofs.EscapeFronts.{wrong_plain}
+use Rattle.go_lex.proofs.EscapePrefixes.{wrong_plain}
 use Rattle.go_lex.proofs.quote.plain.Goals as goal
 
 pub returns-in_default-clause-none : goal.returns-in_default-clause-none

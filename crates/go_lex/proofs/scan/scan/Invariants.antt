@@ -1,5 +1,5 @@
 use Rattle.std.proofs.Common.{length, ◌-◌}
-use Rattle.go_lex.proofs.Scanned.{IsScanned}
+use Rattle.go_lex.proofs.ScanState.{IsScanned}
 use Rattle.go_lex.proofs.scan.scan.Given as goal
 
 abbrev pub invariant-loop-at : goal.invariant-loop-at

@@ -1,5 +1,5 @@
 use Rattle.std.proofs.Common.{List, ℕ, ◌+◌, sym, subst}
-use Rattle.go_lex.specs.CharacterFronts.{BeginsCharacter}
+use Rattle.go_lex.specs.inner.CharacterPrefixes.{BeginsCharacter}
 use Rattle.go_lex.proofs.StringValues.{Decoded, decoded_step}
 use Rattle.go_lex.proofs.value.string_bytes.Goals as goal
 

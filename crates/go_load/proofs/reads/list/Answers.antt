@@ -1,4 +1,4 @@
-use Rattle.go_load.proofs.Told.{missing_told}
+use Rattle.go_load.proofs.StoreSteps.{missing_told}
 use Rattle.go_load.proofs.reads.list.Goals as goal
 
 pub returns-in-Err-Missing-clause-told : goal.returns-in-Err-Missing-clause-told

@@ -1,4 +1,4 @@
-use Rattle.go_load.specs.Steps.{IsSubOf}
+use Rattle.go_load.specs.inner.Steps.{IsSubOf}
 use Rattle.go_load.proofs.Members.{grows_next}
 use Rattle.go_load.proofs.walk.add_children.Goals as goal
 

@@ -1,4 +1,4 @@
-use Rattle.go_load.specs.Steps.{IsNameOf}
+use Rattle.go_load.specs.inner.Steps.{IsNameOf}
 use Rattle.go_load.proofs.Members.{grows_next, ascending_of}
 use Rattle.go_load.proofs.walk.file_names.Goals as goal
 

@@ -1,5 +1,5 @@
 use Rattle.go_load.specs.Names.{go_mod}
-use Rattle.go_load.specs.Steps.{file_entry}
+use Rattle.go_load.specs.inner.Steps.{file_entry}
 use Rattle.go_load.proofs.Members.{has_item, has_no_more}
 use Rattle.go_load.proofs.walk.has_go_mod.Goals as goal
 

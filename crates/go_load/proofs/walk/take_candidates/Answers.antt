@@ -1,5 +1,5 @@
 use Rattle.std.proofs.Common.{refl, sym, ◌∙◌}
-use Rattle.go_load.proofs.Told.{uncounted_told, takes_told}
+use Rattle.go_load.proofs.StoreSteps.{uncounted_told, takes_told}
 use Rattle.go_load.proofs.walk.take_candidates.Goals as goal
 
 pub returns-in-Err-count_package-clause-told : goal.returns-in-Err-count_package-clause-told

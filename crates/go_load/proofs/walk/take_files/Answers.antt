@@ -1,4 +1,4 @@
-use Rattle.go_load.proofs.Told.{told_same, taking_refused_told}
+use Rattle.go_load.proofs.StoreSteps.{told_same, taking_refused_told}
 use Rattle.go_load.proofs.walk.take_files.Goals as goal
 
 pub returns-in-Err-clause-told : goal.returns-in-Err-clause-told

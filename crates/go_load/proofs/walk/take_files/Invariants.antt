@@ -1,8 +1,8 @@
 use Rattle.std.proofs.Common.{◌≡◌, ◌≤◌}
 use Rattle.go_model.specs.files.Trees.{IsFolderPath}
 use Rattle.go_outside.specs.Faults.{Told}
-use Rattle.go_load.specs.Steps.{IsKept}
-use Rattle.go_load.proofs.Counting.{Taking}
+use Rattle.go_load.specs.inner.Steps.{IsKept}
+use Rattle.go_load.proofs.CountedEvents.{Taking}
 use Rattle.go_load.proofs.walk.take_files.Given as goal
 
 abbrev pub invariant-loop : goal.invariant-loop

@@ -1,6 +1,6 @@
 use Rattle.std.proofs.Common.{refl, ◌∙◌}
-use Rattle.go_load.proofs.Folders.{placed_more}
-use Rattle.go_load.proofs.Told.{told_same, listed_as, other_visit, own_visit, on_ok, kept_mid}
+use Rattle.go_load.proofs.FolderEntries.{placed_more}
+use Rattle.go_load.proofs.StoreSteps.{told_same, listed_as, other_visit, own_visit, on_ok, kept_mid}
 use Rattle.go_load.proofs.walk.visit.Goals as goal
 
 pub returns-then-is_other_module-clause-told : goal.returns-then-is_other_module-clause-told

@@ -1,9 +1,9 @@
 use Rattle.std.proofs.Common.{◌≡◌, refl, arith, sym, ◌∙◌, List, subst}
 use Rattle.go_outside.specs.Paths.{Path}
 use Rattle.go_model.specs.files.Trees.{IsFolderPath}
-use Rattle.go_load.specs.Steps.{Grows}
-use Rattle.go_load.proofs.Orders.{none_left}
-use Rattle.go_load.proofs.Told.{told_same, first_state, whole_state, refused_state, next_state, placed_first, placed_of, placed_rest, kept_first}
+use Rattle.go_base.specs.Growing.{Grows}
+use Rattle.go_load.proofs.FolderOrder.{none_left}
+use Rattle.go_load.proofs.StoreSteps.{told_same, first_state, whole_state, refused_state, next_state, placed_first, placed_of, placed_rest, kept_first}
 use Rattle.go_load.proofs.walk.walk.Goals as goal
 
 pub loop-init : goal.loop-init

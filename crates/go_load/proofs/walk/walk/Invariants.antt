@@ -1,7 +1,7 @@
 use Rattle.std.proofs.Common.{◌≡◌, ◌≤◌}
 use Rattle.go_outside.specs.Faults.{Told}
-use Rattle.go_load.specs.Steps.{IsKept, ArePlaced}
-use Rattle.go_load.proofs.State.{State}
+use Rattle.go_load.specs.inner.Steps.{IsKept, ArePlaced}
+use Rattle.go_load.proofs.WalkState.{State}
 use Rattle.go_load.proofs.walk.walk.Given as goal
 
 abbrev pub invariant-loop : goal.invariant-loop

@@ -2,8 +2,8 @@
 use Rattle.std.proofs.Common.{rules}
 use Rattle.std.proofs.lemmas.List.Sorted.{answers_always}
 use Rattle.go_outside.specs.declared.memory_files.FilePair.{FilePair}
-use Rattle.go_outside.specs.SortedPairs.{is_before}
-use Rattle.go_outside.proofs.Sorted.{by_path}
+use Rattle.go_outside.specs.inner.SortedPairs.{is_before}
+use Rattle.go_outside.proofs.PairOrder.{by_path}
 use Rattle.go_outside.proofs.memory_files.sorted.Goals as goal
 
 pub returns-clause-sorted : goal.returns-clause-sorted

@@ -1,9 +1,9 @@
 use Rattle.std.proofs.Common.{◌∙◌, [], sym}
 use Rattle.go_syntax.specs.grammar.Terminals.{terminals}
-use Rattle.go_parse.specs.Declarations.{specs, spec_item, import_spec}
-use Rattle.go_parse.specs.Reading.{loop, step_of, ended}
-use Rattle.go_parse.proofs.Loops.{handed, nothing_found, starts, specs_stop, specs_fail, specs_unended, specs_more}
-use Rattle.go_parse.proofs.Turns.{no_more}
+use Rattle.go_parse.specs.Declarations.{specs, import_spec}
+use Rattle.go_cursor.specs.Reading.{loop, step_of, ended, spec_item}
+use Rattle.go_cursor.proofs.Loops.{handed, nothing_found, starts, specs_stop, specs_fail, specs_unended, specs_more}
+use Rattle.go_cursor.proofs.Turns.{no_more}
 use Rattle.go_parse.proofs.imports.import_specs.Goals as goal
 
 pub loop-turn-init : goal.loop-turn-init

@@ -1,7 +1,7 @@
 use Rattle.std.proofs.Common.{◌≡◌, ◌-◌}
 use Rattle.go_syntax.specs.grammar.Terminals.{terminals}
-use Rattle.go_parse.specs.Declarations.{specs, spec_item, import_spec}
-use Rattle.go_parse.specs.Reading.{loop, step_of}
+use Rattle.go_parse.specs.Declarations.{specs, import_spec}
+use Rattle.go_cursor.specs.Reading.{loop, step_of, spec_item}
 use Rattle.go_parse.proofs.imports.import_specs.Given as goal
 
 abbrev pub invariant-loop-turn : goal.invariant-loop-turn

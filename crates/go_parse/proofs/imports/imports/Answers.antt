@@ -1,9 +1,9 @@
 use Rattle.std.proofs.Common.{[]}
 use Rattle.go_syntax.specs.grammar.Terminals.{terminals}
-use Rattle.go_parse.specs.Declarations.{imports, import_item, step_all}
-use Rattle.go_parse.specs.Reading.{loop}
-use Rattle.go_parse.proofs.Loops.{handed, turn_failed, turn_stopped, turn_went_on, starts, all_stop, all_fail, all_more}
-use Rattle.go_parse.proofs.Turns.{no_more}
+use Rattle.go_parse.specs.Declarations.{imports, import_item}
+use Rattle.go_cursor.specs.Reading.{loop, step_all}
+use Rattle.go_cursor.proofs.Loops.{handed, turn_failed, turn_stopped, turn_went_on, starts, all_stop, all_fail, all_more}
+use Rattle.go_cursor.proofs.Turns.{no_more}
 use Rattle.go_parse.proofs.imports.imports.Goals as goal
 
 pub loop-turn-init : goal.loop-turn-init

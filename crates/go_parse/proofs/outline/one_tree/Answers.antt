@@ -1,5 +1,5 @@
 use Rattle.std.proofs.Common.{refl}
-use Rattle.go_model.specs.Terminals.{terminals}
+use Rattle.go_syntax.specs.grammar.Terminals.{terminals}
 use Rattle.go_parse.proofs.Files.{one_outline}
 use Rattle.go_parse.proofs.outline.one_tree.Goals as goal
 

@@ -1,14 +1,14 @@
 use Rattle.std.proofs.Common.{◌≡◌, ◌≢◌, List, [], Result, Ok, Err, Some, IfOk, refl, sym, subst}
 use Rattle.std.specs.Prelude.{IsErrOf, IsErr}
-use Rattle.go_model.specs.declared.syntax.declaration.File.{File}
-use Rattle.go_model.specs.declared.token.Token.{Token}
-use Rattle.go_model.specs.SourceFiles.{HasOutline}
-use Rattle.go_model.specs.Terminals.{Terminal, terminals}
-use Rattle.go_parse.specs.declared.error.ParseError.{ParseError}
-use Rattle.go_parse.specs.declared.error.ParseError.TheVariants.{Syntax, NoMemory}
+use Rattle.go_syntax.specs.declared.declaration.File.{File}
+use Rattle.go_syntax.specs.declared.token.Token.{Token}
+use Rattle.go_syntax.specs.grammar.SourceFiles.{HasOutline}
+use Rattle.go_syntax.specs.grammar.Terminals.{Terminal, terminals}
+use Rattle.go_cursor.specs.declared.error.ParseError.{ParseError}
+use Rattle.go_cursor.specs.declared.error.ParseError.TheVariants.{Syntax, NoMemory}
 use Rattle.go_parse.specs.Declarations.{file}
-use Rattle.go_parse.specs.Levels.{levels}
-use Rattle.go_parse.specs.Reads.{Reads}
+use Rattle.go_exprs.specs.Levels.{levels}
+use Rattle.go_cursor.specs.Reads.{Reads}
 use Rattle.go_parse.proofs.Files.{has_outline, no_outline, more_than_outline}
 use Rattle.go_parse.proofs.outline.parse_outline.Goals as goal
 

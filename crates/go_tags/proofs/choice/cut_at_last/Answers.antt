@@ -1,6 +1,6 @@
 use Rattle.std.proofs.Common.{◌≡◌, ℕ, ◌-◌, ◌==◌, subst, arith, drop, suc, false, zero}
 use Rattle.std.specs.List.{All}
-use Rattle.go_tags.proofs.NameEnds.{cut_here, no_cut}
+use Rattle.go_tags.proofs.NameParts.{cut_here, no_cut}
 use Rattle.go_tags.proofs.choice.cut_at_last.Goals as goal
 
 pub returns-then-parts-at-eq95 : goal.returns-then-parts-at-eq95

@@ -1,5 +1,5 @@
 use Rattle.std.proofs.Common.{◌∙◌, sym}
-use Rattle.go_tags.proofs.NameEnds.{no_underscore, first_underscore}
+use Rattle.go_tags.proofs.NameParts.{no_underscore, first_underscore}
 use Rattle.go_tags.proofs.choice.does_name_hold.Goals as goal
 
 pub returns-in-None : goal.returns-in-None

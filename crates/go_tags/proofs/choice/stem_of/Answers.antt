@@ -1,5 +1,5 @@
 use Rattle.std.proofs.Common.{◌∙◌, sym}
-use Rattle.go_tags.proofs.NameEnds.{before_found, before_none}
+use Rattle.go_tags.proofs.NameParts.{before_found, before_none}
 use Rattle.go_tags.proofs.choice.stem_of.Goals as goal
 
 pub returns-in-Some : goal.returns-in-Some

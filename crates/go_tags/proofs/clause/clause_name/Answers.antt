@@ -1,7 +1,7 @@
 use Rattle.std.proofs.Common.{◌≡◌, List, ℕ, Option, option_map, sym, subst, refl, true}
 use denote.Ref.{Bor}
 use Rattle.go_model.specs.files.Headers.{IsPackageName, IsClause}
-use Rattle.go_tags.proofs.Clauses.{clause_run}
+use Rattle.go_tags.proofs.OneClause.{clause_run}
 use Rattle.go_tags.proofs.clause.clause_name.Goals as goal
 
 pub returns-in_err-past_keyword : goal.returns-in_err-past_keyword

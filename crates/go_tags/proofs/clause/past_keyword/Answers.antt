@@ -1,5 +1,5 @@
 use Rattle.std.proofs.Common.{arith}
-use Rattle.go_tags.proofs.Clauses.{whole_word, longer_word, stripped}
+use Rattle.go_tags.proofs.OneClause.{whole_word, longer_word, stripped}
 use Rattle.go_tags.proofs.clause.past_keyword.Goals as goal
 
 pub returns-then-run_len-eq0-clause-some : goal.returns-then-run_len-eq0-clause-some

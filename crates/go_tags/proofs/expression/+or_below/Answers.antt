@@ -1,6 +1,6 @@
 use Rattle.std.proofs.Common.{◌≡◌, ap, arith}
-use Rattle.go_tags.specs.Reading.{or_below}
-use Rattle.go_tags.proofs.Turns.{above}
+use Rattle.go_tags.specs.inner.RecursiveDescent.{or_below}
+use Rattle.go_tags.proofs.RemainingTurns.{above}
 use Rattle.go_tags.proofs.expression.+or_below.Goals as goal
 
 pub returns-then-depth-eq0 : goal.returns-then-depth-eq0

@@ -5,8 +5,8 @@ use Rattle.go_model.specs.declared.files.build.Constraint.{Constraint}
 use Rattle.go_model.specs.files.BuildConstraints.{AreParts, IsOr}
 use Rattle.go_tags.specs.declared.error.TagError.{TagError}
 use Rattle.go_tags.specs.declared.error.TagError.TheVariants.{BadExpression, Twice, PlusBuild, NoMemory}
-use Rattle.go_tags.specs.Causes.{OrCause, ExpressionCause}
-use Rattle.go_tags.proofs.Stepping.{parts_once}
+use Rattle.go_tags.specs.inner.ExpressionCauses.{OrCause, ExpressionCause}
+use Rattle.go_tags.proofs.OneCut.{parts_once}
 use Rattle.go_tags.proofs.expression.expression_of.Goals as goal
 
 through : (r : Result Constraint TagError) (text : List ℕ) (parts read : List ConstraintPart) → AreParts text parts → read ≡ parts → IfErr r (OrCause read) → IfErr r (ExpressionCause text)

@@ -5,11 +5,11 @@ use Rattle.go_model.specs.declared.files.build.Constraint.{Constraint}
 use Rattle.go_model.specs.files.BuildConstraints.{IsOr}
 use Rattle.go_tags.specs.declared.error.TagError.{TagError}
 use Rattle.go_tags.specs.declared.error.TagError.TheVariants.{BadExpression, Twice, PlusBuild, NoMemory}
-use Rattle.go_tags.specs.Reading.{or_below}
-use Rattle.go_tags.specs.Reads.{Reads}
-use Rattle.go_tags.specs.Causes.{OrCause}
-use Rattle.go_tags.proofs.Complete.{refused, left_over}
-use Rattle.go_tags.proofs.Sound.{whole_below}
+use Rattle.go_tags.specs.inner.RecursiveDescent.{or_below}
+use Rattle.go_tags.specs.inner.ParserAnswers.{Reads}
+use Rattle.go_tags.specs.inner.ExpressionCauses.{OrCause}
+use Rattle.go_tags.proofs.CompleteExpressions.{refused, left_over}
+use Rattle.go_tags.proofs.SoundExpressions.{whole_below}
 use Rattle.go_tags.proofs.expression.read_parts.Goals as goal
 
 failed : (e : TagError) (parts rest : List ConstraintPart) → Reads {A = Constraint} (or_below 257 parts) (Err e) rest → OrCause parts e

@@ -1,7 +1,7 @@
 use Rattle.std.proofs.Common.{sym, subst, inl, inr}
 use Rattle.go_model.specs.files.Headers.{build_texts}
-use Rattle.go_tags.specs.Lines.{Counts}
-use Rattle.go_tags.proofs.Scans.{count_none, count_first, count_later, at_least_one, two_or_more}
+use Rattle.go_tags.specs.inner.HeaderLines.{Counts}
+use Rattle.go_tags.proofs.HeaderScans.{count_none, count_first, count_later, at_least_one, two_or_more}
 use Rattle.go_tags.proofs.lines.with_build_line.Goals as goal
 
 pub returns-in-None : goal.returns-in-None

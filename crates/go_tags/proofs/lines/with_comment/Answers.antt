@@ -1,4 +1,4 @@
-use Rattle.go_tags.proofs.Scans.{plus_with}
+use Rattle.go_tags.proofs.HeaderScans.{plus_with}
 use Rattle.go_tags.proofs.lines.with_comment.Goals as goal
 
 pub returns : goal.returns

@@ -1,5 +1,5 @@
 use Rattle.std.proofs.Common.{◌∙◌, sym}
-use Rattle.go_tags.proofs.Stepping.{step_begins}
+use Rattle.go_tags.proofs.OneCut.{step_begins}
 use Rattle.go_tags.proofs.parts.first_step.Goals as goal
 
 pub returns-in-Some-clause-step : goal.returns-in-Some-clause-step

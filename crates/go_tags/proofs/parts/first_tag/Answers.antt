@@ -1,5 +1,5 @@
 use Rattle.std.proofs.Common.{arith}
-use Rattle.go_tags.proofs.Stepping.{no_tag, tag_begins}
+use Rattle.go_tags.proofs.OneCut.{no_tag, tag_begins}
 use Rattle.go_tags.proofs.parts.first_tag.Goals as goal
 
 pub returns-then-len-eq0-clause-cause : goal.returns-then-len-eq0-clause-cause

@@ -1,4 +1,4 @@
-use Rattle.go_tags.proofs.Stepping.{cutting_done}
+use Rattle.go_tags.proofs.OneCut.{cutting_done}
 use Rattle.go_tags.proofs.parts.parts_of.Goals as goal
 
 pub returns-clause-parts : goal.returns-clause-parts

@@ -1,5 +1,5 @@
 use Rattle.std.proofs.Common.{length, ◌-◌}
-use Rattle.go_tags.proofs.Stepping.{Cutting}
+use Rattle.go_tags.proofs.OneCut.{Cutting}
 use Rattle.go_tags.proofs.parts.parts_of.Given as goal
 
 abbrev pub invariant-loop-at : goal.invariant-loop-at

@@ -1,5 +1,5 @@
 use Rattle.std.proofs.Common.{◌∙◌, add-one}
-use Rattle.go_tags.proofs.Named.{one_more, past_all, other_bytes}
+use Rattle.go_tags.proofs.PlatformSearch.{one_more, past_all, other_bytes}
 use Rattle.go_tags.proofs.platforms.find_named.Goals as goal
 
 pub loop-candidate-preserved : goal.loop-candidate-preserved

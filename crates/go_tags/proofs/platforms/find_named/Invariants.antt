@@ -1,5 +1,5 @@
 use Rattle.std.proofs.Common.{drop}
-use Rattle.go_tags.proofs.Named.{NoneNamed}
+use Rattle.go_tags.proofs.PlatformSearch.{NoneNamed}
 use Rattle.go_tags.proofs.platforms.find_named.Given as goal
 
 abbrev pub invariant-loop-candidate : goal.invariant-loop-candidate

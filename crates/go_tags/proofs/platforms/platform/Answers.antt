@@ -1,4 +1,4 @@
-use Rattle.go_tags.proofs.Named.{through_all}
+use Rattle.go_tags.proofs.PlatformSearch.{through_all}
 use Rattle.go_tags.proofs.platforms.platform.Goals as goal
 
 pub returns : goal.returns

@@ -1,5 +1,11 @@
-use Rattle.go_types.proofs.Agree.{finds_over, set_over, implements_over, assignable_over, convertible_over, comparable_over, agree_back, closed_back}
+use Rattle.go_types.proofs.Agree.{ends_over, agree_in, finds_over, set_over, implements_over, assignable_over, convertible_over, comparable_over, agree_back, closed_back}
 use Rattle.go_types.proofs.laws.agreeing_tables.Goals as goal
+
+pub returns-clause-ends : goal.returns-clause-ends
+returns-clause-ends c = λ P A B same closed s at depth w. ends_over P A B same closed s at depth w
+
+pub returns-clause-way : goal.returns-clause-way
+returns-clause-way c = λ P A B same closed s t w. agree_in P A B same closed s t w
 
 pub returns-clause-find : goal.returns-clause-find
 returns-clause-find c = λ P A B same closed s t r w f. finds_over P A B same closed s t r w f

@@ -1,9 +1,12 @@
 use Rattle.std.proofs.Common.{sym, ◌∙◌}
-use Rattle.go_base.proofs.Ordered.{placed_here, placed_next}
+use Rattle.go_base.proofs.Ordered.{parted_sooner, parted_later, parted_place, below_high, above_low}
 use Rattle.go_model.proofs.types.keyed.place_for.Goals as goal
 
-pub returns-then-goes_before : goal.returns-then-goes_before
-returns-then-goes_before g c = placed_here g.K.Keyed.key c.args.items.now c.loop-at.at c.index-items-at.result c.args.key.now c.loop-at-test.true c.index-items-at.is c.loop-at.invariant (sym c.goes_before.ensures ∙ c.if-goes_before.true)
+pub loop-low-preserved-then-goes_before : goal.loop-low-preserved-then-goes_before
+loop-low-preserved-then-goes_before g c = parted_sooner g.K.Keyed.key c.args.items.now c.args.key.now c.requires c.loop-low.low c.loop-low.high _ c.index-items-middle.result c.loop-low.invariant (below_high c.loop-low.low c.loop-low.high c.loop-low-test.true) c.index-items-middle.is (above_low c.loop-low.low c.loop-low.high) (sym c.goes_before.ensures ∙ c.if-goes_before.true)
 
-pub loop-at-preserved : goal.loop-at-preserved
-loop-at-preserved g c = placed_next g.K.Keyed.key c.args.items.now c.loop-at.at c.index-items-at.result c.args.key.now c.loop-at-test.true c.index-items-at.is c.loop-at.invariant (sym c.goes_before.ensures ∙ c.if-goes_before.false)
+pub loop-low-preserved : goal.loop-low-preserved
+loop-low-preserved g c = parted_later g.K.Keyed.key c.args.items.now c.args.key.now c.requires c.loop-low.low c.loop-low.high _ c.index-items-middle.result c.loop-low.invariant (below_high c.loop-low.low c.loop-low.high c.loop-low-test.true) c.index-items-middle.is (sym c.goes_before.ensures ∙ c.if-goes_before.false)
+
+pub returns : goal.returns
+returns g c = parted_place g.K.Keyed.key c.args.items.now c.args.key.now c.loop-low.low c.loop-low.high c.loop-low-test.false c.loop-low.invariant

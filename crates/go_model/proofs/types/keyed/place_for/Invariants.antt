@@ -1,6 +1,9 @@
-use Rattle.std.proofs.Common.{◌≡◌, ◌++◌, take, drop}
-use Rattle.go_base.specs.Keys.{placed}
+use Rattle.std.proofs.Common.{◌-◌}
+use Rattle.go_base.proofs.Ordered.{Parted}
 use Rattle.go_model.proofs.types.keyed.place_for.Given as goal
 
-abbrev pub invariant-loop-at : goal.invariant-loop-at
-invariant-loop-at g l = (y : g.row.K.Denot) → g.K.Keyed.key y ≡ l.key → placed g.K.Keyed.key y l.items ≡ take l.at l.items ++ placed g.K.Keyed.key y (drop l.at l.items)
+abbrev pub invariant-loop-low : goal.invariant-loop-low
+invariant-loop-low g l = Parted g.K.Keyed.key l.items l.key l.low l.high
+
+abbrev pub decreases-loop-low : goal.decreases-loop-low
+decreases-loop-low g l = l.high - l.low

@@ -2,8 +2,8 @@
 use Rattle.std.proofs.Common.{◌∙◌, sym, ap, subst, Some, None, List, length}
 use Rattle.go_outside.specs.declared.memory_files.FilePair.{FilePair}
 use Rattle.go_outside.specs.MemoryFiles.{IsLeastClash}
-use Rattle.go_outside.specs.SortedPairs.{IsClearBelow, IsFirstClash}
-use Rattle.go_outside.proofs.Told.{clear_rising, tells, clear_sorted, least_sorted}
+use Rattle.go_outside.specs.inner.SortedPairs.{IsClearBelow, IsFirstClash}
+use Rattle.go_outside.proofs.ListingAnswers.{clear_rising, tells, clear_sorted, least_sorted}
 use Rattle.go_outside.proofs.memory_files.MemoryFiles.new.Goals as goal
 
 clear : (c : goal.In-None) → IsClearBelow c.in_ok-pairs.pairs.items (length c.in_ok-pairs.pairs.items)

@@ -1,7 +1,7 @@
 -- The first path that clashes, or none below the place.
 use Rattle.std.proofs.Common.{subst, arith, Bool, MatchBool}
 use Rattle.go_outside.specs.MemoryFiles.{Clashes}
-use Rattle.go_outside.specs.SortedPairs.{path_at}
+use Rattle.go_outside.specs.inner.SortedPairs.{path_at}
 use Rattle.go_outside.proofs.Clashing.{clear_more}
 use Rattle.go_outside.proofs.memory_files.clash.first_clash.Goals as goal
 

@@ -1,5 +1,5 @@
 use Rattle.std.proofs.Common.{length, ◌-◌}
-use Rattle.go_outside.proofs.Listed.{SoFar}
+use Rattle.go_outside.proofs.FolderEntries.{SoFar}
 use Rattle.go_outside.proofs.memory_files.listing.entries.Given as goal
 
 abbrev pub invariant-loop-at : goal.invariant-loop-at

@@ -2,7 +2,7 @@
 use Rattle.std.proofs.Common.{◌∙◌, sym, ap, List, length, nat_eq}
 use Rattle.go_outside.specs.declared.files.Entry.{Entry}
 use Rattle.go_outside.proofs.Lists.{empty_of, some_of}
-use Rattle.go_outside.proofs.Told.{listing_told, listing_missing}
+use Rattle.go_outside.proofs.ListingAnswers.{listing_told, listing_missing}
 use Rattle.go_outside.proofs.memory_files.listing.list.Goals as goal
 
 pub returns-then-is_empty-clause-entries : goal.returns-then-is_empty-clause-entries

@@ -2,8 +2,8 @@
 use Rattle.std.proofs.Common.{rules}
 use Rattle.std.proofs.lemmas.List.Sorted.{IsPartitionPoint-from_clause}
 use Rattle.go_outside.specs.declared.memory_files.FilePair.{FilePair}
-use Rattle.go_outside.specs.SortedPairs.{is_before}
-use Rattle.go_outside.proofs.Sorted.{parted}
+use Rattle.go_outside.specs.inner.SortedPairs.{is_before}
+use Rattle.go_outside.proofs.PairOrder.{parted}
 use Rattle.go_outside.proofs.memory_files.search.first_from.Goals as goal
 
 pub returns-clause-point : goal.returns-clause-point

@@ -1,9 +1,9 @@
 -- The pair that the search finds has the path, or none has.
 use Rattle.std.proofs.Common.{◌≡◌, ◌∙◌, sym, ap, Some}
 use Rattle.std.proofs.lemmas.Slice.Eq.{bytes_eq-Decides}
-use Rattle.go_outside.proofs.Order.{not_both}
-use Rattle.go_outside.proofs.Sorted.{rising_sorted}
-use Rattle.go_outside.proofs.Found.{found_here, found_end, found_other}
+use Rattle.go_outside.proofs.PathOrder.{not_both}
+use Rattle.go_outside.proofs.PairOrder.{rising_sorted}
+use Rattle.go_outside.proofs.PathSearch.{found_here, found_end, found_other}
 use Rattle.go_outside.proofs.memory_files.search.held.Goals as goal
 
 pub first_from-at-requires : goal.first_from-at-requires

@@ -1,7 +1,7 @@
 use Rattle.std.proofs.Common.{rules, arith}
 use Rattle.std.proofs.lemmas.Grind.{common_steps}
-use Rattle.go_tags.specs.Reading.{turns, all_turns, and_turn, not_of, or_below}
-use Rattle.go_tags.proofs.Turns.{one_more, no_more}
+use Rattle.go_tags.specs.inner.RecursiveDescent.{turns, all_turns, and_turn, not_of, or_below}
+use Rattle.go_tags.proofs.RemainingTurns.{one_more, no_more}
 use Rattle.go_tags.proofs.expression.Grammar.ands.Goals as goal
 
 pub loop-turn-init : goal.loop-turn-init

@@ -1,5 +1,5 @@
 use Rattle.std.proofs.Common.{◌≡◌, ◌-◌, []}
-use Rattle.go_tags.specs.Reading.{turns, all_turns, and_turn, not_of, or_below}
+use Rattle.go_tags.specs.inner.RecursiveDescent.{turns, all_turns, and_turn, not_of, or_below}
 use Rattle.go_tags.proofs.expression.Grammar.ands.Given as goal
 
 abbrev pub invariant-loop-turn : goal.invariant-loop-turn

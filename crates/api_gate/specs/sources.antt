@@ -1,0 +1,4 @@
+pub mod ChosenFiles
+pub mod Constants
+pub mod Outlines
+pub mod Sources

@@ -1,0 +1,6 @@
+//! What a run writes: feature lines, fault lines, and how both reach the sinks.
+
+pub mod decision;
+pub mod deliver;
+pub mod features;
+pub mod refusals;

@@ -1,0 +1,6 @@
+//! What no archive of the program `cases` can say: stores that tell nothing, the store and the sinks of the
+//! host, and the values of go_base.
+#![tactic(auto)]
+
+#[cfg(test)]
+mod tests;

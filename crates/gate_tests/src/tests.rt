@@ -1,0 +1,4 @@
+//! What no archive of the program `cases` can say.
+mod host;
+mod stores;
+mod values;

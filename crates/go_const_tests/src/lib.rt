@@ -1,5 +1,0 @@
-//! Worked examples of constant arithmetic.
-#![tactic(auto)]
-
-#[cfg(test)]
-mod tests;

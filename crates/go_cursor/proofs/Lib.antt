@@ -1,0 +1,9 @@
+pub mod Handed
+pub mod Items
+pub mod LookAheads
+pub mod Loops
+pub mod NameLists
+pub mod Runs
+pub mod Skips
+pub mod Steps
+pub mod Turns

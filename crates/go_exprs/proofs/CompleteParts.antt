@@ -1,0 +1,121 @@
+-- What it is for readers of parts to find each tree, and what must not follow an expression.
+use Rattle.std.proofs.Common.{◌≡◌, ℕ, zero, suc, List, [], ◌∷◌, Bool, true, false, if◌then◌else◌, Some, None, refl}
+use Rattle.go_syntax.specs.declared.expression.Element.{Element}
+use Rattle.go_syntax.specs.declared.expression.Expr.{Expr}
+use Rattle.go_syntax.specs.declared.body.BodyRange.{BodyRange}
+use Rattle.go_syntax.specs.declared.types.Signature.{Signature}
+use Rattle.go_syntax.specs.declared.types.«Type».{«Type» as Typ}
+use Rattle.go_syntax.specs.declared.token.TokenKind.TheVariants as kind
+use Rattle.go_syntax.specs.grammar.Brackets.{IsSkipped, skipped}
+use Rattle.go_syntax.specs.grammar.SourceFiles.{Skips}
+use Rattle.go_syntax.specs.grammar.Grammar.{IsType, IsCompositeType, IsSignature, IsExpr, IsUnary, IsLiteralValue, comparison, sum_operator, product_operator}
+use Rattle.go_syntax.specs.grammar.Symbols.{Rule, takes, Ends, ends_semicolon, ends_closing, begins, closes, sign_at}
+use Rattle.go_syntax.specs.grammar.Terminals.{Terminal, Sign, Extent}
+use Rattle.go_cursor.specs.LookAheads.{begins_type_switch}
+use Rattle.go_exprs.specs.Rules.{Parts, operator_at}
+use Rattle.go_cursor.specs.Skipping.{is_composite}
+use Rattle.go_exprs.proofs.Shorter.{Shortens, skipped_shorter}
+
+-- a relation one level down, which nothing meets at the bottom
+abbrev pub Below : {A : Type 0} → (ℕ → Rule A) → ℕ → Rule A
+Below D zero ts a rest = ⊥
+Below D (suc h) ts a rest = D h ts a rest
+
+-- whether a post is next
+abbrev pub begins_post : List Terminal → Bool
+begins_post ts = if begins kind.LeftParen ts then true else if begins kind.LeftBracket ts then true else if begins_type_switch ts then false else begins kind.Period ts
+
+-- nothing follows with which an operand, a product, a sum, .. would go on; where a type's name may begin a
+-- composite literal, no `{` either
+
+pub record Over (b : Bool) (rest : List Terminal) : Type 0 where
+  pub post : begins_post rest ≡ false
+  pub brace : b ≡ true → begins kind.LeftBrace rest ≡ false
+
+pub record OverProduct (b : Bool) (rest : List Terminal) : Type 0 where
+  pub operand : Over b rest
+  pub operator : operator_at product_operator (sign_at rest) ≡ None
+
+pub record OverSum (b : Bool) (rest : List Terminal) : Type 0 where
+  pub product : OverProduct b rest
+  pub operator : operator_at sum_operator (sign_at rest) ≡ None
+
+pub record OverCompare (b : Bool) (rest : List Terminal) : Type 0 where
+  pub sum : OverSum b rest
+  pub operator : operator_at comparison (sign_at rest) ≡ None
+
+pub record OverAnd (b : Bool) (rest : List Terminal) : Type 0 where
+  pub comparing : OverCompare b rest
+  pub operator : begins kind.LogicalAnd rest ≡ false
+
+pub record OverExpr (b : Bool) (rest : List Terminal) : Type 0 where
+  pub conjunct : OverAnd b rest
+  pub operator : begins kind.LogicalOr rest ≡ false
+
+-- where no operator is next
+pub over : (b : Bool) (ts : List Terminal) → begins_post ts ≡ false → (b ≡ true → begins kind.LeftBrace ts ≡ false) → operator_at product_operator (sign_at ts) ≡ None → operator_at sum_operator (sign_at ts) ≡ None
+    → operator_at comparison (sign_at ts) ≡ None → begins kind.LogicalAnd ts ≡ false → begins kind.LogicalOr ts ≡ false → OverExpr b ts
+over b ts p l q s c a o = record { conjunct = record { comparing = record { sum = record { product = record { operand = record { post = p; brace = l }; operator = q }; operator = s }; operator = c }; operator = a }; operator = o }
+
+pub over_none : (b : Bool) → OverExpr b []
+over_none b = over b [] refl (λ _. refl) refl refl refl refl refl
+
+pub over_right_paren : (b : Bool) (at : Extent) (ts : List Terminal) → OverExpr b (Sign kind.RightParen at ∷ ts)
+over_right_paren b at ts = over b (Sign kind.RightParen at ∷ ts) refl (λ _. refl) refl refl refl refl refl
+
+pub over_right_bracket : (b : Bool) (at : Extent) (ts : List Terminal) → OverExpr b (Sign kind.RightBracket at ∷ ts)
+over_right_bracket b at ts = over b (Sign kind.RightBracket at ∷ ts) refl (λ _. refl) refl refl refl refl refl
+
+pub over_right_brace : (b : Bool) (at : Extent) (ts : List Terminal) → OverExpr b (Sign kind.RightBrace at ∷ ts)
+over_right_brace b at ts = over b (Sign kind.RightBrace at ∷ ts) refl (λ _. refl) refl refl refl refl refl
+
+-- between `if`, `for` or `switch` and a block
+pub over_left_brace : (at : Extent) (ts : List Terminal) → OverExpr false (Sign kind.LeftBrace at ∷ ts)
+over_left_brace at ts = over false (Sign kind.LeftBrace at ∷ ts) refl (λ e. absurd (cc)) refl refl refl refl refl
+
+pub over_comma : (b : Bool) (at : Extent) (ts : List Terminal) → OverExpr b (Sign kind.Comma at ∷ ts)
+over_comma b at ts = over b (Sign kind.Comma at ∷ ts) refl (λ _. refl) refl refl refl refl refl
+
+pub over_colon : (b : Bool) (at : Extent) (ts : List Terminal) → OverExpr b (Sign kind.Colon at ∷ ts)
+over_colon b at ts = over b (Sign kind.Colon at ∷ ts) refl (λ _. refl) refl refl refl refl refl
+
+pub over_semicolon : (b : Bool) (at : Extent) (ts : List Terminal) → OverExpr b (Sign kind.Semicolon at ∷ ts)
+over_semicolon b at ts = over b (Sign kind.Semicolon at ∷ ts) refl (λ _. refl) refl refl refl refl refl
+
+pub over_ellipsis : (b : Bool) (at : Extent) (ts : List Terminal) → OverExpr b (Sign kind.Ellipsis at ∷ ts)
+over_ellipsis b at ts = over b (Sign kind.Ellipsis at ∷ ts) refl (λ _. refl) refl refl refl refl refl
+
+pub over_closing : (b : Bool) (ts : List Terminal) → closes ts ≡ true → OverExpr b ts
+over_closing b (Sign kind.RightParen at ∷ ts) e = over_right_paren b at ts
+over_closing b (Sign kind.RightBrace at ∷ ts) e = over_right_brace b at ts
+over_closing b _ e = absurd (cc)
+
+-- before the end of a declaration, a field or a method
+pub over_ends : (b : Bool) {ts rest : List Terminal} → Ends ts rest → OverExpr b ts
+over_ends b {rest = rest} (ends_semicolon (takes at)) = over_semicolon b at rest
+over_ends b {ts = ts} (ends_closing e) = over_closing b ts e
+
+-- the readers find each tree of a height below n
+pub record CompleteParts (Body : ℕ → Rule BodyRange) (l : Parts) (n : ℕ) : Type 0 where
+  pub is_deep : (h : ℕ) → n ≡ suc h → l.deep ≡ true
+  pub reads_expr : (ts : List Terminal) (x : Expr) (rest : List Terminal) → Below (IsExpr Body true) n ts x rest → OverExpr true rest → l.expr ts ≡ Some (x, rest)
+  pub reads_unary : (b : Bool) (ts : List Terminal) (x : Expr) (rest : List Terminal) → Below (IsUnary Body b) n ts x rest → Over b rest → l.unary b ts ≡ Some (x, rest)
+  pub reads_typ : (ts : List Terminal) (t : Typ) (rest : List Terminal) → Below (IsType Body) n ts t rest → l.typ ts ≡ Some (t, rest)
+  pub reads_composite : (ts : List Terminal) (t : Typ) (rest : List Terminal) → Below (IsCompositeType Body) n ts t rest → l.composite_type ts ≡ Some (t, rest)
+  pub reads_signature : (ts : List Terminal) (s : Signature) (rest : List Terminal) → Below (IsSignature Body) n ts s rest → l.signature ts ≡ Some (s, rest)
+  pub reads_literal : (ts : List Terminal) (es : List Element) (rest : List Terminal) → Below (IsLiteralValue Body) n ts es rest → l.literal_value ts ≡ Some (es, rest)
+  pub reads_body : (ts : List Terminal) (b : BodyRange) (rest : List Terminal) → Below Body n ts b rest → l.body ts ≡ Some (b, rest)
+
+-- what is asked of the bodies of function literals, and what is seen ahead of them
+pub record KnownBodies (Body : ℕ → Rule BodyRange) : Type 0 where
+  pub body_begins : (h : ℕ) (ts : List Terminal) (b : BodyRange) (rest : List Terminal) → Body h ts b rest → begins kind.LeftBrace ts ≡ true
+  pub body_shorter : Shortens Body
+  -- whether `{` follows a slice, an array, a map or a struct
+  pub sees_composite : (h : ℕ) (ts : List Terminal) (t : Typ) (rest : List Terminal) → IsCompositeType Body h ts t rest → is_composite ts ≡ begins kind.LeftBrace rest
+
+skipped_begins : (h : ℕ) (ts : List Terminal) (b : BodyRange) (rest : List Terminal) → IsSkipped ts b rest → begins kind.LeftBrace ts ≡ true
+skipped_begins h ts b rest (skipped start start_end end_start end d) = refl
+
+-- where bodies are skipped, only the look-ahead is left to know
+pub known_skips : ((h : ℕ) (ts : List Terminal) (t : Typ) (rest : List Terminal) → IsCompositeType Skips h ts t rest → is_composite ts ≡ begins kind.LeftBrace rest) → KnownBodies Skips
+known_skips sees = record { body_begins = skipped_begins; body_shorter = skipped_shorter; sees_composite = sees }

@@ -1,0 +1,10 @@
+pub mod CharacterPrefixes
+pub mod DigitLengths
+pub mod DigitValues
+pub mod KeywordParts
+pub mod LongestLexemes
+pub mod LongestOperators
+pub mod NamePrefixes
+pub mod NumberLengths
+pub mod OnlyTexts
+pub mod Starts

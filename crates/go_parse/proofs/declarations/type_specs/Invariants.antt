@@ -1,0 +1,9 @@
+use Rattle.std.proofs.Common.{◌≡◌, ◌-◌}
+use Rattle.go_syntax.specs.grammar.Terminals.{terminals}
+use Rattle.go_parse.specs.Declarations.{specs, type_spec}
+use Rattle.go_exprs.specs.Levels.{levels}
+use Rattle.go_cursor.specs.Reading.{loop, step_of, spec_item}
+use Rattle.go_parse.proofs.declarations.type_specs.Given as goal
+
+abbrev pub invariant-loop-turn : goal.invariant-loop-turn
+invariant-loop-turn l = specs (type_spec (levels l.readers.height)) (terminals l.fn.tokens) ≡ loop (step_of (spec_item (type_spec (levels l.readers.height)))) (l._turn-end - l._turn) l.specs (terminals l.tokens)

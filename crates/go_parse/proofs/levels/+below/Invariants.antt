@@ -1,4 +1,0 @@
-use Rattle.go_parse.proofs.levels.+below.Given as goal
-
-abbrev pub decreases-below : goal.decreases-below
-decreases-below l = l.height

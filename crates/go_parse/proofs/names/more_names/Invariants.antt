@@ -1,8 +1,0 @@
-use Rattle.std.proofs.Common.{◌≡◌, ◌-◌}
-use Rattle.go_syntax.specs.grammar.Terminals.{terminals}
-use Rattle.go_parse.specs.Reading.{loop, run, step_of}
-use Rattle.go_parse.specs.Rules.{name_item}
-use Rattle.go_parse.proofs.names.more_names.Given as goal
-
-abbrev pub invariant-loop-turn : goal.invariant-loop-turn
-invariant-loop-turn l = run (step_of name_item) l.fn.first (terminals l.fn.tokens) ≡ loop (step_of name_item) (l._turn-end - l._turn) l.names (terminals l.tokens)

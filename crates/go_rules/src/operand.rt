@@ -1,0 +1,49 @@
+//! Operands of expressions.
+use crate::predeclared::Predeclared;
+use go_base::list::List;
+use go_model::constants::value::{Untyped, Value};
+use go_model::types::package::ConstTerm;
+use go_model::types::term::Term;
+
+/// How an expression stands for what it denotes, as in Go's package go/types.
+#[derive(Clone, Copy, Debug, PartialEq, Eq)]
+pub enum Mode {
+    /// A call without results.
+    NoValue,
+    TypeName,
+    Constant,
+    /// An addressable value.
+    Variable,
+    /// Any other value.
+    Plain,
+    /// An element of a map, which can be assigned and isn't addressable.
+    MapElement,
+    Nil,
+    Builtin,
+    /// The results of a call with several.
+    Tuple,
+}
+
+/// What an operand is of.
+#[derive(Drop)]
+pub enum Shape {
+    /// A value of this type, or this type itself.
+    Of(Term),
+    /// A constant, of a type or an untyped kind.
+    Fixed(ConstTerm, Value),
+    /// A value of an untyped kind that isn't constant.
+    Loose(Untyped),
+    /// Values of these types.
+    Many(List<Term>),
+    /// The builtin function.
+    OfBuiltin(Predeclared),
+    /// Nothing more.
+    Empty,
+}
+
+/// What an expression is.
+#[derive(Drop)]
+pub struct Operand {
+    pub mode: Mode,
+    pub shape: Shape,
+}

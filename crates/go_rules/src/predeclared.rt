@@ -1,0 +1,45 @@
+//! The universe block.
+
+/// A name of the universe block, after "Predeclared identifiers" of the Go specification. Generic names
+/// (`comparable`) and the names of floating-point complex arithmetic (`complex`, `real`, `imag`) aren't in
+/// this profile.
+#[derive(Clone, Copy, Debug, PartialEq, Eq)]
+pub enum Predeclared {
+    Any,
+    Bool,
+    Byte,
+    Complex64,
+    Complex128,
+    Error,
+    Float32,
+    Float64,
+    Int,
+    Int8,
+    Int16,
+    Int32,
+    Int64,
+    Rune,
+    Str,
+    Uint,
+    Uint8,
+    Uint16,
+    Uint32,
+    Uint64,
+    Uintptr,
+    True,
+    False,
+    Iota,
+    Nil,
+    Append,
+    Cap,
+    Close,
+    Copy,
+    Delete,
+    Len,
+    Make,
+    New,
+    Panic,
+    Print,
+    Println,
+    Recover,
+}

@@ -1,0 +1,12 @@
+pub mod Consolidation
+pub mod Counting
+pub mod Fields
+pub mod Keys
+pub mod Layers
+pub mod Listing
+pub mod Lists
+pub mod Noting
+pub mod Owners
+pub mod Searching
+pub mod UniqueFind
+pub mod Ways

@@ -1,6 +1,0 @@
-use Rattle.go_types.specs.Names.{same_name, same_name_is}
-use Rattle.go_types.proofs.Keys.{adds-insert}
-use Rattle.go_types.proofs.comparable.add.Goals as goal
-
-pub returns : goal.returns
-returns c = adds-insert same_name same_name_is c.args.names.now.keys _ c.args.name c.in_ok-insert.field-0 c.in_ok-insert.ensures.keys c.in_ok-insert.ensures.added

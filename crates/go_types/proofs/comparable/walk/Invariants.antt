@@ -1,5 +1,0 @@
-use Rattle.go_types.proofs.Walks.{Walks}
-use Rattle.go_types.proofs.comparable.walk.Given as goal
-
-abbrev pub invariant-loop-at : goal.invariant-loop-at
-invariant-loop-at g l = Walks (g.T.TypeTable.lookup l.types.table.now) l.term l.at l.all.items l.met.keys

@@ -1,8 +1,0 @@
-use Rattle.std.proofs.Common.{Bool, take}
-use Rattle.go_base.specs.Gathered.{gather}
-use Rattle.go_model.specs.types.Selectors.{field_ending}
-use Rattle.go_types.specs.Slots.{Notes}
-use Rattle.go_types.proofs.slots.note_fields.Given as goal
-
-abbrev pub invariant-loop-field : goal.invariant-loop-field
-invariant-loop-field l = (through : Bool) → Notes l.depth l.fn.slots l.slots (λ s. gather (field_ending s through) (take l.field-index l.fields))
