@@ -28,11 +28,16 @@ func literal(word, kind string) string {
 			text = "('\\x00' + " + text + ")"
 		}
 	case "text":
-		bytes, err := hex.DecodeString(rest)
+		digits, count := rest, 1
+		if star := strings.IndexByte(rest, '*'); star >= 0 {
+			digits = rest[:star]
+			count, _ = strconv.Atoi(rest[star+1:])
+		}
+		bytes, err := hex.DecodeString(digits)
 		if err != nil {
 			panic(err)
 		}
-		text = strconv.Quote(string(bytes))
+		text = strconv.Quote(strings.Repeat(string(bytes), count))
 	}
 	if kind == "" || strings.HasPrefix(kind, "untyped-") {
 		return text
@@ -59,12 +64,20 @@ func declaration(name string, w []string) (text string, bits string) {
 	panic(w[0])
 }
 
+// shownText is a text in hexadecimal digits, or as one byte and a count.
+func shownText(text string) string {
+	if len(text) > 64 && strings.Count(text, text[:1]) == len(text) {
+		return fmt.Sprintf("text:%x*%d", text[:1], len(text))
+	}
+	return "text:" + hex.EncodeToString([]byte(text))
+}
+
 func shown(value constant.Value) string {
 	switch value.Kind() {
 	case constant.Bool:
 		return "truth:" + value.String()
 	case constant.String:
-		return "text:" + hex.EncodeToString([]byte(constant.StringVal(value)))
+		return shownText(constant.StringVal(value))
 	case constant.Int:
 		return "int:" + value.ExactString()
 	case constant.Unknown:

@@ -139,6 +139,18 @@ func definition(t *types.Named) string {
 	return text
 }
 
+// owner is the defined type that a method is declared for, or the word interface.
+func owner(f *types.Func) string {
+	receiver := f.Type().(*types.Signature).Recv().Type()
+	if pointer, is := receiver.(*types.Pointer); is {
+		receiver = pointer.Elem()
+	}
+	if types.IsInterface(receiver) {
+		return "interface"
+	}
+	return name(receiver.(*types.Named))
+}
+
 // found is what the selector finds. The variable's address is taken, so that a method counts whatever
 // its receiver is.
 func found(t types.Type, pack *types.Package, name string) string {
@@ -155,7 +167,7 @@ func found(t types.Type, pack *types.Package, name string) string {
 		if onPointer(object) {
 			receiver = "on-pointer"
 		}
-		return fmt.Sprintf("method %d %s %s %s", len(index)-1, way, receiver, term(object.Type()))
+		return fmt.Sprintf("method %d %s %s %s %s", len(index)-1, way, receiver, owner(object), term(object.Type()))
 	}
 	if index != nil {
 		return "ambiguous"

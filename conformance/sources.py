@@ -86,6 +86,26 @@ def spoiled_tokens(draw, data, places):
     return data
 
 
+def unescaped(text):
+    """The bytes that a text with escapes stands for, as the crate frames has them."""
+    meant = {b"n": b"\n", b"r": b"\r", b"t": b"\t", b"\\": b"\\"}
+    return re.sub(rb"\\(?:([nrt\\])|x([0-9a-f]{2}))", lambda found: meant[found[1]] if found[1] else bytes([int(found[2], 16)]), text)
+
+
+def stored(crate):
+    """The questions and sources of a program's stored run, and its answers, which stand in parts between comments."""
+    folder = os.path.join(TOP, "crates", crate)
+    asked = []
+    with open(os.path.join(folder, "stdin"), "rb") as file:
+        for line in file:
+            if line.startswith(b"#"):
+                continue
+            words, is_escaped, text = line.rstrip(b"\n").partition(b"> ")
+            asked.append((words, unescaped(text)) if is_escaped else (b"", file.read(int(line))))
+    with open(os.path.join(folder, "stdout"), "rb") as file:
+        return asked, [line for line in file if not line.startswith(b"#")]
+
+
 class Frames:
     """Sources as frames in a temporary file."""
 
@@ -97,12 +117,26 @@ class Frames:
         self.file.write(b"%d\n" % len(data) + data)
         self.count += 1
 
+    def add_question(self, words, data):
+        """The source on one line, after a question."""
+        self.file.write(words + b"> " + data.replace(b"\\", b"\\\\").replace(b"\n", b"\\n") + b"\n")
+        self.count += 1
+
     def source(self, number):
         """The source of this number, from 0."""
         self.file.seek(0)
         for _ in range(number):
             self.file.seek(int(self.file.readline()), os.SEEK_CUR)
         return self.file.read(int(self.file.readline()))
+
+    def sources(self, numbers):
+        """The sources of these ascending numbers."""
+        self.file.seek(0)
+        wanted = set(numbers)
+        for number in range(self.count):
+            data = self.file.read(int(self.file.readline()))
+            if number in wanted:
+                yield data
 
     def ask(self, commands):
         """The outputs of the commands, which run side by side."""

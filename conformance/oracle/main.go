@@ -5,6 +5,10 @@
 //	                 difference, then the line end
 //	oracle syntax    prints a line for each source: what the crate syntax has to say of it, a tab, and
 //	                 the named differences, joined by semicolons
+//	oracle trees     prints a line for each source: Go's tree of it as the crate syntax writes its own, or
+//	                 nothing where Go's parser refuses it
+//	oracle chosen    reads a platform and a file's path a line, and prints whether go/build chooses the
+//	                 file, or why it refuses it
 //
 // A named difference is a place where Go's packages and the language of this gate differ on purpose. The
 // answer is then what the gate owes: Go's answer on the source without that place, or a refusal.
@@ -45,8 +49,20 @@ func main() {
 			fmt.Fprintf(out, "%s\t%s\n", answer, strings.Join(met.sorted(), "; "))
 			return true
 		})
+	case "trees":
+		frames(func(source []byte) bool {
+			text, _ := fileTree(source)
+			fmt.Fprintln(out, text)
+			return true
+		})
+	case "chosen":
+		lines := bufio.NewScanner(os.Stdin)
+		for lines.Scan() {
+			platform, path, _ := strings.Cut(lines.Text(), " ")
+			fmt.Fprintln(out, chosen(platform, path))
+		}
 	default:
-		fmt.Fprintln(os.Stderr, "oracle: tokens or syntax")
+		fmt.Fprintln(os.Stderr, "oracle: tokens, syntax, trees or chosen")
 		os.Exit(2)
 	}
 }

@@ -3,11 +3,14 @@ package main
 import (
 	"bufio"
 	"bytes"
+	"encoding/hex"
 	"fmt"
+	"go/constant"
 	"go/scanner"
 	"go/token"
 	"regexp"
 	"sort"
+	"strconv"
 	"strings"
 )
 
@@ -213,6 +216,39 @@ var names = map[token.Token]string{
 	token.RBRACK: "RightBracket", token.RBRACE: "RightBrace", token.SEMICOLON: "Semicolon", token.COLON: "Colon",
 }
 
+// said is what a token says besides its kind, after a blank.
+func said(kind token.Token, text string) string {
+	switch kind {
+	case token.IDENT:
+		return " " + text
+	case token.INT:
+		value := constant.MakeFromLiteral(text, token.INT, 0)
+		if constant.Compare(value, token.GEQ, tooWide) {
+			return " wide"
+		}
+		return " " + value.ExactString()
+	case token.CHAR:
+		code, _, _, err := strconv.UnquoteChar(text[1:len(text)-1], '\'')
+		if err != nil {
+			panic(text)
+		}
+		return fmt.Sprintf(" %d", code)
+	case token.STRING:
+		whole := strings.ReplaceAll(text[1:len(text)-1], "\r", "")
+		if text[0] == '"' {
+			var err error
+			if whole, err = strconv.Unquote(text); err != nil {
+				panic(text)
+			}
+		}
+		return " text:" + hex.EncodeToString([]byte(whole))
+	}
+	return ""
+}
+
+// tooWide is the least integer that the gate gives no value.
+var tooWide = constant.Shift(constant.MakeInt64(1), token.SHL, 127)
+
 func listTokens(out *bufio.Writer, source []byte) {
 	r := read(source)
 	if r.bad != nil {
@@ -226,7 +262,8 @@ func listTokens(out *bufio.Writer, source []byte) {
 			if one.inserted {
 				inserted = " inserted"
 			}
-			fmt.Fprintf(out, "%s %d %d%s\n", name, r.original(one.start), r.original(one.end), inserted)
+			start, end := r.original(one.start), r.original(one.end)
+			fmt.Fprintf(out, "%s %d %d%s%s\n", name, start, end, inserted, said(one.kind, string(source[start:end])))
 		}
 	}
 	for _, name := range r.met.sorted() {
