@@ -13,17 +13,20 @@ import (
 // tree writes Go's tree of a file as the crate syntax writes its own.
 type tree struct {
 	strings.Builder
-	files *token.FileSet
-	r     *readable
+	files  *token.FileSet
+	r      *readable
+	source []byte
+	// differs is set where Go reads type parameters in place of the length of an array.
+	differs bool
 }
 
-// fileTree is Go's tree of a source, and whether Go's parser takes all of it.
+// fileTree is Go's tree of a source, and whether Go's parser takes all of it as the grammar reads it.
 func fileTree(source []byte) (string, bool) {
 	r := read(source)
 	if r.bad != nil {
 		return "", false
 	}
-	t := &tree{files: token.NewFileSet(), r: r}
+	t := &tree{files: token.NewFileSet(), r: r, source: source}
 	file, err := parser.ParseFile(t.files, "", r.text, mode)
 	if err != nil {
 		return "", false
@@ -32,6 +35,9 @@ func fileTree(source []byte) (string, bool) {
 	t.name(file.Name)
 	for _, decl := range file.Decls {
 		t.decl(decl)
+	}
+	if t.differs {
+		return "", false
 	}
 	return t.String() + ")", true
 }
@@ -59,12 +65,24 @@ func (t *tree) names(names []*ast.Ident) {
 	})
 }
 
+// value is a literal as the source has it, with the byte order marks that the text read has another character for.
+func (t *tree) value(literal *ast.BasicLit) string {
+	if !strings.Contains(literal.Value, "\u20ac") {
+		return literal.Value
+	}
+	rest := string(t.source[t.offset(literal.Pos()):])
+	if rest[0] != '`' {
+		return rest[:len(literal.Value)]
+	}
+	return strings.ReplaceAll(rest[:strings.IndexByte(rest[1:], '`')+2], "\r", "")
+}
+
 func (t *tree) text(literal *ast.BasicLit) {
 	if literal == nil {
 		t.WriteString(" -")
 		return
 	}
-	text, err := strconv.Unquote(literal.Value)
+	text, err := strconv.Unquote(t.value(literal))
 	if err != nil {
 		panic(err)
 	}
@@ -131,6 +149,7 @@ func (t *tree) spec(spec ast.Spec) {
 			t.part("values", func() { t.exprs(spec.Values) })
 		})
 	case *ast.TypeSpec:
+		t.differs = t.differs || spec.TypeParams != nil
 		word := "define"
 		if spec.Assign.IsValid() {
 			word = "alias"
@@ -424,7 +443,7 @@ func (t *tree) literal(e *ast.BasicLit) {
 	case token.STRING:
 		t.text(e)
 	case token.CHAR:
-		t.WriteString(" rune:" + said(e.Kind, e.Value)[1:])
+		t.WriteString(" rune:" + said(e.Kind, t.value(e))[1:])
 	default:
 		t.WriteString(said(e.Kind, e.Value))
 	}
