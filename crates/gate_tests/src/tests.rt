@@ -1,4 +1,5 @@
 //! What no archive of the program `cases` can say.
+mod doubles;
 mod host;
 mod stores;
 mod values;

@@ -7,6 +7,8 @@ use go_base::list::List;
 use go_base::memory::NoMemory;
 use go_base::steps::Steps;
 use go_base::text::Text;
+use go_load::error::LoadError;
+use go_load::load::load_module;
 use go_outside::files::{Entry, EntryKind, Files, FilesError};
 use go_outside::gate::OpenGate;
 use go_outside::memory_files::{FilePair, MemoryFiles};
@@ -226,6 +228,27 @@ fn bears_odd_listings(rt: HostRuntime) -> Result<(), Fail> {
         assert!(rt; ends(&rt, &mut files, code, wanted, fault)?);
     }
     Ok(())
+}
+
+// Whether the load of a store misses this path, which its line doesn't name.
+fn misses(alloc: Global, files: &mut Odd, wanted: &[u8]) -> bool {
+    match load_module(alloc, files, b"new") {
+        Err(LoadError::Missing(path)) => path.bytes() == wanted,
+        _ => false,
+    }
+}
+
+#[test]
+fn names_what_a_store_lists_and_has_not(rt: HostRuntime) {
+    for (file_gone, folder_gone, wanted) in
+        [(true, false, b"x.go".as_slice()), (false, true, b"d")]
+    {
+        let mut files = Odd {
+            file_gone,
+            folder_gone,
+        };
+        assert!(rt; misses(rt.alloc(), &mut files, wanted));
+    }
 }
 
 // A constant in so many parentheses. A program as Rattle's own compiler builds it wants a larger stack for
