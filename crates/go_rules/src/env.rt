@@ -8,7 +8,7 @@ ghost use Rattle.go_rules.specs.Scopes.{env_of, innermost, is_declared, is_impor
 
 use crate::imports::Imports;
 use crate::meaning::Meaning;
-use crate::methods::{is_among, is_had};
+use crate::methods::is_lacking;
 use crate::names::Names;
 use crate::predeclared::universe;
 use crate::seen::Seen;
@@ -32,12 +32,6 @@ pub enum DeclareError {
     Already,
     #[error("out of memory")]
     NoMemory,
-}
-
-impl From<NoMemory> for DeclareError {
-    fn from(_: NoMemory) -> DeclareError {
-        DeclareError::NoMemory
-    }
 }
 
 /// The names, objects and types that are known while a package is typed, and the place where an
@@ -84,23 +78,30 @@ impl Drop for Env<'_> {
 
 impl<'w> Model for Env<'w> {
     ghost use Rattle.std.specs.Prelude.{◌≡◌, ◌⊎◌};
+    ghost use Rattle.std.specs.Coded.{codes};
+    ghost use Rattle.go_model.specs.contracts.types.package.Defined as d;
+    ghost use Rattle.go_model.specs.contracts.types.package.Package as p;
+    ghost use Rattle.go_model.specs.contracts.types.term.Term as t;
     ghost use Rattle.go_rules.specs.Scopes.{Scopes};
+    ghost use Rattle.go_rules.specs.contracts.seen.Seen as s;
 
     ghost Value = { Scopes };
 
+    ghost coded = { Prim.hlevel (codes, t.the_row.coded, d.the_row.coded, p.the_row.coded, s.the_row.coded) };
+
     ghost view = { λ e. record {
-        world = e.world.now;
-        path = e.path;
-        bits = e.bits;
-        profile = e.profile;
-        opened = e.opened;
-        imports = e.imports;
-        file = e.file;
-        announced = e.announced;
-        declared = e.declared;
-        defined = e.defined;
-        awaited = e.awaited;
-        iota = e.iota;
+      world = e.world.now;
+      path = e.path;
+      bits = e.bits;
+      profile = e.profile;
+      opened = e.opened;
+      imports = e.imports;
+      file = e.file;
+      announced = e.announced;
+      declared = e.declared;
+      defined = e.defined;
+      awaited = e.awaited;
+      iota = e.iota;
     } };
 
     ghost invariant = { λ e. (e.bits ≡ 32) ⊎ (e.bits ≡ 64) };
@@ -110,13 +111,7 @@ impl<'w> Env<'w> {
     /// The package of a path, of which nothing is known, over the world of its imports, where `int`,
     /// `uint` and `uintptr` have so many bits, in a client of the profile or not. No scope is opened
     /// inside of the package's, file 0 is in turn, and `iota` has no value.
-    pub fn new(
-        alloc: Global,
-        imports: &'w World,
-        path: Text,
-        bits: u32,
-        profile: bool,
-    ) -> Env<'w>
+    pub fn new(alloc: Global, imports: &'w World, path: Text, bits: u32, profile: bool) -> Env<'w>
         requires { (bits ≡ 32) ⊎ (bits ≡ 64) }
         ensures { result ≡ new_scopes imports.now path bits profile }
     {
@@ -144,14 +139,16 @@ impl Env<'_> {
     /// that file has an import of that name.
     pub fn import(&mut self, file: u32, name: Text, path: Text) -> Result<(), DeclareError>
         ensures ok { OnOk result (self.new ≡ with_import self.old file name path) }
-        ensures already { (result ≡ Err Already) ↔ (is_imported self.old file name ≡ true) }
+        ensures already { (result ≡ Err DeclareError.Already) ↔ (is_imported self.old file name ≡ true) }
         ensures err { OnErr result (self.new ≡ self.old) }
     {
         if self.imports.get(file, name.bytes()).is_some() {
             return Err(DeclareError::Already);
         }
-        self.imports.add(self.alloc, file, name, path)?;
-        Ok(())
+        match self.imports.add(self.alloc, file, name, path) {
+            Ok(()) => Ok(()),
+            Err(NoMemory) => Err(DeclareError::NoMemory),
+        }
     }
 
     /// Makes this file the one whose imports a look-up reads.
@@ -197,7 +194,7 @@ impl Env<'_> {
     /// name.
     pub fn declare(&mut self, name: Text, seen: Seen) -> Result<(), DeclareError>
         ensures ok { OnOk result (self.new ≡ with_meaning self.old name seen) }
-        ensures already { (result ≡ Err Already) ↔ (is_declared self.old name ≡ true) }
+        ensures already { (result ≡ Err DeclareError.Already) ↔ (is_declared self.old name ≡ true) }
         ensures err { OnErr result (self.new ≡ self.old) }
     {
         match self.opened.front_mut() {
@@ -277,10 +274,7 @@ impl Env<'_> {
             return false;
         }
         match self.awaited.get(name.name.bytes()) {
-            Some(selectors) => {
-                is_among(selectors.items(), sel)
-                    && !is_had(self.defined.get(name.name.bytes()), sel)
-            }
+            Some(known) => is_lacking(known.items(), self.defined.get(name.name.bytes()), sel),
             None => false,
         }
     }
@@ -328,14 +322,16 @@ impl TypeTable for Env<'_> {
 
 fn add_meaning(scope: &mut Names<Seen>, name: Text, seen: Seen) -> Result<(), DeclareError>
     ensures ok { OnOk result (scope.new ≡ with_value scope.old name seen) }
-    ensures already { (result ≡ Err Already) ↔ (is_some (value_at scope.old name) ≡ true) }
+    ensures already { (result ≡ Err DeclareError.Already) ↔ (is_some (value_at scope.old name) ≡ true) }
     ensures err { OnErr result (scope.new ≡ scope.old) }
 {
     if scope.has(name.bytes()) {
         return Err(DeclareError::Already);
     }
-    scope.put(name, seen)?;
-    Ok(())
+    match scope.put(name, seen) {
+        Ok(()) => Ok(()),
+        Err(NoMemory) => Err(DeclareError::NoMemory),
+    }
 }
 
 fn innermost<'a>(scopes: &'a LinkedList<Names<Seen>>, name: &[u8]) -> Option<&'a Seen>
