@@ -102,6 +102,7 @@ pub record Denotes (E : Env) (n : Name) (o : Operand) : Type 0 where
 
 -- a name of an imported package denotes this operand: an exported object of the package
 pub record DenotesImported (E : Env) (package_name name : Name) (o : Operand) : Type 0 where
+  pub names : is_blank package_name.text ≡ false
   pub path : List ℕ
   pub object : Entity
   pub imported : E.meaning package_name.text ≡ Some (seen.Import path)
