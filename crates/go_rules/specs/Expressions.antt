@@ -52,7 +52,6 @@ use Rattle.go_syntax.specs.declared.expression.Element.{Element, out-Element}
 use Rattle.go_syntax.specs.declared.expression.ElementValue.{ElementValue, ElementValue-F, out-ElementValue}
 use Rattle.go_syntax.specs.declared.expression.Expr.{Expr, Expr-F, out-Expr}
 use Rattle.go_syntax.specs.declared.expression.Expr.TheVariants as expr
-use Rattle.go_syntax.specs.declared.expression.Literal.{Literal}
 use Rattle.go_syntax.specs.declared.expression.Literal.TheVariants as literal
 use Rattle.go_syntax.specs.declared.expression.Post.{Post, Post-F, out-Post}
 use Rattle.go_syntax.specs.declared.name.Name.{Name}

@@ -1,0 +1,3 @@
+mod OneFound
+mod OneKind
+mod OneResult
