@@ -1,3 +1,10 @@
+mod OneBuiltin
+mod OneForm
 mod OneFound
 mod OneKind
+mod OneName
+mod OneOperand
+mod OneOrder
+mod OnePost
 mod OneResult
+mod OneType

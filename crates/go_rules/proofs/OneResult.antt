@@ -96,7 +96,7 @@ one_comparison a b = sym (compares_is a) ∙ compares_is b
 
 -- ---- indices and lengths
 
-abbrev number_in : Value → ℕ
+abbrev pub number_in : Value → ℕ
 number_in (value.Int (pos n)) = n
 number_in v = 0
 
@@ -112,7 +112,7 @@ indexed (index_untyped r) = refl
 pub one_index : {E : Env} {o : Operand} {c d : Option ℕ} → IsIndex E o c → IsIndex E o d → c ≡ d
 one_index a b = sym (indexed a) ∙ indexed b
 
-abbrev text_in : Value → List ℕ
+abbrev pub text_in : Value → List ℕ
 text_in (value.Str s) = s
 text_in v = []
 
@@ -133,7 +133,7 @@ abbrev pub array_layer : Env → Layer → Layer
 array_layer E (Term-F.Pointer base) = under E.table base
 array_layer E l = l
 
-abbrev length_in : Layer → ℕ
+abbrev pub length_in : Layer → ℕ
 length_in (Term-F.Array n e) = n
 length_in l = 0
 
@@ -154,7 +154,7 @@ one_element a b = ap element_in (sym (arrayed a) ∙ arrayed b)
 -- ---- slice expressions
 
 -- a string of a type has `string` underneath
-string_under : {E : Env} {o : Operand} {t : Term} {n : Option ℕ} → IsString E o n → IsTyped o t → under E.table t ≡ Term-F.Plain basic.Str
+pub string_under : {E : Env} {o : Operand} {t : Term} {n : Option ℕ} → IsString E o n → IsTyped o t → under E.table t ≡ Term-F.Plain basic.Str
 string_under {E = E} (string_value f i e) h = ap (under E.table) (one_type h i) ∙ e
 string_under {E = E} (string_typed e) h = ap (λ c. under E.table (term_in c)) (sym (typed h)) ∙ e
 string_under string_untyped h = absurd (no_truth (ap has_type_in (sym (typed h))))
@@ -176,7 +176,7 @@ sliced_layer E t (Term-F.Pointer base) = plain (slice_of (element_in (under E.ta
 sliced_layer E t l = plain t
 
 -- what a slice expression is
-abbrev sliced_of : Env → ConstTerm → Operand
+abbrev pub sliced_of : Env → ConstTerm → Operand
 sliced_of E (constant.OfTerm t) = sliced_layer E t (under E.table t)
 sliced_of E (constant.OfKind k) = plain (basic_term basic.Str)
 
@@ -187,7 +187,7 @@ limit_is {E = E} (slices_array {t = t} e) = ap (limit_of_layer E (variable t)) e
 limit_is {E = E} (slices_array_pointer {o = o} h e f) = ap (limit_of E o) (typed h) ∙ ap (limit_of_layer E o) e ∙ ap (λ l. Some (length_in l)) f
 limit_is {E = E} (slices_slice {o = o} h e) = ap (limit_of E o) (typed h) ∙ ap (limit_of_layer E o) e
 
-sliced_is : {E : Env} {simple : Bool} {o r : Operand} {n : Option ℕ} → Slices E simple o n r → sliced_of E (const_in o.shape) ≡ r
+pub sliced_is : {E : Env} {simple : Bool} {o r : Operand} {n : Option ℕ} → Slices E simple o n r → sliced_of E (const_in o.shape) ≡ r
 sliced_is {E = E} (slices_string {t = t} s h i) = ap (sliced_of E) (typed h) ∙ ap (sliced_layer E t) (string_under i h)
 sliced_is (slices_untyped s) = refl
 sliced_is {E = E} (slices_array {t = t} e) = ap (sliced_layer E t) e
