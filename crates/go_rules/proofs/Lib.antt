@@ -1,10 +1,10 @@
-mod OneBuiltin
-mod OneForm
-mod OneFound
-mod OneKind
-mod OneName
-mod OneOperand
-mod OneOrder
-mod OnePost
-mod OneResult
-mod OneType
+pub mod OneBuiltin
+pub mod OneForm
+pub mod OneFound
+pub mod OneKind
+pub mod OneName
+pub mod OneOperand
+pub mod OneOrder
+pub mod OnePost
+pub mod OneResult
+pub mod OneType
