@@ -3,6 +3,7 @@
 
 pub mod env;
 mod imports;
+pub mod laws;
 pub mod meaning;
 mod methods;
 mod names;
