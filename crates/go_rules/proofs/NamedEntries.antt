@@ -17,7 +17,8 @@ use Rattle.std.specs.Str.{bytes_eq}
 use Rattle.std.specs.declared.cmp.Ordering.{Ordering}
 use Rattle.std.specs.declared.cmp.Ordering.TheVariants.{Less, Equal, Greater}
 use Rattle.go_base.specs.Keys.{item_of}
-use Rattle.go_rules.specs.Names.{Named, by_text, value_at, with_value}
+use Rattle.go_rules.specs.Names.{Named, value_at, with_value}
+use Rattle.go_rules.specs.inner.Entries.{by_text}
 use denote.Ref.{Bor}
 
 module _ {A : Type 0} where

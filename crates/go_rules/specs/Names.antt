@@ -1,9 +1,8 @@
 -- Tables of names.
 -- Own: words on lists.
-use Rattle.std.specs.Prelude.{ℕ, List, [], map, Option}
+use Rattle.std.specs.Prelude.{ℕ, List, [], Option}
 use Rattle.std.specs.BTreeMap.{insert_entry}
 use Rattle.std.specs.Cmp.Lexicographic.{slice_cmp}
-use Rattle.std.specs.Global.{Vec}
 use Rattle.std.specs.Map.{lookup}
 use Rattle.std.specs.Option.{unwrap_or}
 use Rattle.std.specs.Ordering.{nat_cmp}
@@ -20,10 +19,6 @@ value_at names name = lookup (bytes_eq name) names
 -- the names where this one has the value, in place of one that it had
 abbrev pub with_value : {A : Type 0} → Named A → List ℕ → A → Named A
 with_value names name value = insert_entry (slice_cmp nat_cmp) names name value
-
--- the names as texts
-abbrev pub by_text : {A : Type 0} → List (Vec ℕ × A) → Named A
-by_text entries = map (λ e. (e.0.items, e.1)) entries
 
 -- what a name has, where it has a list; else the empty one
 abbrev pub items_at : {A : Type 0} → Named (List A) → List ℕ → List A

@@ -23,7 +23,8 @@ impl<V: Drop> Drop for Names<V> {
 
 impl<V> Model for Names<V> {
     ghost use Rattle.std.specs.Coded.{coded_list, coded×, coded_ℕ};
-    ghost use Rattle.go_rules.specs.Names.{Named, by_text};
+    ghost use Rattle.go_rules.specs.Names.{Named};
+    ghost use Rattle.go_rules.specs.inner.Entries.{by_text};
 
     ghost Value = { Named V };
 

@@ -1,7 +1,7 @@
 //! The universe block.
 ghost use Rattle.std.specs.Prelude.{◌≡◌};
 ghost use Rattle.go_rules.specs.Universe.{found_in, predeclared};
-ghost use Rattle.go_rules.specs.Rows.{rows_of};
+ghost use Rattle.go_rules.specs.inner.Rows.{rows_of};
 
 /// A name of the universe block, after "Predeclared identifiers" of the Go specification. Generic names
 /// (`comparable`) and the names of floating-point complex arithmetic (`complex`, `real`, `imag`) aren't in

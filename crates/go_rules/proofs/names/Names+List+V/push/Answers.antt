@@ -2,7 +2,8 @@ use Rattle.std.proofs.Common.{◌∷◌, [], ◌++◌, ap, ◌∙◌}
 use Rattle.std.proofs.lemmas.Result.{on_ok_weaker, on_err_weaker}
 use Rattle.std.specs.Option.{unwrap_or}
 use Rattle.go_rules.proofs.NamedEntries.{written, unwritten, found_there}
-use Rattle.go_rules.specs.Names.{by_text, with_value}
+use Rattle.go_rules.specs.Names.{with_value}
+use Rattle.go_rules.specs.inner.Entries.{by_text}
 use Rattle.go_rules.proofs.names.Names+List+V.push.Goals as goal
 
 pub returns-in-Some-clause-ok : goal.returns-in-Some-clause-ok

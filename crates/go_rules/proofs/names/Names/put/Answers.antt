@@ -1,6 +1,7 @@
 use Rattle.std.proofs.Common.{ap, ◌∙◌}
 use Rattle.go_rules.proofs.NamedEntries.{put_by_text}
-use Rattle.go_rules.specs.Names.{by_text, with_value}
+use Rattle.go_rules.specs.Names.{with_value}
+use Rattle.go_rules.specs.inner.Entries.{by_text}
 use Rattle.go_rules.proofs.names.Names.put.Goals as goal
 
 pub returns-clause-ok : goal.returns-clause-ok
