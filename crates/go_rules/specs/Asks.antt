@@ -5,7 +5,6 @@
 -- of the profile embeds only its own and predeclared types is own.
 use Rattle.std.specs.Prelude.{◌≡◌, ℕ, Bool, true, false, Option, Some, None, List, [], ◌∷◌, ◌++◌}
 use Rattle.go_base.specs.Lists.{Has as In, Each, Once}
-use Rattle.go_model.specs.declared.types.term.Method.{Method}
 use Rattle.go_model.specs.declared.types.term.Term.{Term, Term-F, out-Term}
 use Rattle.go_model.specs.types.Imports.{is_imported}
 use Rattle.go_model.specs.types.Terms.{Layer, blank}

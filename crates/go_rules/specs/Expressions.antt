@@ -52,7 +52,6 @@ use Rattle.go_syntax.specs.declared.expression.Element.{Element, out-Element}
 use Rattle.go_syntax.specs.declared.expression.ElementValue.{ElementValue, ElementValue-F, out-ElementValue}
 use Rattle.go_syntax.specs.declared.expression.Expr.{Expr, Expr-F, out-Expr}
 use Rattle.go_syntax.specs.declared.expression.Expr.TheVariants as expr
-use Rattle.go_syntax.specs.declared.expression.Literal.{Literal}
 use Rattle.go_syntax.specs.declared.expression.Literal.TheVariants as literal
 use Rattle.go_syntax.specs.declared.expression.Post.{Post, Post-F, out-Post}
 use Rattle.go_syntax.specs.declared.name.Name.{Name}
@@ -102,6 +101,7 @@ pub record Denotes (E : Env) (n : Name) (o : Operand) : Type 0 where
 
 -- a name of an imported package denotes this operand: an exported object of the package
 pub record DenotesImported (E : Env) (package_name name : Name) (o : Operand) : Type 0 where
+  pub names : is_blank package_name.text ≡ false
   pub path : List ℕ
   pub object : Entity
   pub imported : E.meaning package_name.text ≡ Some (seen.Import path)

@@ -1,7 +1,11 @@
 pub mod Asks
 pub mod Environments
 pub mod Expressions
+pub mod Meanings
+pub mod inner
+pub mod Names
 pub mod Nodes
 pub mod Operands
+pub mod Scopes
 pub mod Universe
 pub mod Usability

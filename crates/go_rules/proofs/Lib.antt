@@ -1,0 +1,12 @@
+pub mod Lacking
+pub mod NamedEntries
+pub mod OneBuiltin
+pub mod OneForm
+pub mod OneFound
+pub mod OneKind
+pub mod OneName
+pub mod OneOperand
+pub mod OneOrder
+pub mod OnePost
+pub mod OneResult
+pub mod OneType

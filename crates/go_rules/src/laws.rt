@@ -1,0 +1,120 @@
+//! Laws of typing: what an expression is, it is alone. Of what operands are, what is made of them and what a
+//! selector finds there is one.
+ghost use Rattle.std.specs.Prelude.{◌≡◌, ℕ, Bool, List, Option};
+ghost use Rattle.go_base.specs.declared.operator.CompareOp.{CompareOp};
+ghost use Rattle.go_base.specs.declared.operator.ProductOperator.{ProductOperator};
+ghost use Rattle.go_base.specs.declared.operator.SumOperator.{SumOperator};
+ghost use Rattle.go_model.specs.declared.constants.value.BinaryOp.{BinaryOp};
+ghost use Rattle.go_model.specs.declared.constants.value.Kind.{Kind};
+ghost use Rattle.go_model.specs.declared.constants.value.Untyped.{Untyped};
+ghost use Rattle.go_model.specs.declared.constants.value.Value.{Value};
+ghost use Rattle.go_model.specs.declared.types.names.Sel.{Sel};
+ghost use Rattle.go_model.specs.declared.types.package.ConstTerm.{ConstTerm};
+ghost use Rattle.go_model.specs.declared.types.term.Field.{Field};
+ghost use Rattle.go_model.specs.declared.types.term.Method.{Method};
+ghost use Rattle.go_model.specs.declared.types.term.Signature.{Signature};
+ghost use Rattle.go_model.specs.declared.types.term.Term.{Term};
+ghost use Rattle.go_model.specs.types.Selectors.{Ending};
+ghost use Rattle.go_rules.specs.Asks.{HasOperand, IsType};
+ghost use Rattle.go_rules.specs.Environments.{Env, Found, HasMethod};
+ghost use Rattle.go_rules.specs.Expressions.{Computes, Converts, Denotes, DenotesImported, Has, HasBuiltin, HasComparisons, HasEach, HasForm, HasIndexed, HasKeyed, HasLogical, HasOptional, HasPost, HasPosts, HasProduct, HasSizes, HasSum, HoldsNone, HoldsOne, IsArray, IsComparison, IsCount, IsIndex, IsString, IsTypeName, OfFields, OfForm, OfMethods, OfParameters, OfResult, OfSignature, OfType, ProductComputes, ProductKind, Shifts, Slices};
+ghost use Rattle.go_rules.specs.Nodes.{ExprLayer, PostLayer, ResultLayer, TypeLayer};
+ghost use Rattle.go_rules.specs.Operands.{HasKind, IsOf, IsTyped, IsUntyped};
+ghost use Rattle.go_rules.specs.Usability.{Match};
+ghost use Rattle.go_rules.specs.declared.operand.Operand.{Operand};
+ghost use Rattle.go_rules.specs.declared.predeclared.Predeclared.{Predeclared};
+ghost use Rattle.go_syntax.specs.declared.expression.Element.{Element};
+ghost use Rattle.go_syntax.specs.declared.expression.Expr.{Expr};
+ghost use Rattle.go_syntax.specs.declared.expression.Post.{Post};
+ghost use Rattle.go_syntax.specs.declared.name.Name.{Name};
+ghost use Rattle.go_syntax.specs.declared.name.QualifiedName.{QualifiedName};
+ghost use Rattle.go_syntax.specs.declared.types.FieldDecl.{FieldDecl};
+ghost use Rattle.go_syntax.specs.declared.types.FuncResult.{FuncResult};
+ghost use Rattle.go_syntax.specs.declared.types.InterfaceElem.{InterfaceElem};
+ghost use Rattle.go_syntax.specs.declared.types.ParameterDecl.{ParameterDecl};
+ghost use Rattle.go_syntax.specs.declared.types.«Type».{«Type» as Typ};
+
+/// An operand is of one type or one untyped kind, a type or untyped kind has one kind, and two operands match
+/// in one.
+pub fn one_type()
+    ensures typed { (o : Operand) (t u : Term) → IsTyped o t → IsTyped o u → t ≡ u }
+    ensures untyped { (o : Operand) (j k : Untyped) → IsUntyped o j → IsUntyped o k → j ≡ k }
+    ensures apart { (o : Operand) (t : Term) (k : Untyped) → IsTyped o t → IsUntyped o k → ⊥ }
+    ensures either { (o : Operand) (c d : ConstTerm) → IsOf o c → IsOf o d → c ≡ d }
+    ensures kind { (E : Env) (c : ConstTerm) (j k : Kind) → HasKind E c j → HasKind E c k → j ≡ k }
+    ensures matching { (E : Env) (left right : Operand) (c d : ConstTerm) → Match E left right c → Match E left right d → c ≡ d }
+{}
+
+/// An operator, a comparison, a shift, a conversion and a slice expression make one operand of operands.
+pub fn one_result()
+    ensures computes { (E : Env) (op : BinaryOp) (left right r s : Operand) → Computes E op left right r → Computes E op left right s → r ≡ s }
+    ensures shifts { (E : Env) (left : Bool) (l o r s : Operand) → Shifts E left l o r → Shifts E left l o s → r ≡ s }
+    ensures product { (E : Env) (p : ProductKind) (l o r s : Operand) → ProductComputes E p l o r → ProductComputes E p l o s → r ≡ s }
+    ensures comparison { (E : Env) (op : CompareOp) (left right r s : Operand) → IsComparison E op left right r → IsComparison E op left right s → r ≡ s }
+    ensures conversion { (E : Env) (o : Operand) (t : Term) (r s : Operand) → Converts E o t r → Converts E o t s → r ≡ s }
+    ensures sliced { (E : Env) (simple other : Bool) (o : Operand) (m n : Option ℕ) (r s : Operand) → Slices E simple o m r → Slices E other o n s → r ≡ s }
+{}
+
+/// An index, the count of a shift, a constant string, an array and what is sliced have one value, length and
+/// element.
+pub fn one_length()
+    ensures index { (E : Env) (o : Operand) (c d : Option ℕ) → IsIndex E o c → IsIndex E o d → c ≡ d }
+    ensures count { (E : Env) (o : Operand) (v w : Option Value) → IsCount E o v → IsCount E o w → v ≡ w }
+    ensures string { (E : Env) (o : Operand) (m n : Option ℕ) → IsString E o m → IsString E o n → m ≡ n }
+    ensures array { (E : Env) (t : Term) (p q : Bool) (m n : ℕ) (u v : Term) → IsArray E t p m u → IsArray E t q n v → m ≡ n }
+    ensures element { (E : Env) (t : Term) (p q : Bool) (m n : ℕ) (u v : Term) → IsArray E t p m u → IsArray E t q n v → u ≡ v }
+    ensures sliced { (E : Env) (simple other : Bool) (o : Operand) (m n : Option ℕ) (r s : Operand) → Slices E simple o m r → Slices E other o n s → m ≡ n }
+{}
+
+/// A selector finds one field or method in a type, and a type has one method of a selector.
+pub fn one_found()
+    ensures found { (E : Env) (s : Sel) (t : Term) (x y : Ending) → Found E s t x → Found E s t y → x ≡ y }
+    ensures method { (E : Env) (a b : Bool) (s : Sel) (t : Term) (g h : Signature) → HasMethod E a t s g → HasMethod E b t s h → g ≡ h }
+{}
+
+/// A name denotes one operand, and a type's name stands for one type.
+pub fn one_meaning()
+    ensures name { (E : Env) (n : Name) (o p : Operand) → Denotes E n o → Denotes E n p → o ≡ p }
+    ensures imported { (E : Env) (q n : Name) (o p : Operand) → DenotesImported E q n o → DenotesImported E q n p → o ≡ p }
+    ensures apart { (E : Env) (q n : Name) (o p : Operand) → Denotes E q o → DenotesImported E q n p → ⊥ }
+    ensures of_type { (E : Env) (q : QualifiedName) (t u : Term) → IsTypeName E q t → IsTypeName E q u → t ≡ u }
+{}
+
+/// An expression is one operand, and so is each of its parts: a chain of operators, what follows an operand and
+/// a call of a builtin function. No expression both holds a receive, or a call that is neither a conversion nor
+/// constant, and holds none.
+pub fn one_operand()
+    ensures whole { (E : Env) (e : Expr) (o p : Operand) → HasOperand E e o → HasOperand E e p → o ≡ p }
+    ensures expression { (E : Env) (e : Expr) (o p : Operand) → Has E e o → Has E e p → o ≡ p }
+    ensures form { (E : Env) (l : ExprLayer) (o p : Operand) → HasForm E l o → HasForm E l p → o ≡ p }
+    ensures logical { (E : Env) (op : BinaryOp) (o : Operand) (es : List Expr) (r s : Operand) → HasLogical E op o es r → HasLogical E op o es s → r ≡ s }
+    ensures comparisons { (E : Env) (o : Operand) (ops : List CompareOp) (es : List Expr) (r s : Operand) → HasComparisons E o ops es r → HasComparisons E o ops es s → r ≡ s }
+    ensures sums { (E : Env) (o : Operand) (ops : List SumOperator) (es : List Expr) (r s : Operand) → HasSum E o ops es r → HasSum E o ops es s → r ≡ s }
+    ensures products { (E : Env) (o : Operand) (ops : List ProductOperator) (es : List Expr) (r s : Operand) → HasProduct E o ops es r → HasProduct E o ops es s → r ≡ s }
+    ensures posts { (E : Env) (o : Operand) (xs : List Post) (r s : Operand) → HasPosts E o xs r → HasPosts E o xs s → r ≡ s }
+    ensures post { (E : Env) (o : Operand) (l : PostLayer) (r s : Operand) → HasPost E o l r → HasPost E o l s → r ≡ s }
+    ensures builtin { (E : Env) (f : Predeclared) (es : List Expr) (dots : Bool) (r s : Operand) → HasBuiltin E f es dots r → HasBuiltin E f es dots s → r ≡ s }
+    ensures quiet { (E : Env) (e : Expr) → HoldsNone E e → HoldsOne E e → ⊥ }
+{}
+
+/// The expressions of a list are one list of operands, sizes and an index that may be left out have their
+/// constant values, and the elements of a composite literal name one list of fields or reach one index.
+pub fn one_list()
+    ensures each { (E : Env) (es : List Expr) (os ps : List Operand) → HasEach E es os → HasEach E es ps → os ≡ ps }
+    ensures sizes { (E : Env) (es : List Expr) (ms ns : List (Option ℕ)) → HasSizes E es ms → HasSizes E es ns → ms ≡ ns }
+    ensures optional { (E : Env) (e : Option Expr) (c d : Option ℕ) → HasOptional E e c → HasOptional E e d → c ≡ d }
+    ensures keyed { (E : Env) (fs : List Field) (xs : List Element) (ms ns : List (List ℕ)) → HasKeyed E fs xs ms → HasKeyed E fs xs ns → ms ≡ ns }
+    ensures indexed { (E : Env) (t u : Term) (l k : Option ℕ) (next : ℕ) (xs : List Element) (m n : ℕ) → HasIndexed E t l next xs m → HasIndexed E u k next xs n → m ≡ n }
+{}
+
+/// A type form stands for one type, and so do its parts.
+pub fn one_term()
+    ensures whole { (E : Env) (t : Typ) (u v : Term) → IsType E t u → IsType E t v → u ≡ v }
+    ensures of_type { (E : Env) (t : Typ) (u v : Term) → OfType E t u → OfType E t v → u ≡ v }
+    ensures form { (E : Env) (l : TypeLayer) (u v : Term) → OfForm E l u → OfForm E l v → u ≡ v }
+    ensures signature { (E : Env) (ds : List ParameterDecl) (r : Option FuncResult) (g h : Signature) → OfSignature E ds r g → OfSignature E ds r h → g ≡ h }
+    ensures parameters { (E : Env) (ds : List ParameterDecl) (ts us : List Term) (v w : Bool) → OfParameters E ds ts v → OfParameters E ds us w → (ts ≡ us) × (v ≡ w) }
+    ensures results { (E : Env) (l : ResultLayer) (ts us : List Term) → OfResult E l ts → OfResult E l us → ts ≡ us }
+    ensures fields { (E : Env) (ds : List FieldDecl) (fs gs : List Field) → OfFields E ds fs → OfFields E ds gs → fs ≡ gs }
+    ensures methods { (E : Env) (xs : List InterfaceElem) (ms ns : List Method) → OfMethods E xs ms → OfMethods E xs ns → ms ≡ ns }
+{}
