@@ -1,6 +1,8 @@
 pub mod Asks
 pub mod Environments
 pub mod Expressions
+pub mod Growth
+pub mod KeptConstants
 pub mod Nodes
 pub mod Operands
 pub mod Universe
