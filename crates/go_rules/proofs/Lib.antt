@@ -1,3 +1,10 @@
+pub mod GrowAsks
+pub mod GrowOperand
+pub mod GrowRelations
+pub mod GrowResults
+pub mod GrowTypes
+pub mod KeptConstants
+pub mod KeptOperands
 pub mod Lacking
 pub mod NamedEntries
 pub mod OneBuiltin

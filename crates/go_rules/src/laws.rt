@@ -1,5 +1,5 @@
-//! Laws of typing: what an expression is, it is alone. Of what operands are, what is made of them and what a
-//! selector finds there is one.
+//! Laws of typing. An expression is one operand, and so is what is made of operands. What it is, it stays among
+//! more entries and where less is barred. The value of the constant that it is is of its kind.
 ghost use Rattle.std.specs.Prelude.{◌≡◌, ℕ, Bool, List, Option};
 ghost use Rattle.go_base.specs.declared.operator.CompareOp.{CompareOp};
 ghost use Rattle.go_base.specs.declared.operator.ProductOperator.{ProductOperator};
@@ -15,12 +15,15 @@ ghost use Rattle.go_model.specs.declared.types.term.Method.{Method};
 ghost use Rattle.go_model.specs.declared.types.term.Signature.{Signature};
 ghost use Rattle.go_model.specs.declared.types.term.Term.{Term};
 ghost use Rattle.go_model.specs.types.Selectors.{Ending};
-ghost use Rattle.go_rules.specs.Asks.{HasOperand, IsType};
-ghost use Rattle.go_rules.specs.Environments.{Env, Found, HasMethod};
-ghost use Rattle.go_rules.specs.Expressions.{Computes, Converts, Denotes, DenotesImported, Has, HasBuiltin, HasComparisons, HasEach, HasForm, HasIndexed, HasKeyed, HasLogical, HasOptional, HasPost, HasPosts, HasProduct, HasSizes, HasSum, HoldsNone, HoldsOne, IsArray, IsComparison, IsCount, IsIndex, IsString, IsTypeName, OfFields, OfForm, OfMethods, OfParameters, OfResult, OfSignature, OfType, ProductComputes, ProductKind, Shifts, Slices};
-ghost use Rattle.go_rules.specs.Nodes.{ExprLayer, PostLayer, ResultLayer, TypeLayer};
-ghost use Rattle.go_rules.specs.Operands.{HasKind, IsOf, IsTyped, IsUntyped};
-ghost use Rattle.go_rules.specs.Usability.{Match};
+ghost use Rattle.go_model.specs.types.Underlying.{under};
+ghost use Rattle.go_rules.specs.Asks.{HasOperand, IsType, Meets};
+ghost use Rattle.go_rules.specs.Environments.{Entered, Env, Found, HasMethod};
+ghost use Rattle.go_rules.specs.Expressions.{Computes, Converts, Denotes, DenotesImported, Has, HasBuiltin, HasComparisons, HasEach, HasElements, HasForm, HasIndexed, HasKeyed, HasLogical, HasOptional, HasPost, HasPosts, HasProduct, HasSizes, HasSum, HoldsNone, HoldsOne, IsArray, IsComparison, IsCount, IsIndex, IsString, IsTypeName, OfFields, OfForm, OfMethods, OfParameters, OfResult, OfSignature, OfType, ProductComputes, ProductKind, Shifts, Slices};
+ghost use Rattle.go_rules.specs.Growth.{Grows, unflagged};
+ghost use Rattle.go_rules.specs.KeptConstants.{ConstantsKept, IsKept, ShapeKept};
+ghost use Rattle.go_rules.specs.Nodes.{Node, ExprLayer, PostLayer, ResultLayer, TypeLayer};
+ghost use Rattle.go_rules.specs.Operands.{HasKind, IsOf, IsTyped, IsUntyped, constant_of};
+ghost use Rattle.go_rules.specs.Usability.{Assignable, Compares, Convertible, Implements, Match, UsableAs};
 ghost use Rattle.go_rules.specs.declared.operand.Operand.{Operand};
 ghost use Rattle.go_rules.specs.declared.predeclared.Predeclared.{Predeclared};
 ghost use Rattle.go_syntax.specs.declared.expression.Element.{Element};
@@ -117,4 +120,49 @@ pub fn one_term()
     ensures results { (E : Env) (l : ResultLayer) (ts us : List Term) → OfResult E l ts → OfResult E l us → ts ≡ us }
     ensures fields { (E : Env) (ds : List FieldDecl) (fs gs : List Field) → OfFields E ds fs → OfFields E ds gs → fs ≡ gs }
     ensures methods { (E : Env) (xs : List InterfaceElem) (ms ns : List Method) → OfMethods E xs ms → OfMethods E xs ns → ms ≡ ns }
+{}
+
+/// What an expression is and meets in an environment holds in one that has what it has, and may have more.
+pub fn grow()
+    ensures whole { (E F : Env) (e : Expr) (o : Operand) → Grows E F → HasOperand E e o → HasOperand F e o }
+    ensures expression { (E F : Env) (e : Expr) (o : Operand) → Grows E F → Has E e o → Has F e o }
+    ensures posts { (E F : Env) (o r : Operand) (xs : List Post) → Grows E F → HasPosts E o xs r → HasPosts F o xs r }
+    ensures builtin { (E F : Env) (f : Predeclared) (es : List Expr) (dots : Bool) (r : Operand) → Grows E F → HasBuiltin E f es dots r → HasBuiltin F f es dots r }
+    ensures elements { (E F : Env) (t : Term) (xs : List Element) → Grows E F → HasElements E t xs → HasElements F t xs }
+    ensures whole_type { (E F : Env) (t : Typ) (u : Term) → Grows E F → IsType E t u → IsType F t u }
+    ensures of_type { (E F : Env) (t : Typ) (u : Term) → Grows E F → OfType E t u → OfType F t u }
+    ensures signature { (E F : Env) (ds : List ParameterDecl) (r : Option FuncResult) (g : Signature) → Grows E F → OfSignature E ds r g → OfSignature F ds r g }
+    ensures meets { (E F : Env) (at : Node) → Grows E F → Meets E at → Meets F at }
+{}
+
+/// What is underneath a type that has its entry, what a selector finds and how types relate is the same in an
+/// environment that has what another has.
+pub fn grow_types()
+    ensures underneath { (E F : Env) (t : Term) → Grows E F → Entered E t → under E.table t ≡ under F.table t }
+    ensures entered { (E F : Env) (t : Term) → Grows E F → Entered E t → Entered F t }
+    ensures found { (E F : Env) (s : Sel) (t : Term) (x : Ending) → Grows E F → Found E s t x → Found F s t x }
+    ensures method { (E F : Env) (a : Bool) (t : Term) (s : Sel) (g : Signature) → Grows E F → HasMethod E a t s g → HasMethod F a t s g }
+    ensures type_name { (E F : Env) (q : QualifiedName) (t : Term) → Grows E F → IsTypeName E q t → IsTypeName F q t }
+    ensures implements { (E F : Env) (t u : Term) → Grows E F → Implements E t u → Implements F t u }
+    ensures assignable { (E F : Env) (t u : Term) → Grows E F → Assignable E t u → Assignable F t u }
+    ensures convertible { (E F : Env) (t u : Term) → Grows E F → Convertible E t u → Convertible F t u }
+    ensures compares { (E F : Env) (t : Term) → Grows E F → Compares E t → Compares F t }
+    ensures usable { (E F : Env) (o : Operand) (t : Term) → Grows E F → UsableAs E o t → UsableAs F o t }
+{}
+
+/// An environment has what it has itself, and what one has that another has which it has. Without the flag of
+/// the profile it bars nothing more, so that what an expression or a type form is under the flag it is without.
+pub fn growth()
+    ensures same { (E : Env) → Grows E E }
+    ensures twice { (E F G : Env) → Grows E F → Grows F G → Grows E G }
+    ensures unflagged { (E : Env) → Grows E (unflagged E) }
+    ensures expression { (E : Env) (e : Expr) (o : Operand) → HasOperand E e o → HasOperand (unflagged E) e o }
+    ensures of_type { (E : Env) (t : Typ) (u : Term) → IsType E t u → IsType (unflagged E) t u }
+{}
+
+/// Where the constants that names mean have values of their kinds, the constant that an expression is has one.
+pub fn kept_constants()
+    ensures expression { (E : Env) (e : Expr) (c : ConstTerm) (v : Value) → ConstantsKept E → Has E e (constant_of c v) → IsKept E c v }
+    ensures shape { (E : Env) (e : Expr) (o : Operand) → ConstantsKept E → Has E e o → ShapeKept E o.shape }
+    ensures posts { (E : Env) (o r : Operand) (xs : List Post) → ConstantsKept E → ShapeKept E o.shape → HasPosts E o xs r → ShapeKept E r.shape }
 {}
