@@ -1,4 +1,4 @@
-//! The rules of typing: what names mean, what an expression is, and what a declaration declares.
+//! Rules of typing: what names mean, what an expression is, the environment that both are asked in, and their laws.
 #![tactic(auto)]
 
 pub mod env;
