@@ -5,6 +5,8 @@ pub mod GrowResults
 pub mod GrowTypes
 pub mod KeptConstants
 pub mod KeptOperands
+pub mod Lacking
+pub mod NamedEntries
 pub mod OneBuiltin
 pub mod OneForm
 pub mod OneFound

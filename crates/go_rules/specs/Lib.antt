@@ -3,7 +3,11 @@ pub mod Environments
 pub mod Expressions
 pub mod Growth
 pub mod KeptConstants
+pub mod Meanings
+pub mod Names
 pub mod Nodes
 pub mod Operands
+pub mod Scopes
 pub mod Universe
 pub mod Usability
+pub mod inner

@@ -1,7 +1,13 @@
 //! The rules of typing: what names mean, what an expression is, and what a declaration declares.
 #![tactic(auto)]
 
+pub mod env;
+mod imports;
 pub mod laws;
+pub mod meaning;
+mod methods;
+mod names;
 pub mod operand;
+pub mod operators;
 pub mod predeclared;
 pub mod seen;

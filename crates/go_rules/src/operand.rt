@@ -25,7 +25,6 @@ pub enum Mode {
 }
 
 /// What an operand is of.
-#[derive(Drop)]
 pub enum Shape {
     /// A value of this type, or this type itself.
     Of(Term),
@@ -41,9 +40,27 @@ pub enum Shape {
     Empty,
 }
 
+impl Drop for Shape {
+    fn drop(self) {
+        match self {
+            Shape::Of(_) => {}
+            Shape::Fixed(_, _) => {}
+            Shape::Loose(_) => {}
+            Shape::Many(_) => {}
+            Shape::OfBuiltin(_) => {}
+            Shape::Empty => {}
+        }
+    }
+}
+
 /// What an expression is.
-#[derive(Drop)]
 pub struct Operand {
     pub mode: Mode,
     pub shape: Shape,
+}
+
+impl Drop for Operand {
+    fn drop(self) {
+        let Operand { mode: _, shape: _ } = self;
+    }
 }

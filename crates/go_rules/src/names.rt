@@ -1,0 +1,86 @@
+//! Tables of names.
+ghost use Rattle.std.specs.Prelude.{◌≡◌, ◌∷◌, ◌++◌, [], OnOk, OnErr, is_some};
+ghost use Rattle.go_base.specs.Keys.{item_of};
+ghost use Rattle.go_rules.specs.Names.{items_at, value_at, with_value};
+
+use go_base::list::List;
+use go_base::memory::NoMemory;
+use go_base::text::Text;
+use std::alloc::Global;
+use std::collections::BTreeMap;
+use std::marker::Model;
+
+/// Names in the order of bytes, each once, with what each has.
+pub(crate) struct Names<V> {
+    entries: BTreeMap<Vec<u8>, V>,
+}
+
+impl<V: Drop> Drop for Names<V> {
+    fn drop(self) {
+        let Names { entries: _ } = self;
+    }
+}
+
+impl<V> Model for Names<V> {
+    ghost use Rattle.std.specs.Coded.{coded_list, coded×, coded_ℕ};
+    ghost use Rattle.go_rules.specs.Names.{Named};
+    ghost use Rattle.go_rules.specs.inner.Entries.{by_text};
+
+    ghost Value = { Named V };
+
+    ghost coded = { coded_list (coded× (coded_list coded_ℕ) V.code) };
+
+    ghost view = { λ n. by_text n.entries.entries };
+}
+
+impl<V> Names<V> {
+    /// No name.
+    pub(crate) fn new(alloc: Global) -> Names<V>
+        ensures { result ≡ [] }
+    {
+        Names {
+            entries: BTreeMap::new(alloc),
+        }
+    }
+
+    /// What a name has.
+    pub(crate) fn get(&self, name: &[u8]) -> Option<&V>
+        ensures { item_of result ≡ value_at self.now name.now }
+    {
+        self.entries.get(name)
+    }
+
+    /// Whether a name is there.
+    pub(crate) fn has(&self, name: &[u8]) -> bool
+        ensures { result ≡ is_some (value_at self.now name.now) }
+    {
+        self.entries.contains_key(name)
+    }
+}
+
+impl<V: Drop> Names<V> {
+    /// Gives a name a value, in place of one that it had.
+    pub(crate) fn put(&mut self, name: Text, value: V) -> Result<(), NoMemory>
+        ensures ok { OnOk result (self.new ≡ with_value self.old name value) }
+        ensures err { OnErr result (self.new ≡ self.old) }
+    {
+        let key = name.into_vec()?;
+        self.entries.insert(key, value)?;
+        Ok(())
+    }
+}
+
+impl<V: Drop> Names<List<V>> {
+    /// Adds an item to what a name has, which is a list of it where the name had nothing.
+    pub(crate) fn push(&mut self, alloc: Global, name: Text, item: V) -> Result<(), NoMemory>
+        ensures ok { OnOk result (self.new ≡ with_value self.old name (items_at self.old name ++ item ∷ [])) }
+        ensures err { OnErr result (self.new ≡ self.old) }
+    {
+        if let Some(items) = self.entries.get_mut(name.bytes()) {
+            return items.push(item);
+        }
+        let mut items = List::new(alloc);
+        items.push(item)?;
+        self.put(name, items)
+    }
+}
