@@ -1,3 +1,4 @@
+pub mod Exports
 pub mod Lacking
 pub mod NamedEntries
 pub mod OneBuiltin
