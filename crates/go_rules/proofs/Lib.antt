@@ -1,3 +1,3 @@
-mod OneFound
-mod OneKind
-mod OneResult
+pub mod OneFound
+pub mod OneKind
+pub mod OneResult
