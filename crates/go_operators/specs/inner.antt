@@ -1,0 +1,11 @@
+pub mod Addresses
+pub mod Appended
+pub mod Arguments
+pub mod Comparisons
+pub mod Constants
+pub mod Conversions
+pub mod Elements
+pub mod Lengths
+pub mod Made
+pub mod Sliced
+pub mod Values

@@ -1,0 +1,126 @@
+//! `append` and `copy`.
+ghost use Rattle.std.specs.Prelude.{◌≡◌, ◌∷◌, IfOk};
+ghost use Rattle.go_rules.specs.Scopes.{env_of};
+ghost use Rattle.go_selectors.specs.Answers.{Decides};
+ghost use Rattle.go_usability.specs.Answers.{Gives};
+ghost use Rattle.go_operators.specs.Builtins.{Appends, Copies};
+ghost use Rattle.go_operators.specs.inner.Appended.{IsBytesFrom, MayAppend, MayAppendAll, MayCopy};
+
+use crate::calls::usable_all;
+use crate::indexes::string_length;
+use crate::levels::slice_under;
+use crate::operands::{int_where, plain_where};
+use crate::slices::slice_of;
+use crate::values::{is_usable, type_of};
+use go_base::memory::NoMemory;
+use go_model::constants::value::Basic;
+use go_model::types::term::Term;
+use go_rules::operand::Operand;
+use go_selectors::identity::identical;
+use go_usability::context::Context;
+use std::alloc::Global;
+
+// Whether an operand is a string, and the elements that it goes to are bytes.
+fn is_bytes_from(context: &Context<'_>, element: &Term, operand: &Operand) -> bool
+    ensures { Decides (IsBytesFrom (env_of context.now.env.now) element.now operand.now) result }
+{
+    matches!(element, Term::Plain(Basic::Uint8)) && string_length(context, operand).is_some()
+}
+
+// Whether an operand may be appended as a slice, or as a string, to elements of this type.
+fn may_append(
+    context: &Context<'_>,
+    alloc: Global,
+    element: &Term,
+    operand: &Operand,
+) -> Result<bool, NoMemory>
+    ensures { IfOk result (Decides (MayAppend (env_of context.now.env.now) element.now operand.now)) }
+{
+    if is_bytes_from(context, element, operand) {
+        return Ok(true);
+    }
+    let slice = slice_of(alloc, element)?;
+    is_usable(context, alloc, operand, &slice)
+}
+
+// Whether these operands may be appended to elements of this type.
+fn may_append_all(
+    context: &Context<'_>,
+    alloc: Global,
+    element: &Term,
+    operands: &[Operand],
+    dots: bool,
+) -> Result<bool, NoMemory>
+    ensures { IfOk result (Decides (MayAppendAll (env_of context.now.env.now) element.now operands.now dots)) }
+{
+    if !dots {
+        return usable_all(context, alloc, operands, element);
+    }
+    match operands {
+        [operand] => may_append(context, alloc, element, operand),
+        _ => Ok(false),
+    }
+}
+
+fn append_to(
+    context: &Context<'_>,
+    alloc: Global,
+    operand: &Operand,
+    operands: &[Operand],
+    dots: bool,
+) -> Result<Option<Operand>, NoMemory>
+    ensures { IfOk result (Gives (Appends (env_of context.now.env.now) (operand.now ∷ operands.now) dots)) }
+{
+    let term = match type_of(operand) {
+        Some(term) => term,
+        None => return Ok(None),
+    };
+    let element = match slice_under(context, term) {
+        Some(element) => element,
+        None => return Ok(None),
+    };
+    let may = may_append_all(context, alloc, element, operands, dots)?;
+    plain_where(alloc, may, term)
+}
+
+/// `append`; None exactly where the first operand is no slice, or the others can't be elements of it, or
+/// the one before `...` neither such a slice nor, for bytes, a string.
+pub(crate) fn append(
+    context: &Context<'_>,
+    alloc: Global,
+    operands: &[Operand],
+    dots: bool,
+) -> Result<Option<Operand>, NoMemory>
+    ensures { IfOk result (Gives (Appends (env_of context.now.env.now) operands.now dots)) }
+{
+    match operands.split_first() {
+        Some((first, rest)) => append_to(context, alloc, first, rest, dots),
+        None => Ok(None),
+    }
+}
+
+// Whether an operand may be copied to elements of this type.
+fn may_copy(context: &Context<'_>, element: &Term, operand: &Operand) -> bool
+    ensures { Decides (MayCopy (env_of context.now.env.now) element.now operand.now) result }
+{
+    if is_bytes_from(context, element, operand) {
+        return true;
+    }
+    match type_of(operand) {
+        Some(term) => match slice_under(context, term) {
+            Some(other) => identical(element, other),
+            None => false,
+        },
+        None => false,
+    }
+}
+
+/// `copy`; None exactly where the first operand is no slice, or the second neither one with its elements
+/// nor, for bytes, a string.
+pub(crate) fn copy(context: &Context<'_>, to: &Operand, from: &Operand) -> Option<Operand>
+    ensures { Gives (Copies (env_of context.now.env.now) to.now from.now) result }
+{
+    let term = type_of(to)?;
+    let element = slice_under(context, term)?;
+    int_where(may_copy(context, element, from))
+}
