@@ -1,4 +1,4 @@
-pub mod Exports
+pub mod ExportedNames
 pub mod Lacking
 pub mod NamedEntries
 pub mod OneBuiltin

@@ -271,7 +271,11 @@ impl Env<'_> {
     pub fn selector(&self, name: &[u8]) -> Result<Sel, NoMemory>
         ensures { IfOk result (λ sel. sel ≡ selector_of (env_of self.now) name.now) }
     {
-        let package: &[u8] = if is_exported(name) { b"" } else { self.path.bytes() };
+        let package: &[u8] = if is_exported(name) {
+            b""
+        } else {
+            self.path.bytes()
+        };
         Ok(Sel {
             name: Text::of(self.alloc, name)?,
             package: Text::of(self.alloc, package)?,

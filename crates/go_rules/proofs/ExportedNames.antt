@@ -2,9 +2,9 @@
 use Rattle.std.proofs.Common.{◌≡◌, ℕ, List, [], ◌∷◌, ◌++◌, refl, sym, ap, ◌∙◌, Bool, true, false, ◌&&◌}
 use mathlib.Core.Bool.{true≢false}
 use Rattle.std.proofs.lemmas.Str.{IsUtf8-from_is_utf8, chars_past_char, chars_from_encodes}
-use Rattle.std.specs.Prelude.{IsTrue, ◌↔◌, is_true}
-use Rattle.std.specs.Char.{IsScalar, encode_utf8, scalar}
-use Rattle.std.specs.Str.{chars, is_utf8, encode_utf8_all, scalars}
+use Rattle.std.specs.Char.{IsScalar, encode_utf8}
+use lib.Utf8.{scalars}
+use Rattle.std.specs.Str.{chars, is_utf8, encode_utf8_all}
 use Rattle.go_base.specs.Characters.{BeginsPassing, is_upper}
 use Rattle.go_rules.specs.Environments.{begins_upper, is_exported}
 
@@ -14,7 +14,7 @@ first_true false b h = absurd (true≢false (sym h))
 
 begins : (name cs : List ℕ) → chars name ≡ cs → scalars cs ≡ true → encode_utf8_all cs ≡ name → begins_upper (chars name) ≡ true → BeginsPassing is_upper name
 begins name [] is s e h = absurd (true≢false (sym h ∙ ap begins_upper is))
-begins name (c ∷ cs) is s e h = (c, encode_utf8_all cs, sym (ap begins_upper is) ∙ h, first_true (scalar c) (scalars cs) s, sym e)
+begins name (c ∷ cs) is s e h = (c, encode_utf8_all cs, sym (ap begins_upper is) ∙ h, first_true _ (scalars cs) s, sym e)
 
 passes : (name : List ℕ) → is_utf8 name ≡ true → BeginsPassing is_upper name → begins_upper (chars name) ≡ true
 passes name utf b = ap begins_upper (chars_past_char name b.1 b.0 (IsUtf8-from_is_utf8 name utf) b.4) ∙ b.2
