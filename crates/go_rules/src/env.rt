@@ -1,11 +1,12 @@
 //! What an expression is typed in.
 ghost use Rattle.std.specs.Prelude.{◌≡◌, ◌≢◌, ◌⊎◌, ◌↔◌, ◌∷◌, [], true, drop, is_some, IfOk, OnOk, OnErr};
 ghost use Rattle.go_base.specs.Keys.{item_of};
-ghost use Rattle.go_rules.specs.Environments.{is_among};
+ghost use Rattle.go_rules.specs.Environments.{is_among, selector_of};
 ghost use Rattle.go_rules.specs.Meanings.{as_seen};
 ghost use Rattle.go_rules.specs.Names.{value_at, with_value};
 ghost use Rattle.go_rules.specs.Scopes.{env_of, innermost, is_declared, is_imported, new_scopes, with_announced, with_awaited, with_defined, with_import, with_meaning};
 
+use crate::exports::is_exported;
 use crate::imports::Imports;
 use crate::meaning::Meaning;
 use crate::methods::is_lacking;
@@ -264,6 +265,21 @@ impl Env<'_> {
             Some(object) => Some(&object.entity),
             None => None,
         }
+    }
+
+    /// The selector of a name: exported, or of the package that is typed.
+    pub fn selector(&self, name: &[u8]) -> Result<Sel, NoMemory>
+        ensures { IfOk result (λ sel. sel ≡ selector_of (env_of self.now) name.now) }
+    {
+        let package: &[u8] = if is_exported(name) {
+            b""
+        } else {
+            self.path.bytes()
+        };
+        Ok(Sel {
+            name: Text::of(self.alloc, name)?,
+            package: Text::of(self.alloc, package)?,
+        })
     }
 
     /// Whether a method of a defined type is known by its selector, and its signature isn't had.

@@ -2,6 +2,7 @@
 #![tactic(auto)]
 
 pub mod env;
+pub mod exports;
 mod imports;
 pub mod laws;
 pub mod meaning;
