@@ -7,6 +7,13 @@ pub mod GrowTypes
 pub mod KeptConstants
 pub mod KeptOperands
 pub mod Lacking
+pub mod LocalAsks
+pub mod LocalOperand
+pub mod LocalParts
+pub mod LocalRelations
+pub mod LocalResults
+pub mod LocalTerms
+pub mod LocalTypes
 pub mod NamedEntries
 pub mod OneBuiltin
 pub mod OneForm

@@ -7,6 +7,7 @@ pub mod Meanings
 pub mod Names
 pub mod Nodes
 pub mod Operands
+pub mod Regions
 pub mod Scopes
 pub mod Universe
 pub mod Usability

@@ -1,5 +1,6 @@
 //! Laws of typing. An expression is one operand, and so is what is made of operands. What it is, it stays among
-//! more entries and where less is barred. The value of the constant that it is is of its kind.
+//! more entries and where less is barred, and depends on what it refers to alone. The value of the constant that
+//! it is is of its kind.
 ghost use Rattle.std.specs.Prelude.{◌≡◌, ℕ, Bool, List, Option};
 ghost use Rattle.go_base.specs.declared.operator.CompareOp.{CompareOp};
 ghost use Rattle.go_base.specs.declared.operator.ProductOperator.{ProductOperator};
@@ -21,8 +22,9 @@ ghost use Rattle.go_rules.specs.Environments.{Entered, Env, Found, HasMethod};
 ghost use Rattle.go_rules.specs.Expressions.{Computes, Converts, Denotes, DenotesImported, Has, HasBuiltin, HasComparisons, HasEach, HasElements, HasForm, HasIndexed, HasKeyed, HasLogical, HasOptional, HasPost, HasPosts, HasProduct, HasSizes, HasSum, HoldsNone, HoldsOne, IsArray, IsComparison, IsCount, IsIndex, IsString, IsTypeName, OfFields, OfForm, OfMethods, OfParameters, OfResult, OfSignature, OfType, ProductComputes, ProductKind, Shifts, Slices};
 ghost use Rattle.go_rules.specs.Growth.{Grows, unflagged};
 ghost use Rattle.go_rules.specs.KeptConstants.{ConstantsKept, IsKept, ShapeKept};
-ghost use Rattle.go_rules.specs.Nodes.{Node, ExprLayer, PostLayer, ResultLayer, TypeLayer};
+ghost use Rattle.go_rules.specs.Nodes.{Node, expression, type as type_node, signature as signature_node, ExprLayer, PostLayer, ResultLayer, TypeLayer};
 ghost use Rattle.go_rules.specs.Operands.{HasKind, IsOf, IsTyped, IsUntyped, constant_of};
+ghost use Rattle.go_rules.specs.Regions.{Region, IsClosed, RefersIn, ShapeIn, SignatureIn, TermIn, cut};
 ghost use Rattle.go_rules.specs.Usability.{Assignable, Compares, Convertible, Implements, Match, UsableAs};
 ghost use Rattle.go_rules.specs.declared.operand.Operand.{Operand};
 ghost use Rattle.go_rules.specs.declared.predeclared.Predeclared.{Predeclared};
@@ -35,6 +37,7 @@ ghost use Rattle.go_syntax.specs.declared.types.FieldDecl.{FieldDecl};
 ghost use Rattle.go_syntax.specs.declared.types.FuncResult.{FuncResult};
 ghost use Rattle.go_syntax.specs.declared.types.InterfaceElem.{InterfaceElem};
 ghost use Rattle.go_syntax.specs.declared.types.ParameterDecl.{ParameterDecl};
+ghost use Rattle.go_syntax.specs.declared.types.Signature.{Signature as Sig, out-Signature as out-Sig};
 ghost use Rattle.go_syntax.specs.declared.types.«Type».{«Type» as Typ};
 
 /// An operand is of one type or one untyped kind, a type or untyped kind has one kind, and two operands match
@@ -165,4 +168,19 @@ pub fn kept_constants()
     ensures expression { (E : Env) (e : Expr) (c : ConstTerm) (v : Value) → ConstantsKept E → Has E e (constant_of c v) → IsKept E c v }
     ensures shape { (E : Env) (e : Expr) (o : Operand) → ConstantsKept E → Has E e o → ShapeKept E o.shape }
     ensures posts { (E : Env) (o r : Operand) (xs : List Post) → ConstantsKept E → ShapeKept E o.shape → HasPosts E o xs r → ShapeKept E r.shape }
+{}
+
+/// What an expression is depends on what it refers to alone: it is the same in an environment that has what a
+/// closed region of another has, where the names in the expression are of the region, and the types that it is of
+/// are of the region too.
+pub fn closed_region()
+    ensures cut { (E : Env) (R : Region) (e : Expr) (o : Operand) → IsClosed E R → RefersIn R (expression e) → HasOperand E e o → HasOperand (cut R E) e o }
+    ensures operand { (E : Env) (R : Region) (e : Expr) (o : Operand) → IsClosed E R → RefersIn R (expression e) → HasOperand E e o → ShapeIn R o.shape }
+    ensures expression { (E F : Env) (R : Region) (e : Expr) (o : Operand) → IsClosed E R → Grows (cut R E) F → RefersIn R (expression e) → HasOperand E e o → HasOperand F e o }
+    ensures of_type { (E F : Env) (R : Region) (t : Typ) (u : Term) → IsClosed E R → Grows (cut R E) F → RefersIn R (type_node t) → IsType E t u → IsType F t u }
+    ensures term { (E : Env) (R : Region) (t : Typ) (u : Term) → IsClosed E R → RefersIn R (type_node t) → IsType E t u → TermIn R u }
+    ensures signature { (E F : Env) (R : Region) (g : Sig) (h : Signature) → IsClosed E R → Grows (cut R E) F → RefersIn R (signature_node g) → OfSignature E (out-Sig g).parameters (out-Sig g).result h → OfSignature F (out-Sig g).parameters (out-Sig g).result h }
+    ensures signature_in { (E : Env) (R : Region) (g : Sig) (h : Signature) → IsClosed E R → RefersIn R (signature_node g) → OfSignature E (out-Sig g).parameters (out-Sig g).result h → SignatureIn R h }
+    ensures meets { (E F : Env) (R : Region) (at : Node) → IsClosed E R → Grows (cut R E) F → RefersIn R at → Meets E at → Meets F at }
+    ensures whole { (E : Env) (R : Region) → Grows (cut R E) E }
 {}
