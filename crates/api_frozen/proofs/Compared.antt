@@ -1,5 +1,5 @@
 -- The report of lost and new lines.
-use Rattle.std.proofs.Common.{◌≡◌, ℕ, Bool, true, false, not, List, [], ◌∷◌, refl, sym, ap, ◌∙◌, subst, inl, inr}
+use Rattle.std.proofs.Common.{◌≡◌, ℕ, Bool, true, false, not, List, [], refl, sym, ap, ◌∙◌, subst, inl, inr}
 use mathlib.Core.Bool.{true≢false}
 use Rattle.std.specs.Prelude.{Decides}
 use Rattle.go_base.specs.Lists.{Has}
@@ -8,7 +8,7 @@ use Rattle.api_lines.specs.declared.line.Line.{Line}
 use Rattle.api_lines.specs.Lines.{printed, HasText}
 use Rattle.api_lines.proofs.Growing.{grows_as}
 use Rattle.api_frozen.specs.declared.signed.Signed.{Signed}
-use Rattle.api_frozen.specs.Comparison.{IsLost, IsNew, IsSignedAs, IsSigned, IsReport}
+use Rattle.api_frozen.specs.Comparison.{IsSignedAs, IsSigned, IsReport}
 use Rattle.api_frozen.specs.LineShapes.{IsInContext}
 use Rattle.api_frozen.specs.inner.SignedLines.{ArrangesLines, IsMissing, IsLoss, IsLossOf, IsGain, IsGainOf}
 use Rattle.api_frozen.proofs.LineParts.{plain_once}

@@ -1,10 +1,9 @@
 -- The parts of feature lines.
-use Rattle.std.proofs.Common.{◌≡◌, ◌≢◌, ℕ, Bool, true, false, List, [], ◌∷◌, ◌++◌, take, drop, get_or, refl, sym, ap, ◌∙◌, subst, Option, Some, None, append_assoc}
+use Rattle.std.proofs.Common.{◌≡◌, ℕ, false, List, ◌++◌, drop, get_or, refl, sym, ap, ◌∙◌, Option, Some, None, append_assoc}
 use mathlib.Core.Bool.{true≢false}
 use denote.Ref.{Bor}
-use Rattle.std.specs.Prelude.{◌==◌, codes, IfSome, is_some}
-use Rattle.go_base.specs.Lists.{Each}
-use Rattle.api_frozen.specs.LineShapes.{ends_path, ends_context, IsWord, after_path, line_of, IsAfterPath, HasParts, IsFeatureLine, IsInContext}
+use Rattle.std.specs.Prelude.{◌==◌, codes, is_some}
+use Rattle.api_frozen.specs.LineShapes.{ends_path, ends_context, after_path, line_of, IsAfterPath, HasParts, IsFeatureLine, IsInContext}
 use Rattle.api_frozen.specs.inner.Readings.{context_of, IsStopped, IsSplit, IsFollowed}
 use Rattle.api_frozen.proofs.Words.{not_word, word_once}
 

@@ -1,5 +1,5 @@
 -- Words at the front of bytes.
-use Rattle.std.proofs.Common.{◌≡◌, ◌≢◌, ℕ, zero, suc, ◌+◌, ◌<◌, ◌≤◌, Bool, true, false, not, cond, List, [], ◌∷◌, ◌++◌, length, take, drop, refl, sym, ap, ◌∙◌, subst, arith, Option, Some, None}
+use Rattle.std.proofs.Common.{◌≡◌, ◌≢◌, ℕ, suc, ◌+◌, ◌<◌, ◌≤◌, Bool, true, false, not, cond, List, [], ◌∷◌, ◌++◌, length, take, drop, refl, sym, ap, ◌∙◌, subst, arith, Option, Some, None}
 use mathlib.Core.Bool.{true≢false}
 use Rattle.std.specs.Prelude.{bytes_eq, MatchOption, IfSome, IsNone}
 use Rattle.std.specs.Cmp.Lexicographic.{bytes_decides}
@@ -7,7 +7,7 @@ use Rattle.std.specs.List.{position_or_len}
 use Rattle.std.proofs.lemmas.List.{take-append-drop, take_at}
 use denote.Ref.{Bor}
 use Rattle.go_base.specs.Lists.{Each}
-use Rattle.go_base.proofs.Lists.{rest_from, length_take}
+use Rattle.go_base.proofs.Lists.{length_take}
 use Rattle.api_frozen.specs.LineShapes.{IsWord}
 use Rattle.api_frozen.specs.inner.Readings.{IsStopped, IsSplit}
 

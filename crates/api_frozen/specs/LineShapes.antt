@@ -1,6 +1,6 @@
 -- The shape of feature lines: a path, a context or none, and the rest.
 -- Public source: the lines of Go's files api/go1.txt and later, as cmd/api reads them; which bytes a path and a context may have is own.
-use Rattle.std.specs.Prelude.{◌≡◌, ◌≢◌, ℕ, Bool, true, false, ◌||◌, ◌==◌, List, [], ◌∷◌, ◌++◌, codes, Option, None, Some, IfSome}
+use Rattle.std.specs.Prelude.{◌≡◌, ◌≢◌, ℕ, Bool, false, ◌||◌, ◌==◌, List, [], ◌++◌, codes, Option, None, Some, IfSome}
 use Rattle.go_base.specs.Comments.{is_blank}
 use Rattle.go_base.specs.Lists.{Each}
 

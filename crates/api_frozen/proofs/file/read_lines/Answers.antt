@@ -1,4 +1,4 @@
-use Rattle.std.proofs.Common.{List, ℕ, [], map, sym, subst, arith}
+use Rattle.std.proofs.Common.{[], map, sym, subst, arith}
 use Rattle.std.proofs.lemmas.List.{length-map}
 use Rattle.api_frozen.specs.FrozenFiles.{AreFrozen, frozen_none}
 use Rattle.api_frozen.specs.inner.Readings.{AddsLine}
