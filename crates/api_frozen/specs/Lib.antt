@@ -1,0 +1,4 @@
+pub mod Comparison
+pub mod FrozenFiles
+pub mod LineShapes
+pub mod inner

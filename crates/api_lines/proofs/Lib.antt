@@ -1,0 +1,5 @@
+pub mod Growing
+pub mod Merged
+pub mod OrderedLines
+pub mod OrderedTexts
+pub mod TextSets

@@ -1,0 +1,7 @@
+//! The feature lines of worlds, and one list of them for several platforms.
+#![tactic(auto)]
+
+pub mod line;
+mod lines;
+pub mod merge;
+pub mod texts;

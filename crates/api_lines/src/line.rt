@@ -1,0 +1,69 @@
+//! A feature line.
+ghost use Rattle.std.specs.Prelude.{◌≡◌, ◌++◌, IfOk, OnOk};
+ghost use Rattle.api_lines.specs.Lines.{context_text, printed};
+
+use go_base::memory::NoMemory;
+use go_base::text::Text;
+use go_model::files::platform::Platform;
+use std::alloc::Global;
+
+/// A feature of a package, as Go's `cmd/api` writes it: `pkg PATH`, where it has a platform ` (PLATFORM)`,
+/// then `, ` and the rest.
+pub struct Line {
+    pub path: Text,
+    pub context: Option<Platform>,
+    pub rest: Text,
+}
+
+impl Drop for Line {
+    fn drop(self) {
+        let Line {
+            path: _,
+            context: _,
+            rest: _,
+        } = self;
+    }
+}
+
+fn push_context(line: &mut Vec<u8>, context: Option<Platform>) -> Result<(), NoMemory>
+    ensures { OnOk result (line.new.items ≡ line.old.items ++ context_text context) }
+{
+    match context {
+        None => Ok(()),
+        Some(platform) => {
+            line.extend_from_slice(b" (")?;
+            line.extend_from_slice(platform.name())?;
+            line.extend_from_slice(b")")?;
+            Ok(())
+        }
+    }
+}
+
+impl Line {
+    /// The text of the line, without a newline.
+    pub fn printed(&self, alloc: Global) -> Result<Text, NoMemory>
+        ensures { IfOk result (λ text. text ≡ printed self.now) }
+    {
+        let path = self.path.bytes();
+        let rest = self.rest.bytes();
+        let long = path.len().saturating_add(rest.len()).saturating_add(24);
+        let mut line = Vec::with_capacity(alloc, long)?;
+        line.extend_from_slice(b"pkg ")?;
+        line.extend_from_slice(path)?;
+        push_context(&mut line, self.context)?;
+        line.extend_from_slice(b", ")?;
+        line.extend_from_slice(rest)?;
+        Ok(Text::from_vec(line))
+    }
+
+    /// The line of the same path and rest in this context.
+    pub fn on(&self, alloc: Global, context: Option<Platform>) -> Result<Line, NoMemory>
+        ensures { IfOk result (λ line. line ≡ record { path = self.now.path; context = context; rest = self.now.rest }) }
+    {
+        Ok(Line {
+            path: Text::of(alloc, self.path.bytes())?,
+            context,
+            rest: Text::of(alloc, self.rest.bytes())?,
+        })
+    }
+}

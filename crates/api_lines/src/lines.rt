@@ -1,0 +1,154 @@
+//! Lines that are gathered, and then listed in the order of their texts.
+ghost use Rattle.std.specs.Prelude.{◌≡◌, [], map, IfOk, OnOk, Some, refl, bytes_eq};
+ghost use Rattle.std.specs.Ordering.{nat_cmp, on};
+ghost use Rattle.std.specs.Cmp.{partial_equiv_from_equiv, on_equiv, on_po, on_total};
+ghost use Rattle.std.specs.Cmp.Lexicographic.{slice_cmp, nat_list_eq_equiv, nat_list_cmp_total, texts_po, texts_ties};
+ghost use Rattle.go_base.specs.Lists.{Has};
+ghost use Rattle.go_base.specs.Growing.{Grows};
+ghost use Rattle.api_lines.specs.Lines.{printed, IsListing};
+
+use crate::line::Line;
+use go_base::list::List;
+use go_base::memory::NoMemory;
+use go_base::text::Text;
+use std::alloc::Global;
+use std::cmp::Ordering;
+use std::marker::Model;
+
+// A line with its text, by which it is ordered.
+struct Printed {
+    text: Text,
+    line: Line,
+    ghost shown: { text ≡ printed line },
+}
+
+impl Drop for Printed {
+    fn drop(self) {
+        let Printed { text: _, line: _ } = self;
+    }
+}
+
+impl Printed {
+    fn new(alloc: Global, line: Line) -> Result<Printed, NoMemory>
+        ensures { IfOk result (λ p. p.line ≡ line) }
+    {
+        let text = line.printed(alloc)?;
+        Ok(Printed { text, line })
+    }
+
+    fn into_line(self) -> Line
+        ensures { result ≡ self.line }
+    {
+        let Printed { text: _, line } = self;
+        line
+    }
+}
+
+impl PartialEq for Printed {
+    ghost eq = { on (λ p. p.text) bytes_eq };
+
+    ghost laws = { partial_equiv_from_equiv (on_equiv (λ p. p.text) nat_list_eq_equiv) };
+
+    fn eq(&self, other: &Printed) -> bool {
+        self.text == other.text
+    }
+}
+
+impl Eq for Printed {
+    ghost laws = { on_equiv (λ p. p.text) nat_list_eq_equiv };
+}
+
+impl PartialOrd for Printed {
+    ghost partial_cmp = { λ a b. Some (slice_cmp nat_cmp a.text b.text) };
+
+    ghost laws = { on_po (λ p. p.text) texts_po };
+
+    fn partial_cmp(&self, other: &Printed) -> Option<Ordering> {
+        Some(self.cmp(other))
+    }
+}
+
+impl Ord for Printed {
+    ghost cmp = { λ a b. slice_cmp nat_cmp a.text b.text };
+
+    ghost total = { on_total (λ p. p.text) nat_list_cmp_total };
+
+    ghost matches_partial_cmp = { λ a b. refl };
+
+    ghost matches_eq = { λ a b. texts_ties a.text b.text };
+
+    fn cmp(&self, other: &Printed) -> Ordering {
+        self.text.cmp(&other.text)
+    }
+}
+
+/// Lines that are gathered.
+pub(crate) struct Lines {
+    all: Vec<Printed>,
+}
+
+impl Drop for Lines {
+    fn drop(self) {
+        let Lines { all: _ } = self;
+    }
+}
+
+impl Model for Lines {
+    ghost use Rattle.std.specs.Prelude.{List as Sequence, map};
+    ghost use Rattle.api_lines.specs.declared.line.Line.{Line as Feature};
+
+    ghost Value = { Sequence Feature };
+
+    ghost view = { λ l. map (λ p. p.line) l.all.items };
+}
+
+fn push(all: &mut Vec<Printed>, printed: Printed) -> Result<(), NoMemory>
+    ensures { OnOk result (Grows (λ l. printed.line ≡ l) (map (λ p. p.line) all.old.items) (map (λ p. p.line) all.new.items)) }
+{
+    all.push(printed)?;
+    Ok(())
+}
+
+// The lines without their texts, in the same order.
+fn without_texts(alloc: Global, all: Vec<Printed>) -> Result<Vec<Line>, NoMemory>
+    ensures { IfOk result (λ lines. lines.items ≡ map (λ p. p.line) all.items) }
+{
+    let lines = all.into_iter().map(|p| p.into_line()).collect(alloc)?;
+    Ok(lines)
+}
+
+fn in_order(alloc: Global, mut all: Vec<Printed>) -> Result<List<Line>, NoMemory>
+    ensures { IfOk result (IsListing (Has (map (λ p. p.line) all.items))) }
+{
+    all.sort_unstable();
+    all.dedup();
+    let lines = without_texts(alloc, all)?;
+    Ok(List::from_vec(lines))
+}
+
+impl Lines {
+    /// No line.
+    pub(crate) fn new(alloc: Global) -> Lines
+        ensures { result ≡ [] }
+    {
+        Lines {
+            all: Vec::new(alloc),
+        }
+    }
+
+    /// Adds a line.
+    pub(crate) fn add(&mut self, alloc: Global, line: Line) -> Result<(), NoMemory>
+        ensures { OnOk result (Grows (λ l. line ≡ l) self.old self.new) }
+    {
+        let printed = Printed::new(alloc, line)?;
+        push(&mut self.all, printed)
+    }
+
+    /// The lines, each text once, in the order of the texts.
+    pub(crate) fn into_list(self, alloc: Global) -> Result<List<Line>, NoMemory>
+        ensures { IfOk result (IsListing (Has self)) }
+    {
+        let Lines { all } = self;
+        in_order(alloc, all)
+    }
+}
