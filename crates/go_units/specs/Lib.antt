@@ -1,2 +1,4 @@
+pub mod ImportPaths
 pub mod Orders
+pub mod UsedImports
 pub mod inner

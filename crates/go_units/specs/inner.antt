@@ -1,3 +1,5 @@
+pub mod Answers
 pub mod Levels
 pub mod OrderCauses
 pub mod Sorting
+pub mod Uses

@@ -3,7 +3,8 @@ ghost use Rattle.std.specs.Prelude.{◌≡◌, ◌<◌, ◌≤◌, ◌∷◌, �
 ghost use Rattle.indexmap.specs.IndexSet.{insert_key, insert_all};
 ghost use Rattle.go_base.specs.Lists.{Has};
 ghost use Rattle.go_units.specs.Orders.{IsGraph, IsOnCycle, IsLeastOnCycle, needs_of};
-ghost use Rattle.go_units.specs.inner.Levels.{Falls, Reached, at_level, LeastOrNone, Decides};
+ghost use Rattle.go_units.specs.inner.Levels.{Falls, Reached, at_level, LeastOrNone};
+ghost use Rattle.go_units.specs.inner.Answers.{Decides};
 
 use crate::components::components;
 use crate::order::needs_of;

@@ -3,5 +3,8 @@
 
 mod components;
 pub mod cycle;
+pub mod import_paths;
 pub mod laws;
 pub mod order;
+mod text_set;
+pub mod used_imports;

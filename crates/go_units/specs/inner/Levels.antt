@@ -1,5 +1,5 @@
 -- What the search for a package on a cycle keeps: levels that never rise along needs, and what is reached on one of them.
-use Rattle.std.specs.Prelude.{◌≡◌, ◌≤◌, ℕ, Bool, true, false, nat_eq, cond, List, [], ◌∷◌, get_or, Option, Some, None}
+use Rattle.std.specs.Prelude.{◌≤◌, ℕ, nat_eq, cond, List, [], ◌∷◌, get_or, Option, Some, None}
 use Rattle.go_base.specs.Lists.{Has}
 use Rattle.go_units.specs.Orders.{needs_of, IsOnCycle, IsLeastOnCycle}
 
@@ -15,10 +15,6 @@ pub data Reached (next : ℕ → List ℕ) (seeds : List ℕ) : ℕ → Type 0 w
 -- levels never rise along needs
 abbrev pub Falls : List (List ℕ) → List ℕ → Type 0
 Falls graph levels = (m n : ℕ) → Has (needs_of graph m) n → get_or levels n 0 ≤ get_or levels m 0
-
--- the answer says whether the fact holds
-abbrev pub Decides : Bool → Type 0 → Type 0
-Decides r P = (r ≡ true → P) × (r ≡ false → P → ⊥)
 
 -- the least package on a cycle, or that there is none
 abbrev pub LeastOrNone : List (List ℕ) → Option ℕ → Type 0
