@@ -1,4 +1,5 @@
 pub mod Cycles
+pub mod Files
 pub mod GrowingSets
 pub mod Members
 pub mod OneOrder

@@ -1,4 +1,5 @@
 pub mod Answers
+pub mod Files
 pub mod Levels
 pub mod OrderCauses
 pub mod Sorting

@@ -6,5 +6,6 @@ pub mod cycle;
 pub mod import_paths;
 pub mod laws;
 pub mod order;
+pub mod package_files;
 mod text_set;
 pub mod used_imports;

@@ -3,9 +3,11 @@ ghost use Rattle.std.specs.Prelude.{◌≡◌, ◌≢◌, ◌++◌, [], codes, S
 ghost use Rattle.go_base.specs.Lists.{Has};
 ghost use Rattle.go_base.specs.Growing.{Grows};
 ghost use Rattle.go_units.specs.UsedImports.{IsNameIn, IsConstName, IsVarName, IsTypeName, IsFuncName, IsDeclaredBy, IsDeclaredIn, IsQualifier, IsQualifierOf, IsQualifierIn, scope_name, IsScopeNameIn, IsScopeName, named_as, AreUsed};
+ghost use Rattle.go_units.specs.InternalUses.{IsBarred, IsFirstBarred};
+ghost use Rattle.go_units.specs.inner.Answers.{Decides};
 ghost use Rattle.go_units.specs.inner.Uses.{IsConstNameIn, IsVarNameIn, IsTypeNameIn, IsQualifierAmong, ByName, ByPath, Uses, listed};
 
-use crate::import_paths::assumed_name;
+use crate::import_paths::{assumed_name, is_internal_use};
 use crate::text_set::{add_new, add_text, has_text};
 use go_base::list::List;
 use go_base::memory::NoMemory;
@@ -298,4 +300,23 @@ pub fn used_imports(
         add_use(&mut uses, found)?;
     }
     Ok(uses)
+}
+
+fn is_barred(importer: &[u8], from_std: bool, import: &NamedImport) -> bool
+    ensures { Decides result (IsBarred importer.now from_std import.now) }
+{
+    is_internal_use(importer, from_std, import.path.bytes())
+}
+
+/// The place of the first used import of a file that its package may not import, since it lies in a directory `internal`
+/// of others ([`is_internal_use`]); `None` where there is none.
+pub fn first_internal(importer: &[u8], from_std: bool, uses: &[NamedImport]) -> Option<u32>
+    ensures { IsFirstBarred importer.now from_std uses.now result }
+{
+    for import in uses {
+        if is_barred(importer, from_std, import) {
+            return Some(import.place);
+        }
+    }
+    None
 }
