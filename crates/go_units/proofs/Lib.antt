@@ -1,0 +1,11 @@
+pub mod Cycles
+pub mod Files
+pub mod GrowingSets
+pub mod Members
+pub mod OneOrder
+pub mod Paths
+pub mod Sorted
+pub mod TextKeys
+pub mod Uses
+pub mod Waits
+pub mod Worklist

@@ -1,0 +1,6 @@
+pub mod ImportPaths
+pub mod InternalUses
+pub mod Orders
+pub mod PackageFiles
+pub mod UsedImports
+pub mod inner

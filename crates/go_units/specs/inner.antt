@@ -1,0 +1,6 @@
+pub mod Answers
+pub mod Files
+pub mod Levels
+pub mod OrderCauses
+pub mod Sorting
+pub mod Uses

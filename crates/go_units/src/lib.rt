@@ -1,0 +1,11 @@
+//! What the packages of a tree are made from: their order, the names that files declare and import, and used imports.
+#![tactic(auto)]
+
+mod components;
+pub mod cycle;
+pub mod import_paths;
+pub mod laws;
+pub mod order;
+pub mod package_files;
+mod text_set;
+pub mod used_imports;
