@@ -1,0 +1,8 @@
+use Rattle.std.proofs.Common.{subst}
+use Rattle.go_model.specs.types.Comparison.{Comparable}
+use Rattle.go_rules.specs.Scopes.{env_of}
+use Rattle.go_selectors.specs.Answers.{Decides}
+use Rattle.go_usability.proofs.table.comparable.Goals as goal
+
+pub returns : goal.returns
+returns c = subst (λ x. Decides (Comparable (env_of x).table c.args.term.now) c.in_ok-answer.answer) c.args.context.now.same c.in_ok-answer.ensures
