@@ -10,7 +10,7 @@ use Rattle.go_cursor.specs.declared.error.ParseError.{ParseError}
 use Rattle.go_cursor.specs.declared.error.ParseError.TheVariants.{Syntax, NoMemory}
 use Rattle.go_cursor.specs.Reading.{Found, Reader, Next, Stop, Fail, More, bind, loop, run, put, after, step_of}
 use Rattle.go_cursor.specs.Reads.{Reads, ReadsNext}
-use Rattle.go_exprs.specs.Rules.{operator_at, operated, operation, put_both, step_both}
+use Rattle.go_descent.specs.Rules.{operator_at, operated, operation, put_both, step_both}
 use Rattle.go_cursor.proofs.Turns.{one_more, no_more, turn_stops, turn_fails, turn_goes_on}
 
 -- an error that is handed on, of a reading

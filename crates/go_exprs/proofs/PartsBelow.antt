@@ -10,10 +10,11 @@ use Rattle.go_exprs.specs.declared.grammar.Part.TheVariants as part
 use Rattle.go_exprs.specs.declared.grammar.PartTree.{PartTree}
 use Rattle.go_cursor.specs.Reading.{Found}
 use Rattle.go_cursor.specs.Reads.{Reads}
-use Rattle.go_exprs.specs.Rules.{Parts, no_parts, whole_parts}
+use Rattle.go_descent.specs.Rules.{Parts, no_parts, whole_parts}
 use Rattle.go_cursor.specs.Skipping.{skipped_body}
-use Rattle.go_exprs.specs.Levels.{levels, ReadsPart}
-use Rattle.go_exprs.proofs.Heights.{bottom, higher, some_body}
+use Rattle.go_descent.specs.Levels.{levels}
+use Rattle.go_exprs.specs.Parts.{ReadsPart}
+use Rattle.go_descent.proofs.Heights.{bottom, higher, some_body}
 
 at_bottom : (p : Part) (ts : List Terminal) (new : List Token) → ReadsPart no_parts p ts (Err Syntax) new
 at_bottom part.Expr ts new = refl

@@ -1,7 +1,8 @@
 //! The readers of the trees of a height, over a reader of the lower trees that are their parts.
 ghost use Rattle.std.specs.Prelude.{◌≡◌};
 ghost use Rattle.go_syntax.specs.grammar.Terminals.{terminals};
-ghost use Rattle.go_exprs.specs.Levels.{levels, ReadsBelow, ReadsPart};
+ghost use Rattle.go_descent.specs.Levels.{levels};
+ghost use Rattle.go_exprs.specs.Parts.{ReadsBelow, ReadsPart};
 ghost use Rattle.go_cursor.specs.Reads.{Reads};
 
 use go_base::list::List;

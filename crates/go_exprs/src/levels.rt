@@ -1,8 +1,9 @@
 //! The readers of trees below a height.
 ghost use Rattle.std.specs.Prelude.{◌≡◌};
 ghost use Rattle.go_syntax.specs.grammar.Terminals.{terminals};
-ghost use Rattle.go_exprs.specs.Levels.{levels, ReadsBelow, ReadsPart};
-ghost use Rattle.go_exprs.specs.Rules as rules;
+ghost use Rattle.go_descent.specs.Levels.{levels};
+ghost use Rattle.go_exprs.specs.Parts.{ReadsBelow, ReadsPart};
+ghost use Rattle.go_descent.specs.Rules as rules;
 ghost use Rattle.go_cursor.specs.Skipping.{skipped_body};
 
 use crate::grammar::{Grammar, Part, PartTree};

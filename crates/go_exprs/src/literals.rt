@@ -1,10 +1,11 @@
 //! The elements of composite literals.
 ghost use Rattle.std.specs.Prelude.{◌≡◌};
 ghost use Rattle.go_syntax.specs.grammar.Terminals.{terminals};
-ghost use Rattle.go_exprs.specs.Levels.{levels, ReadsBelow};
+ghost use Rattle.go_descent.specs.Levels.{levels};
+ghost use Rattle.go_exprs.specs.Parts.{ReadsBelow};
 ghost use Rattle.go_cursor.specs.Reading.{run, step_of};
 ghost use Rattle.go_cursor.specs.Reads.{Reads};
-ghost use Rattle.go_exprs.specs.Rules as rules;
+ghost use Rattle.go_descent.specs.Rules as rules;
 
 use crate::grammar::{Grammar, Part, PartTree};
 use go_base::list::List;
@@ -17,7 +18,7 @@ use std::alloc::Global;
 
 impl<F: Fn(Global, &mut Cursor<'_>, usize, Part) -> Result<PartTree, ParseError>> Grammar<F> {
     /// A key or a value: an expression, or elements in braces.
-    #[tactic(auto, unfolding(crate::specs::Rules::element_value))]
+    #[tactic(auto, unfolding(go_descent::specs::Rules::element_value))]
     fn element_value(&self, tokens: &mut Cursor<'_>) -> Result<ElementValue, ParseError>
         requires { ReadsBelow self.now.height (F.pre self.now.below) (F.post self.now.below) }
         ensures { Reads (rules.element_value (levels self.now.height) (terminals tokens.old)) result tokens.new }
@@ -30,7 +31,7 @@ impl<F: Fn(Global, &mut Cursor<'_>, usize, Part) -> Result<PartTree, ParseError>
     }
 
     /// A value, with or without a key.
-    #[tactic(auto, unfolding(crate::specs::Rules::element_of))]
+    #[tactic(auto, unfolding(go_descent::specs::Rules::element_of))]
     fn element(&self, tokens: &mut Cursor<'_>) -> Result<Element, ParseError>
         requires { ReadsBelow self.now.height (F.pre self.now.below) (F.post self.now.below) }
         ensures { Reads (rules.element_of (levels self.now.height) (terminals tokens.old)) result tokens.new }
@@ -71,7 +72,7 @@ impl<F: Fn(Global, &mut Cursor<'_>, usize, Part) -> Result<PartTree, ParseError>
     }
 
     /// Elements with commas between them.
-    #[tactic(auto, unfolding(crate::specs::Rules::elements))]
+    #[tactic(auto, unfolding(go_descent::specs::Rules::elements))]
     fn elements(&self, tokens: &mut Cursor<'_>) -> Result<HeldElements, ParseError>
         requires { ReadsBelow self.now.height (F.pre self.now.below) (F.post self.now.below) }
         ensures { Reads (rules.elements (levels self.now.height) (terminals tokens.old)) result tokens.new }
@@ -82,7 +83,7 @@ impl<F: Fn(Global, &mut Cursor<'_>, usize, Part) -> Result<PartTree, ParseError>
     }
 
     /// The elements of a composite literal, in their braces.
-    #[tactic(auto, unfolding(crate::specs::Rules::literal_value_of, go_cursor::specs::Reading::close, go_cursor::specs::Reading::expect))]
+    #[tactic(auto, unfolding(go_descent::specs::Rules::literal_value_of, go_cursor::specs::Reading::close, go_cursor::specs::Reading::expect))]
     pub fn literal_value(&self, tokens: &mut Cursor<'_>) -> Result<HeldElements, ParseError>
         requires { ReadsBelow self.now.height (F.pre self.now.below) (F.post self.now.below) }
         ensures { Reads (rules.literal_value_of (levels self.now.height) (terminals tokens.old)) result tokens.new }

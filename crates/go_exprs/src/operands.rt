@@ -4,11 +4,12 @@ ghost use Rattle.go_syntax.specs.declared.expression.Expr.TheVariants as expr;
 ghost use Rattle.go_syntax.specs.declared.token.TokenKind.TheVariants as kind;
 ghost use Rattle.go_syntax.specs.grammar.Symbols.{begins};
 ghost use Rattle.go_syntax.specs.grammar.Terminals.{terminals};
-ghost use Rattle.go_exprs.specs.Levels.{levels, ReadsBelow};
+ghost use Rattle.go_descent.specs.Levels.{levels};
+ghost use Rattle.go_exprs.specs.Parts.{ReadsBelow};
 ghost use Rattle.go_cursor.specs.Reading as reading;
 ghost use Rattle.go_cursor.specs.Reading.{bind, close};
 ghost use Rattle.go_cursor.specs.Reads.{Reads};
-ghost use Rattle.go_exprs.specs.Rules as rules;
+ghost use Rattle.go_descent.specs.Rules as rules;
 ghost use Rattle.go_cursor.specs.Names as name_rules;
 
 use crate::grammar::{Grammar, Part, PartTree};
@@ -33,7 +34,7 @@ impl<F: Fn(Global, &mut Cursor<'_>, usize, Part) -> Result<PartTree, ParseError>
     }
 
     /// A composite literal that begins with a type's name.
-    #[tactic(auto, unfolding(crate::specs::Rules::named_composite))]
+    #[tactic(auto, unfolding(go_descent::specs::Rules::named_composite))]
     fn named_composite(&self, tokens: &mut Cursor<'_>) -> Result<Expr, ParseError>
         requires { ReadsBelow self.now.height (F.pre self.now.below) (F.post self.now.below) }
         ensures { Reads (bind (name_rules.type_name (terminals tokens.old)) (rules.named_composite (levels self.now.height))) result tokens.new }
@@ -44,7 +45,7 @@ impl<F: Fn(Global, &mut Cursor<'_>, usize, Part) -> Result<PartTree, ParseError>
     }
 
     /// A name, or a composite literal that begins with one where that may stand here.
-    #[tactic(auto, unfolding(crate::specs::Rules::name_operand))]
+    #[tactic(auto, unfolding(go_descent::specs::Rules::name_operand))]
     fn name_operand(&self, composite: bool, tokens: &mut Cursor<'_>) -> Result<Expr, ParseError>
         requires { ReadsBelow self.now.height (F.pre self.now.below) (F.post self.now.below) }
         ensures { Reads (rules.name_operand composite (levels self.now.height) (terminals tokens.old)) result tokens.new }
@@ -56,7 +57,7 @@ impl<F: Fn(Global, &mut Cursor<'_>, usize, Part) -> Result<PartTree, ParseError>
     }
 
     /// A function literal or a function type, from behind `func` on.
-    #[tactic(auto, unfolding(crate::specs::Rules::func_operand))]
+    #[tactic(auto, unfolding(go_descent::specs::Rules::func_operand))]
     fn func_operand(&self, tokens: &mut Cursor<'_>) -> Result<Expr, ParseError>
         requires { ReadsBelow self.now.height (F.pre self.now.below) (F.post self.now.below) }
         ensures { Reads (rules.func_operand (levels self.now.height) (terminals tokens.old)) result tokens.new }
@@ -92,7 +93,7 @@ impl<F: Fn(Global, &mut Cursor<'_>, usize, Part) -> Result<PartTree, ParseError>
     }
 
     /// An operand that begins with a slice, an array, a map or a struct.
-    #[tactic(auto, unfolding(crate::specs::Rules::composite_operand))]
+    #[tactic(auto, unfolding(go_descent::specs::Rules::composite_operand))]
     fn composite_operand(&self, tokens: &mut Cursor<'_>) -> Result<Expr, ParseError>
         requires { ReadsBelow self.now.height (F.pre self.now.below) (F.post self.now.below) }
         ensures { Reads (rules.composite_operand (levels self.now.height) (terminals tokens.old)) result tokens.new }
@@ -105,7 +106,7 @@ impl<F: Fn(Global, &mut Cursor<'_>, usize, Part) -> Result<PartTree, ParseError>
     }
 
     /// `[...]T{..}`, from `...` on.
-    #[tactic(auto, unfolding(crate::specs::Rules::array_operand))]
+    #[tactic(auto, unfolding(go_descent::specs::Rules::array_operand))]
     fn array_operand(&self, tokens: &mut Cursor<'_>) -> Result<Expr, ParseError>
         requires { ReadsBelow self.now.height (F.pre self.now.below) (F.post self.now.below) }
         ensures { Reads (rules.array_operand (levels self.now.height) (terminals tokens.old)) result tokens.new }
@@ -140,7 +141,7 @@ impl<F: Fn(Global, &mut Cursor<'_>, usize, Part) -> Result<PartTree, ParseError>
     }
 
     /// An operand in parentheses, from behind `(` on.
-    #[tactic(auto, unfolding(crate::specs::Rules::paren_operand))]
+    #[tactic(auto, unfolding(go_descent::specs::Rules::paren_operand))]
     fn paren_operand(&self, tokens: &mut Cursor<'_>) -> Result<Expr, ParseError>
         requires { ReadsBelow self.now.height (F.pre self.now.below) (F.post self.now.below) }
         ensures { Reads (rules.paren_operand (levels self.now.height) (terminals tokens.old)) result tokens.new }
@@ -154,7 +155,7 @@ impl<F: Fn(Global, &mut Cursor<'_>, usize, Part) -> Result<PartTree, ParseError>
     }
 
     /// A channel type, from behind `chan` on.
-    #[tactic(auto, unfolding(crate::specs::Rules::other_operand))]
+    #[tactic(auto, unfolding(go_descent::specs::Rules::other_operand))]
     fn chan_operand(&self, tokens: &mut Cursor<'_>) -> Result<Expr, ParseError>
         requires { ReadsBelow self.now.height (F.pre self.now.below) (F.post self.now.below) }
         ensures { Reads (rules.other_operand (rules.chan_type (levels self.now.height)) (terminals tokens.old)) result tokens.new }
@@ -163,7 +164,7 @@ impl<F: Fn(Global, &mut Cursor<'_>, usize, Part) -> Result<PartTree, ParseError>
     }
 
     /// An interface type, from behind `interface` on.
-    #[tactic(auto, unfolding(crate::specs::Rules::other_operand))]
+    #[tactic(auto, unfolding(go_descent::specs::Rules::other_operand))]
     fn interface_operand(&self, tokens: &mut Cursor<'_>) -> Result<Expr, ParseError>
         requires { ReadsBelow self.now.height (F.pre self.now.below) (F.post self.now.below) }
         ensures { Reads (rules.other_operand (rules.interface_type (levels self.now.height)) (terminals tokens.old)) result tokens.new }
@@ -187,7 +188,7 @@ impl<F: Fn(Global, &mut Cursor<'_>, usize, Part) -> Result<PartTree, ParseError>
     }
 
     /// An operand that begins with a keyword or an operator.
-    #[tactic(auto, unfolding(crate::specs::Rules::sign_operand))]
+    #[tactic(auto, unfolding(go_descent::specs::Rules::sign_operand))]
     fn sign_operand(&self, tokens: &mut Cursor<'_>) -> Result<Expr, ParseError>
         requires { ReadsBelow self.now.height (F.pre self.now.below) (F.post self.now.below) }
         ensures { Reads (rules.sign_operand (levels self.now.height) (terminals tokens.old)) result tokens.new }
@@ -215,7 +216,7 @@ impl<F: Fn(Global, &mut Cursor<'_>, usize, Part) -> Result<PartTree, ParseError>
     }
 
     /// An operand.
-    #[tactic(auto, unfolding(crate::specs::Rules::operand))]
+    #[tactic(auto, unfolding(go_descent::specs::Rules::operand))]
     pub fn operand(&self, composite: bool, tokens: &mut Cursor<'_>) -> Result<Expr, ParseError>
         requires { ReadsBelow self.now.height (F.pre self.now.below) (F.post self.now.below) }
         ensures { Reads (rules.operand composite (levels self.now.height) (terminals tokens.old)) result tokens.new }

@@ -4,10 +4,11 @@ ghost use Rattle.go_syntax.specs.declared.expression.Expr.TheVariants as expr;
 ghost use Rattle.go_syntax.specs.declared.token.TokenKind.TheVariants as kind;
 ghost use Rattle.go_syntax.specs.grammar.Grammar as grammar;
 ghost use Rattle.go_syntax.specs.grammar.Terminals.{terminals};
-ghost use Rattle.go_exprs.specs.Levels.{levels, ReadsBelow};
+ghost use Rattle.go_descent.specs.Levels.{levels};
+ghost use Rattle.go_exprs.specs.Parts.{ReadsBelow};
 ghost use Rattle.go_cursor.specs.Reading.{bind, run, step_of};
 ghost use Rattle.go_cursor.specs.Reads.{Reads};
-ghost use Rattle.go_exprs.specs.Rules as rules;
+ghost use Rattle.go_descent.specs.Rules as rules;
 
 use crate::grammar::{Grammar, Part, PartTree};
 use go_base::list::List;
@@ -161,7 +162,7 @@ impl<F: Fn(Global, &mut Cursor<'_>, usize, Part) -> Result<PartTree, ParseError>
     }
 
     /// An operand with or without a prefix operator.
-    #[tactic(auto, unfolding(crate::specs::Rules::unary_expr))]
+    #[tactic(auto, unfolding(go_descent::specs::Rules::unary_expr))]
     pub fn unary_expr(&self, composite: bool, tokens: &mut Cursor<'_>) -> Result<Expr, ParseError>
         requires { ReadsBelow self.now.height (F.pre self.now.below) (F.post self.now.below) }
         ensures { Reads (rules.unary_expr composite (levels self.now.height) (terminals tokens.old)) result tokens.new }
@@ -203,7 +204,7 @@ impl<F: Fn(Global, &mut Cursor<'_>, usize, Part) -> Result<PartTree, ParseError>
     }
 
     /// Factors.
-    #[tactic(auto, unfolding(crate::specs::Rules::product_expr, crate::specs::Rules::chain_of))]
+    #[tactic(auto, unfolding(go_descent::specs::Rules::product_expr, go_descent::specs::Rules::chain_of))]
     fn product_expr(&self, composite: bool, tokens: &mut Cursor<'_>) -> Result<Expr, ParseError>
         requires { ReadsBelow self.now.height (F.pre self.now.below) (F.post self.now.below) }
         ensures { Reads (rules.product_expr composite (levels self.now.height) (terminals tokens.old)) result tokens.new }
@@ -238,7 +239,7 @@ impl<F: Fn(Global, &mut Cursor<'_>, usize, Part) -> Result<PartTree, ParseError>
     }
 
     /// Terms.
-    #[tactic(auto, unfolding(crate::specs::Rules::sum_expr, crate::specs::Rules::chain_of))]
+    #[tactic(auto, unfolding(go_descent::specs::Rules::sum_expr, go_descent::specs::Rules::chain_of))]
     fn sum_expr(&self, composite: bool, tokens: &mut Cursor<'_>) -> Result<Expr, ParseError>
         requires { ReadsBelow self.now.height (F.pre self.now.below) (F.post self.now.below) }
         ensures { Reads (rules.sum_expr composite (levels self.now.height) (terminals tokens.old)) result tokens.new }
@@ -273,7 +274,7 @@ impl<F: Fn(Global, &mut Cursor<'_>, usize, Part) -> Result<PartTree, ParseError>
     }
 
     /// Operands of comparisons.
-    #[tactic(auto, unfolding(crate::specs::Rules::compare_expr, crate::specs::Rules::chain_of))]
+    #[tactic(auto, unfolding(go_descent::specs::Rules::compare_expr, go_descent::specs::Rules::chain_of))]
     fn compare_expr(&self, composite: bool, tokens: &mut Cursor<'_>) -> Result<Expr, ParseError>
         requires { ReadsBelow self.now.height (F.pre self.now.below) (F.post self.now.below) }
         ensures { Reads (rules.compare_expr composite (levels self.now.height) (terminals tokens.old)) result tokens.new }
@@ -300,7 +301,7 @@ impl<F: Fn(Global, &mut Cursor<'_>, usize, Part) -> Result<PartTree, ParseError>
     }
 
     /// Operands of `&&`.
-    #[tactic(auto, unfolding(crate::specs::Rules::and_expr, crate::specs::Rules::plain_chain))]
+    #[tactic(auto, unfolding(go_descent::specs::Rules::and_expr, go_descent::specs::Rules::plain_chain))]
     fn and_expr(&self, composite: bool, tokens: &mut Cursor<'_>) -> Result<Expr, ParseError>
         requires { ReadsBelow self.now.height (F.pre self.now.below) (F.post self.now.below) }
         ensures { Reads (rules.and_expr composite (levels self.now.height) (terminals tokens.old)) result tokens.new }
@@ -327,7 +328,7 @@ impl<F: Fn(Global, &mut Cursor<'_>, usize, Part) -> Result<PartTree, ParseError>
     }
 
     /// An expression.
-    #[tactic(auto, unfolding(crate::specs::Rules::expr_of, crate::specs::Rules::plain_chain))]
+    #[tactic(auto, unfolding(go_descent::specs::Rules::expr_of, go_descent::specs::Rules::plain_chain))]
     pub fn expr(&self, composite: bool, tokens: &mut Cursor<'_>) -> Result<Expr, ParseError>
         requires { ReadsBelow self.now.height (F.pre self.now.below) (F.post self.now.below) }
         ensures { Reads (rules.expr_of composite (levels self.now.height) (terminals tokens.old)) result tokens.new }

@@ -6,11 +6,12 @@ ghost use Rattle.go_syntax.specs.declared.token.TokenKind.TheVariants as kind;
 ghost use Rattle.go_syntax.specs.grammar.Grammar as grammar;
 ghost use Rattle.go_syntax.specs.grammar.Symbols.{begins};
 ghost use Rattle.go_syntax.specs.grammar.Terminals.{terminals};
-ghost use Rattle.go_exprs.specs.Levels.{levels, ReadsBelow};
+ghost use Rattle.go_descent.specs.Levels.{levels};
+ghost use Rattle.go_exprs.specs.Parts.{ReadsBelow};
 ghost use Rattle.go_cursor.specs.Reading as reading;
 ghost use Rattle.go_cursor.specs.Reading.{bind, close, run, step_of};
 ghost use Rattle.go_cursor.specs.Reads.{Reads, ReadsNext};
-ghost use Rattle.go_exprs.specs.Rules as rules;
+ghost use Rattle.go_descent.specs.Rules as rules;
 
 use crate::grammar::{Grammar, Part, PartTree};
 use go_base::list::List;
@@ -60,7 +61,7 @@ fn index_of(tokens: &mut Cursor<'_>, index: Option<HeldExpr>) -> Result<Post, Pa
 
 impl<F: Fn(Global, &mut Cursor<'_>, usize, Part) -> Result<PartTree, ParseError>> Grammar<F> {
     /// More expressions, each after a comma.
-    #[tactic(auto, unfolding(crate::specs::Rules::more_exprs))]
+    #[tactic(auto, unfolding(go_descent::specs::Rules::more_exprs))]
     fn more_exprs(&self, tokens: &mut Cursor<'_>, first: HeldExprs) -> Result<HeldExprs, ParseError>
         requires { ReadsBelow self.now.height (F.pre self.now.below) (F.post self.now.below) }
         ensures { Reads (rules.more_exprs (levels self.now.height).expr first (terminals tokens.old)) result tokens.new }
@@ -77,7 +78,7 @@ impl<F: Fn(Global, &mut Cursor<'_>, usize, Part) -> Result<PartTree, ParseError>
     }
 
     /// Expressions with commas between them.
-    #[tactic(auto, unfolding(crate::specs::Rules::exprs))]
+    #[tactic(auto, unfolding(go_descent::specs::Rules::exprs))]
     pub fn exprs(&self, tokens: &mut Cursor<'_>) -> Result<HeldExprs, ParseError>
         requires { ReadsBelow self.now.height (F.pre self.now.below) (F.post self.now.below) }
         ensures { Reads (rules.exprs (levels self.now.height).expr (terminals tokens.old)) result tokens.new }
@@ -88,7 +89,7 @@ impl<F: Fn(Global, &mut Cursor<'_>, usize, Part) -> Result<PartTree, ParseError>
     }
 
     /// What stands behind the arguments of a call.
-    #[tactic(auto, unfolding(crate::specs::Rules::call_end, go_cursor::specs::Reading::close, go_cursor::specs::Reading::expect))]
+    #[tactic(auto, unfolding(go_descent::specs::Rules::call_end, go_cursor::specs::Reading::close, go_cursor::specs::Reading::expect))]
     fn call_end(&self, tokens: &mut Cursor<'_>) -> Result<bool, ParseError>
         ensures { Reads (close kind.RightParen (begins kind.Ellipsis (terminals tokens.old)) (reading.past kind.Comma (reading.past kind.Ellipsis (terminals tokens.old)))) result tokens.new }
     {
@@ -100,7 +101,7 @@ impl<F: Fn(Global, &mut Cursor<'_>, usize, Part) -> Result<PartTree, ParseError>
     }
 
     /// A call with one argument or more, from behind `(` on.
-    #[tactic(auto, unfolding(crate::specs::Rules::call_end, go_cursor::specs::Reading::close))]
+    #[tactic(auto, unfolding(go_descent::specs::Rules::call_end, go_cursor::specs::Reading::close))]
     fn plain_call(&self, tokens: &mut Cursor<'_>) -> Result<Post, ParseError>
         requires { ReadsBelow self.now.height (F.pre self.now.below) (F.post self.now.below) }
         ensures { Reads (bind (rules.exprs (levels self.now.height).expr (terminals tokens.old)) (λ xs u. rules.call_end (post.Call xs (begins kind.Ellipsis u)) u)) result tokens.new }
@@ -111,7 +112,7 @@ impl<F: Fn(Global, &mut Cursor<'_>, usize, Part) -> Result<PartTree, ParseError>
     }
 
     /// A call whose first argument is `<-chan T`, from behind `chan` on.
-    #[tactic(auto, unfolding(crate::specs::Rules::call_end, go_cursor::specs::Reading::close))]
+    #[tactic(auto, unfolding(go_descent::specs::Rules::call_end, go_cursor::specs::Reading::close))]
     fn receive_call(&self, tokens: &mut Cursor<'_>) -> Result<Post, ParseError>
         requires { ReadsBelow self.now.height (F.pre self.now.below) (F.post self.now.below) }
         ensures { Reads (bind ((levels self.now.height).typ (terminals tokens.old)) (λ t u. bind (rules.more_exprs (levels self.now.height).expr [] u) (λ xs v. rules.call_end (post.CallReceiveChan t xs (begins kind.Ellipsis v)) v))) result tokens.new }
@@ -123,7 +124,7 @@ impl<F: Fn(Global, &mut Cursor<'_>, usize, Part) -> Result<PartTree, ParseError>
     }
 
     /// A call, from behind `(` on.
-    #[tactic(auto, unfolding(crate::specs::Rules::call))]
+    #[tactic(auto, unfolding(go_descent::specs::Rules::call))]
     fn call(&self, tokens: &mut Cursor<'_>) -> Result<Post, ParseError>
         requires { ReadsBelow self.now.height (F.pre self.now.below) (F.post self.now.below) }
         ensures { Reads (rules.call (levels self.now.height) (terminals tokens.old)) result tokens.new }
@@ -140,7 +141,7 @@ impl<F: Fn(Global, &mut Cursor<'_>, usize, Part) -> Result<PartTree, ParseError>
     }
 
     /// An index or a bound, which may be missing before `:` and `]`.
-    #[tactic(auto, unfolding(crate::specs::Rules::bound))]
+    #[tactic(auto, unfolding(go_descent::specs::Rules::bound))]
     fn bound(&self, tokens: &mut Cursor<'_>) -> Result<Option<HeldExpr>, ParseError>
         requires { ReadsBelow self.now.height (F.pre self.now.below) (F.post self.now.below) }
         ensures { Reads (rules.bound (levels self.now.height) (terminals tokens.old)) result tokens.new }
@@ -173,7 +174,7 @@ impl<F: Fn(Global, &mut Cursor<'_>, usize, Part) -> Result<PartTree, ParseError>
     }
 
     /// A slice, from behind its second bound on.
-    #[tactic(auto, unfolding(crate::specs::Rules::slice_end, go_cursor::specs::Reading::close, go_cursor::specs::Reading::expect))]
+    #[tactic(auto, unfolding(go_descent::specs::Rules::slice_end, go_cursor::specs::Reading::close, go_cursor::specs::Reading::expect))]
     fn slice_end(
         &self,
         tokens: &mut Cursor<'_>,
@@ -192,7 +193,7 @@ impl<F: Fn(Global, &mut Cursor<'_>, usize, Part) -> Result<PartTree, ParseError>
     }
 
     /// An index or a slice, from behind `[` on.
-    #[tactic(auto, unfolding(crate::specs::Rules::index))]
+    #[tactic(auto, unfolding(go_descent::specs::Rules::index))]
     fn index(&self, tokens: &mut Cursor<'_>) -> Result<Post, ParseError>
         requires { ReadsBelow self.now.height (F.pre self.now.below) (F.post self.now.below) }
         ensures { Reads (rules.index (levels self.now.height) (terminals tokens.old)) result tokens.new }
@@ -207,7 +208,7 @@ impl<F: Fn(Global, &mut Cursor<'_>, usize, Part) -> Result<PartTree, ParseError>
     }
 
     /// A selector or a type assertion, from behind `.` on.
-    #[tactic(auto, unfolding(crate::specs::Rules::selector, go_cursor::specs::Reading::close, go_cursor::specs::Reading::expect))]
+    #[tactic(auto, unfolding(go_descent::specs::Rules::selector, go_cursor::specs::Reading::close, go_cursor::specs::Reading::expect))]
     fn selector(&self, tokens: &mut Cursor<'_>) -> Result<Post, ParseError>
         requires { ReadsBelow self.now.height (F.pre self.now.below) (F.post self.now.below) }
         ensures { Reads (rules.selector (levels self.now.height) (terminals tokens.old)) result tokens.new }
@@ -225,7 +226,7 @@ impl<F: Fn(Global, &mut Cursor<'_>, usize, Part) -> Result<PartTree, ParseError>
     }
 
     /// What follows here, if anything does.
-    #[tactic(auto, unfolding(crate::specs::Rules::post_item))]
+    #[tactic(auto, unfolding(go_descent::specs::Rules::post_item))]
     fn post_item(&self, tokens: &mut Cursor<'_>) -> Result<Option<Post>, ParseError>
         requires { ReadsBelow self.now.height (F.pre self.now.below) (F.post self.now.below) }
         ensures { ReadsNext (rules.post_item (levels self.now.height) (terminals tokens.old)) (terminals tokens.old) result tokens.new }
@@ -267,7 +268,7 @@ impl<F: Fn(Global, &mut Cursor<'_>, usize, Part) -> Result<PartTree, ParseError>
     }
 
     /// An operand and what follows it.
-    #[tactic(auto, unfolding(crate::specs::Rules::primary_expr))]
+    #[tactic(auto, unfolding(go_descent::specs::Rules::primary_expr))]
     pub fn primary_expr(&self, composite: bool, tokens: &mut Cursor<'_>) -> Result<Expr, ParseError>
         requires { ReadsBelow self.now.height (F.pre self.now.below) (F.post self.now.below) }
         ensures { Reads (rules.primary_expr composite (levels self.now.height) (terminals tokens.old)) result tokens.new }

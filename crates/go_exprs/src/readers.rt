@@ -2,8 +2,8 @@
 ghost use Rattle.std.specs.Prelude.{◌≡◌};
 ghost use Rattle.go_syntax.specs.grammar.Terminals.{terminals};
 ghost use Rattle.go_cursor.specs.Reads.{Reads};
-ghost use Rattle.go_exprs.specs.Levels.{levels};
-ghost use Rattle.go_exprs.specs.Rules as rules;
+ghost use Rattle.go_descent.specs.Levels.{levels};
+ghost use Rattle.go_descent.specs.Rules as rules;
 
 use crate::grammar::Grammar;
 use crate::levels::below;
@@ -146,7 +146,7 @@ impl Readers {
     }
 
     /// More expressions whose parts are of lower heights, each after a comma.
-    #[tactic(auto, unfolding(crate::specs::Rules::more_exprs))]
+    #[tactic(auto, unfolding(go_descent::specs::Rules::more_exprs))]
     fn more_exprs_of(
         &self,
         composite: bool,
@@ -167,7 +167,7 @@ impl Readers {
     }
 
     /// Expressions whose parts are of lower heights, with commas between them.
-    #[tactic(auto, unfolding(crate::specs::Rules::exprs))]
+    #[tactic(auto, unfolding(go_descent::specs::Rules::exprs))]
     pub fn exprs_of(
         &self,
         composite: bool,

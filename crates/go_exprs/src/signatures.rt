@@ -3,10 +3,11 @@ ghost use Rattle.std.specs.Prelude.{◌≡◌, ◌∷◌, [], List};
 ghost use Rattle.go_syntax.specs.declared.types.ParameterDecl.{ParameterDecl};
 ghost use Rattle.go_syntax.specs.grammar.Grammar as grammar;
 ghost use Rattle.go_syntax.specs.grammar.Terminals.{terminals};
-ghost use Rattle.go_exprs.specs.Levels.{levels, ReadsBelow};
+ghost use Rattle.go_descent.specs.Levels.{levels};
+ghost use Rattle.go_exprs.specs.Parts.{ReadsBelow};
 ghost use Rattle.go_cursor.specs.Reading.{run, step_of};
 ghost use Rattle.go_cursor.specs.Reads.{Reads};
-ghost use Rattle.go_exprs.specs.Rules as rules;
+ghost use Rattle.go_descent.specs.Rules as rules;
 
 use crate::grammar::{Grammar, Part, PartTree};
 use go_base::list::List;
@@ -47,7 +48,7 @@ fn last_variadic(parameters: &[ParameterDecl]) -> bool
 
 impl<F: Fn(Global, &mut Cursor<'_>, usize, Part) -> Result<PartTree, ParseError>> Grammar<F> {
     /// The type of these parameters.
-    #[tactic(auto, unfolding(crate::specs::Rules::parameter_of))]
+    #[tactic(auto, unfolding(go_descent::specs::Rules::parameter_of))]
     fn parameter_of(
         &self,
         tokens: &mut Cursor<'_>,
@@ -97,7 +98,7 @@ impl<F: Fn(Global, &mut Cursor<'_>, usize, Part) -> Result<PartTree, ParseError>
     }
 
     /// Parameters without names.
-    #[tactic(auto, unfolding(crate::specs::Rules::unnamed))]
+    #[tactic(auto, unfolding(go_descent::specs::Rules::unnamed))]
     fn unnamed(&self, tokens: &mut Cursor<'_>) -> Result<HeldParameters, ParseError>
         requires { ReadsBelow self.now.height (F.pre self.now.below) (F.post self.now.below) }
         ensures { Reads (rules.unnamed (levels self.now.height).typ (terminals tokens.old)) result tokens.new }
@@ -108,7 +109,7 @@ impl<F: Fn(Global, &mut Cursor<'_>, usize, Part) -> Result<PartTree, ParseError>
     }
 
     /// Names and their type.
-    #[tactic(auto, unfolding(crate::specs::Rules::named_parameter))]
+    #[tactic(auto, unfolding(go_descent::specs::Rules::named_parameter))]
     fn named_parameter(&self, tokens: &mut Cursor<'_>) -> Result<ParameterDecl, ParseError>
         requires { ReadsBelow self.now.height (F.pre self.now.below) (F.post self.now.below) }
         ensures { Reads (rules.named_parameter (levels self.now.height).typ (terminals tokens.old)) result tokens.new }
@@ -138,7 +139,7 @@ impl<F: Fn(Global, &mut Cursor<'_>, usize, Part) -> Result<PartTree, ParseError>
     }
 
     /// Parameters with names.
-    #[tactic(auto, unfolding(crate::specs::Rules::named))]
+    #[tactic(auto, unfolding(go_descent::specs::Rules::named))]
     fn named(&self, tokens: &mut Cursor<'_>) -> Result<HeldParameters, ParseError>
         requires { ReadsBelow self.now.height (F.pre self.now.below) (F.post self.now.below) }
         ensures { Reads (rules.named (levels self.now.height).typ (terminals tokens.old)) result tokens.new }
@@ -149,7 +150,7 @@ impl<F: Fn(Global, &mut Cursor<'_>, usize, Part) -> Result<PartTree, ParseError>
     }
 
     /// One parameter and more, and the closing bracket.
-    #[tactic(auto, unfolding(crate::specs::Rules::some_parameters, go_cursor::specs::Reading::close, go_cursor::specs::Reading::expect))]
+    #[tactic(auto, unfolding(go_descent::specs::Rules::some_parameters, go_cursor::specs::Reading::close, go_cursor::specs::Reading::expect))]
     fn some_parameters(&self, tokens: &mut Cursor<'_>) -> Result<HeldParameters, ParseError>
         requires { ReadsBelow self.now.height (F.pre self.now.below) (F.post self.now.below) }
         ensures { Reads (rules.some_parameters (levels self.now.height).typ (terminals tokens.old)) result tokens.new }
@@ -165,7 +166,7 @@ impl<F: Fn(Global, &mut Cursor<'_>, usize, Part) -> Result<PartTree, ParseError>
     }
 
     /// Parameters in their brackets.
-    #[tactic(auto, unfolding(crate::specs::Rules::parameters, go_cursor::specs::Reading::expect))]
+    #[tactic(auto, unfolding(go_descent::specs::Rules::parameters, go_cursor::specs::Reading::expect))]
     pub fn parameters(&self, tokens: &mut Cursor<'_>) -> Result<HeldParameters, ParseError>
         requires { ReadsBelow self.now.height (F.pre self.now.below) (F.post self.now.below) }
         ensures { Reads (rules.parameters (levels self.now.height).typ (terminals tokens.old)) result tokens.new }
@@ -179,7 +180,7 @@ impl<F: Fn(Global, &mut Cursor<'_>, usize, Part) -> Result<PartTree, ParseError>
     }
 
     /// Results in brackets, after these parameters.
-    #[tactic(auto, unfolding(crate::specs::Rules::result_parameters))]
+    #[tactic(auto, unfolding(go_descent::specs::Rules::result_parameters))]
     fn result_parameters(
         &self,
         tokens: &mut Cursor<'_>,
@@ -199,7 +200,7 @@ impl<F: Fn(Global, &mut Cursor<'_>, usize, Part) -> Result<PartTree, ParseError>
     }
 
     /// The result after these parameters, which may be missing.
-    #[tactic(auto, unfolding(crate::specs::Rules::signature_end))]
+    #[tactic(auto, unfolding(go_descent::specs::Rules::signature_end))]
     fn signature_end(
         &self,
         tokens: &mut Cursor<'_>,
@@ -225,7 +226,7 @@ impl<F: Fn(Global, &mut Cursor<'_>, usize, Part) -> Result<PartTree, ParseError>
     }
 
     /// Parameters and a result.
-    #[tactic(auto, unfolding(crate::specs::Rules::signature_of))]
+    #[tactic(auto, unfolding(go_descent::specs::Rules::signature_of))]
     pub fn signature(&self, tokens: &mut Cursor<'_>) -> Result<Signature, ParseError>
         requires { ReadsBelow self.now.height (F.pre self.now.below) (F.post self.now.below) }
         ensures { Reads (rules.signature_of (levels self.now.height) (terminals tokens.old)) result tokens.new }

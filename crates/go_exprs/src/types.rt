@@ -3,10 +3,11 @@ ghost use Rattle.std.specs.Prelude.{◌≡◌, [], Some, List};
 ghost use Rattle.go_syntax.specs.declared.types.«Type».TheVariants as type;
 ghost use Rattle.go_syntax.specs.declared.token.TokenKind.TheVariants as kind;
 ghost use Rattle.go_syntax.specs.grammar.Terminals.{terminals};
-ghost use Rattle.go_exprs.specs.Levels.{levels, ReadsBelow};
+ghost use Rattle.go_descent.specs.Levels.{levels};
+ghost use Rattle.go_exprs.specs.Parts.{ReadsBelow};
 ghost use Rattle.go_cursor.specs.Reading.{bind, close};
 ghost use Rattle.go_cursor.specs.Reads.{Reads};
-ghost use Rattle.go_exprs.specs.Rules as rules;
+ghost use Rattle.go_descent.specs.Rules as rules;
 ghost use Rattle.go_cursor.specs.Names as name_rules;
 
 use crate::grammar::{Grammar, Part, PartTree};
@@ -25,7 +26,7 @@ use std::alloc::Global;
 
 impl<F: Fn(Global, &mut Cursor<'_>, usize, Part) -> Result<PartTree, ParseError>> Grammar<F> {
     /// A slice or an array, from behind `[` on.
-    #[tactic(auto, unfolding(crate::specs::Rules::slice_or_array))]
+    #[tactic(auto, unfolding(go_descent::specs::Rules::slice_or_array))]
     fn slice_or_array(&self, tokens: &mut Cursor<'_>) -> Result<Type, ParseError>
         requires { ReadsBelow self.now.height (F.pre self.now.below) (F.post self.now.below) }
         ensures { Reads (rules.slice_or_array (levels self.now.height) (terminals tokens.old)) result tokens.new }
@@ -42,7 +43,7 @@ impl<F: Fn(Global, &mut Cursor<'_>, usize, Part) -> Result<PartTree, ParseError>
     }
 
     /// A map, from behind `map` on.
-    #[tactic(auto, unfolding(crate::specs::Rules::map_type))]
+    #[tactic(auto, unfolding(go_descent::specs::Rules::map_type))]
     fn map_of(&self, tokens: &mut Cursor<'_>) -> Result<Type, ParseError>
         requires { ReadsBelow self.now.height (F.pre self.now.below) (F.post self.now.below) }
         ensures { Reads (rules.map_type (levels self.now.height) (terminals tokens.old)) result tokens.new }
@@ -55,7 +56,7 @@ impl<F: Fn(Global, &mut Cursor<'_>, usize, Part) -> Result<PartTree, ParseError>
     }
 
     /// An embedded field, from behind its `*` on.
-    #[tactic(auto, unfolding(crate::specs::Rules::embedded_field))]
+    #[tactic(auto, unfolding(go_descent::specs::Rules::embedded_field))]
     fn embedded_field(
         &self,
         tokens: &mut Cursor<'_>,
@@ -69,7 +70,7 @@ impl<F: Fn(Global, &mut Cursor<'_>, usize, Part) -> Result<PartTree, ParseError>
     }
 
     /// Fields of one type.
-    #[tactic(auto, unfolding(crate::specs::Rules::named_field))]
+    #[tactic(auto, unfolding(go_descent::specs::Rules::named_field))]
     fn named_field(&self, tokens: &mut Cursor<'_>) -> Result<FieldDecl, ParseError>
         requires { ReadsBelow self.now.height (F.pre self.now.below) (F.post self.now.below) }
         ensures { Reads (rules.named_field (levels self.now.height) (terminals tokens.old)) result tokens.new }
@@ -81,7 +82,7 @@ impl<F: Fn(Global, &mut Cursor<'_>, usize, Part) -> Result<PartTree, ParseError>
     }
 
     /// A field declaration.
-    #[tactic(auto, unfolding(crate::specs::Rules::field_of))]
+    #[tactic(auto, unfolding(go_descent::specs::Rules::field_of))]
     fn field(&self, tokens: &mut Cursor<'_>) -> Result<FieldDecl, ParseError>
         requires { ReadsBelow self.now.height (F.pre self.now.below) (F.post self.now.below) }
         ensures { Reads (rules.field_of (levels self.now.height) (terminals tokens.old)) result tokens.new }
@@ -114,7 +115,7 @@ impl<F: Fn(Global, &mut Cursor<'_>, usize, Part) -> Result<PartTree, ParseError>
     }
 
     /// A struct, from behind `struct` on.
-    #[tactic(auto, unfolding(crate::specs::Rules::struct_type, go_cursor::specs::Reading::close, go_cursor::specs::Reading::expect))]
+    #[tactic(auto, unfolding(go_descent::specs::Rules::struct_type, go_cursor::specs::Reading::close, go_cursor::specs::Reading::expect))]
     fn struct_of(&self, tokens: &mut Cursor<'_>) -> Result<Type, ParseError>
         requires { ReadsBelow self.now.height (F.pre self.now.below) (F.post self.now.below) }
         ensures { Reads (rules.struct_type (levels self.now.height) (terminals tokens.old)) result tokens.new }
@@ -133,7 +134,7 @@ impl<F: Fn(Global, &mut Cursor<'_>, usize, Part) -> Result<PartTree, ParseError>
     }
 
     /// A slice, an array, a map or a struct.
-    #[tactic(auto, unfolding(crate::specs::Rules::composite_type))]
+    #[tactic(auto, unfolding(go_descent::specs::Rules::composite_type))]
     pub fn composite_type(&self, tokens: &mut Cursor<'_>) -> Result<Type, ParseError>
         requires { ReadsBelow self.now.height (F.pre self.now.below) (F.post self.now.below) }
         ensures { Reads (rules.composite_type (levels self.now.height) (terminals tokens.old)) result tokens.new }
@@ -154,7 +155,7 @@ impl<F: Fn(Global, &mut Cursor<'_>, usize, Part) -> Result<PartTree, ParseError>
     }
 
     /// A channel, from behind `chan` on.
-    #[tactic(auto, unfolding(crate::specs::Rules::chan_type))]
+    #[tactic(auto, unfolding(go_descent::specs::Rules::chan_type))]
     pub fn chan_type(&self, tokens: &mut Cursor<'_>) -> Result<Type, ParseError>
         requires { ReadsBelow self.now.height (F.pre self.now.below) (F.post self.now.below) }
         ensures { Reads (rules.chan_type (levels self.now.height) (terminals tokens.old)) result tokens.new }
@@ -169,7 +170,7 @@ impl<F: Fn(Global, &mut Cursor<'_>, usize, Part) -> Result<PartTree, ParseError>
     }
 
     /// A method or an embedded interface.
-    #[tactic(auto, unfolding(crate::specs::Rules::interface_elem, crate::specs::Rules::method_of))]
+    #[tactic(auto, unfolding(go_descent::specs::Rules::interface_elem, go_descent::specs::Rules::method_of))]
     fn interface_elem(&self, tokens: &mut Cursor<'_>) -> Result<InterfaceElem, ParseError>
         requires { ReadsBelow self.now.height (F.pre self.now.below) (F.post self.now.below) }
         ensures { Reads (rules.interface_elem (levels self.now.height) (terminals tokens.old)) result tokens.new }
@@ -199,7 +200,7 @@ impl<F: Fn(Global, &mut Cursor<'_>, usize, Part) -> Result<PartTree, ParseError>
     }
 
     /// An interface, from behind `interface` on.
-    #[tactic(auto, unfolding(crate::specs::Rules::interface_type, go_cursor::specs::Reading::close, go_cursor::specs::Reading::expect))]
+    #[tactic(auto, unfolding(go_descent::specs::Rules::interface_type, go_cursor::specs::Reading::close, go_cursor::specs::Reading::expect))]
     pub fn interface_type(&self, tokens: &mut Cursor<'_>) -> Result<Type, ParseError>
         requires { ReadsBelow self.now.height (F.pre self.now.below) (F.post self.now.below) }
         ensures { Reads (rules.interface_type (levels self.now.height) (terminals tokens.old)) result tokens.new }
@@ -238,7 +239,7 @@ impl<F: Fn(Global, &mut Cursor<'_>, usize, Part) -> Result<PartTree, ParseError>
     }
 
     /// A channel that is received from, from `chan` on.
-    #[tactic(auto, unfolding(crate::specs::Rules::receive_type))]
+    #[tactic(auto, unfolding(go_descent::specs::Rules::receive_type))]
     fn receive_chan(&self, tokens: &mut Cursor<'_>) -> Result<Type, ParseError>
         requires { ReadsBelow self.now.height (F.pre self.now.below) (F.post self.now.below) }
         ensures { Reads (bind (rules.receive_type (levels self.now.height) (terminals tokens.old)) (λ t u. Some (type.ReceiveChan t, u))) result tokens.new }
@@ -265,7 +266,7 @@ impl<F: Fn(Global, &mut Cursor<'_>, usize, Part) -> Result<PartTree, ParseError>
     }
 
     /// A type.
-    #[tactic(auto, unfolding(crate::specs::Rules::typ_of))]
+    #[tactic(auto, unfolding(go_descent::specs::Rules::typ_of))]
     pub fn type_(&self, tokens: &mut Cursor<'_>) -> Result<Type, ParseError>
         requires { ReadsBelow self.now.height (F.pre self.now.below) (F.post self.now.below) }
         ensures { Reads (rules.typ_of (levels self.now.height) (terminals tokens.old)) result tokens.new }

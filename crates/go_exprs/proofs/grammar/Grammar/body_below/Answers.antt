@@ -1,6 +1,6 @@
 use Rattle.std.proofs.Common.{◌∙◌, sym}
 use Rattle.go_syntax.specs.grammar.Terminals.{terminals}
-use Rattle.go_exprs.proofs.Heights.{no_body}
+use Rattle.go_descent.proofs.Heights.{no_body}
 use Rattle.go_exprs.proofs.PartsBelow.{body_above}
 use Rattle.go_exprs.proofs.grammar.Grammar.body_below.Goals as goal
 

@@ -1,5 +1,5 @@
 use Rattle.std.proofs.Common.{◌≡◌, suc, ◌-◌, arith}
-use Rattle.go_exprs.proofs.Heights.{bottom_deep, higher_deep}
+use Rattle.go_descent.proofs.Heights.{bottom_deep, higher_deep}
 use Rattle.go_exprs.proofs.grammar.Grammar.is_deep.Goals as goal
 
 pub returns-then-self-eq0 : goal.returns-then-self-eq0

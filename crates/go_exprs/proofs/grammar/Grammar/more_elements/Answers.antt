@@ -1,9 +1,9 @@
 use Rattle.std.proofs.Common.{ℕ, ◌-◌, ◌+◌, ◌∙◌, List, ap, sym}
 use Rattle.go_syntax.specs.declared.expression.Element.{Element}
 use Rattle.go_syntax.specs.grammar.Terminals.{Terminal, terminals}
-use Rattle.go_exprs.specs.Levels.{levels}
+use Rattle.go_descent.specs.Levels.{levels}
 use Rattle.go_cursor.specs.Reading.{Reader, goes_on, run, loop, step_of}
-use Rattle.go_exprs.specs.Rules.{element_of}
+use Rattle.go_descent.specs.Rules.{element_of}
 use Rattle.go_cursor.proofs.Handed.{handed}
 use Rattle.go_cursor.proofs.Items.{item, item_stops, item_fails, item_goes_on, starts}
 use Rattle.go_cursor.proofs.Turns.{one_more, no_more}

@@ -3,9 +3,9 @@ use Rattle.go_syntax.specs.declared.expression.Expr.{Expr}
 use Rattle.go_syntax.specs.declared.token.TokenKind.TheVariants as kind
 use Rattle.go_syntax.specs.grammar.Symbols.{begins}
 use Rattle.go_syntax.specs.grammar.Terminals.{Terminal, terminals}
-use Rattle.go_exprs.specs.Levels.{levels}
+use Rattle.go_descent.specs.Levels.{levels}
 use Rattle.go_cursor.specs.Reading.{Reader, run, step_of}
-use Rattle.go_exprs.specs.Rules.{and_expr}
+use Rattle.go_descent.specs.Rules.{and_expr}
 use Rattle.go_exprs.proofs.Chains.{handed, began, ran_out, behind, none_behind, bad_behind, one_behind}
 use Rattle.go_exprs.proofs.grammar.Grammar.ors.Goals as goal
 

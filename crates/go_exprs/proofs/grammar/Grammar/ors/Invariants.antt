@@ -1,9 +1,9 @@
 use Rattle.std.proofs.Common.{◌≡◌, ◌-◌, []}
 use Rattle.go_syntax.specs.declared.token.TokenKind.TheVariants as kind
 use Rattle.go_syntax.specs.grammar.Terminals.{terminals}
-use Rattle.go_exprs.specs.Levels.{levels}
+use Rattle.go_descent.specs.Levels.{levels}
 use Rattle.go_cursor.specs.Reading.{run, loop, step_of}
-use Rattle.go_exprs.specs.Rules.{after_sign, and_expr}
+use Rattle.go_descent.specs.Rules.{after_sign, and_expr}
 use Rattle.go_exprs.proofs.grammar.Grammar.ors.Given as goal
 
 abbrev pub invariant-loop-turn : goal.invariant-loop-turn

@@ -1,9 +1,9 @@
 use Rattle.std.proofs.Common.{List, []}
 use Rattle.go_syntax.specs.declared.expression.Post.{Post}
 use Rattle.go_syntax.specs.grammar.Terminals.{Terminal, terminals}
-use Rattle.go_exprs.specs.Levels.{levels}
+use Rattle.go_descent.specs.Levels.{levels}
 use Rattle.go_cursor.specs.Reading.{Next, run, step_of}
-use Rattle.go_exprs.specs.Rules.{post_item}
+use Rattle.go_descent.specs.Rules.{post_item}
 use Rattle.go_exprs.proofs.Chains.{handed_next, began, ran_out, found_none, found_one, no_item, bad_item, one_item}
 use Rattle.go_exprs.proofs.grammar.Grammar.posts.Goals as goal
 

@@ -1,8 +1,8 @@
 use Rattle.std.proofs.Common.{◌≡◌, ◌-◌, []}
 use Rattle.go_syntax.specs.grammar.Terminals.{terminals}
-use Rattle.go_exprs.specs.Levels.{levels}
+use Rattle.go_descent.specs.Levels.{levels}
 use Rattle.go_cursor.specs.Reading.{run, loop, step_of}
-use Rattle.go_exprs.specs.Rules.{post_item}
+use Rattle.go_descent.specs.Rules.{post_item}
 use Rattle.go_exprs.proofs.grammar.Grammar.posts.Given as goal
 
 abbrev pub invariant-loop-turn : goal.invariant-loop-turn

@@ -2,9 +2,9 @@ use Rattle.std.proofs.Common.{List, []}
 use Rattle.go_syntax.specs.declared.expression.Expr.{Expr}
 use Rattle.go_syntax.specs.grammar.Grammar.{product_operator}
 use Rattle.go_syntax.specs.grammar.Terminals.{Terminal, terminals}
-use Rattle.go_exprs.specs.Levels.{levels}
+use Rattle.go_descent.specs.Levels.{levels}
 use Rattle.go_cursor.specs.Reading.{Reader, run}
-use Rattle.go_exprs.specs.Rules.{step_both, operation, unary_expr}
+use Rattle.go_descent.specs.Rules.{step_both, operation, unary_expr}
 use Rattle.go_exprs.proofs.Chains.{handed, began, both_empty, ran_out, no_operator, no_operand, one_operation}
 use Rattle.go_exprs.proofs.grammar.Grammar.products.Goals as goal
 

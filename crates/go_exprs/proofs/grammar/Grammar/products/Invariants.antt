@@ -1,9 +1,9 @@
 use Rattle.std.proofs.Common.{◌≡◌, ◌-◌, []}
 use Rattle.go_syntax.specs.grammar.Grammar.{product_operator}
 use Rattle.go_syntax.specs.grammar.Terminals.{terminals}
-use Rattle.go_exprs.specs.Levels.{levels}
+use Rattle.go_descent.specs.Levels.{levels}
 use Rattle.go_cursor.specs.Reading.{run, loop}
-use Rattle.go_exprs.specs.Rules.{step_both, operation, unary_expr}
+use Rattle.go_descent.specs.Rules.{step_both, operation, unary_expr}
 use Rattle.go_exprs.proofs.grammar.Grammar.products.Given as goal
 
 abbrev pub invariant-loop-turn : goal.invariant-loop-turn

@@ -1,9 +1,9 @@
 use Rattle.std.proofs.Common.{◌∙◌, List, sym, refl}
 use Rattle.go_syntax.specs.declared.expression.Expr.{Expr}
 use Rattle.go_syntax.specs.grammar.Terminals.{Terminal, terminals}
-use Rattle.go_exprs.specs.Levels.{levels}
+use Rattle.go_descent.specs.Levels.{levels}
 use Rattle.go_cursor.specs.Reading.{Reader, goes_on, run, step_of}
-use Rattle.go_exprs.specs.Rules.{more_exprs, expr_of}
+use Rattle.go_descent.specs.Rules.{more_exprs, expr_of}
 use Rattle.go_exprs.proofs.Chains.{handed, began, ran_out, behind, none_behind, bad_behind, one_behind}
 use Rattle.go_exprs.proofs.readers.Readers.more_exprs_of.Goals as goal
 

@@ -10,12 +10,12 @@ use Rattle.go_syntax.specs.grammar.Grammar as grammar
 use Rattle.go_syntax.specs.grammar.Symbols.{Rule, takes, takes_name, takes_literal, begins, begins_selector}
 use Rattle.go_syntax.specs.grammar.Terminals.{Terminal, Identifier}
 use Rattle.go_cursor.specs.Reading.{bind, expect, close}
-use Rattle.go_exprs.specs.Rules.{Parts, named_composite, name_operand, func_operand, composite_operand, array_operand, paren_operand, other_operand, sign_operand, operand, chan_type, interface_type}
-use Rattle.go_exprs.proofs.Begins.{read, if_so, if_not}
-use Rattle.go_exprs.proofs.BeginsExpr.{expr_begins, expr_not_ellipsis, expr_not_receive, literal_begins}
-use Rattle.go_exprs.proofs.CompleteNames.{type_name_read}
-use Rattle.go_exprs.proofs.CompleteParts.{CompleteParts, KnownBodies, over_right_paren}
-use Rattle.go_exprs.proofs.CompleteTypes.{composite_read, other_read}
+use Rattle.go_descent.specs.Rules.{Parts, named_composite, name_operand, func_operand, composite_operand, array_operand, paren_operand, other_operand, sign_operand, operand, chan_type, interface_type}
+use Rattle.go_descent.proofs.Begins.{read, if_so, if_not}
+use Rattle.go_descent.proofs.BeginsExpr.{expr_begins, expr_not_ellipsis, expr_not_receive, literal_begins}
+use Rattle.go_descent.proofs.CompleteNames.{type_name_read}
+use Rattle.go_descent.proofs.CompleteParts.{CompleteParts, KnownBodies, over_right_paren}
+use Rattle.go_descent.proofs.CompleteTypes.{composite_read, other_read}
 
 -- no composite literal begins with the name before these terminals
 abbrev pub NoComposite : Bool → List Terminal → Type 0

@@ -12,11 +12,11 @@ use Rattle.go_syntax.specs.grammar.Symbols.{Rule, Takes, takes, MayTake, takes_n
 use Rattle.go_syntax.specs.grammar.Terminals.{Terminal, Sign, Identifier, Extent}
 use Rattle.go_cursor.specs.LookAheads.{is_named}
 use Rattle.go_cursor.specs.Reading.{Reader, after, step_of, expect, goes_on}
-use Rattle.go_exprs.specs.Rules.{Parts, parameter_of, unnamed_item, unnamed, named_parameter, named_item, named, some_parameters, parameters, result_parameters, signature_end, signature_of}
-use Rattle.go_exprs.proofs.Begins.{read, if_so, if_not, Gives, gives_stop, gives_more, runs, comma_stops, closing_comma_paren, type_begins, parameters_begin, type_not_ellipsis, type_not_comma, type_not_closing, no_type_no_paren, not_closing_right_paren}
-use Rattle.go_exprs.proofs.CompleteNames.{names_read}
-use Rattle.go_exprs.proofs.CompleteParts.{CompleteParts}
-use Rattle.go_exprs.proofs.Shorter.{Shortens, names_shorter, parameter_shorter}
+use Rattle.go_descent.specs.Rules.{Parts, parameter_of, unnamed_item, unnamed, named_parameter, named_item, named, some_parameters, parameters, result_parameters, signature_end, signature_of}
+use Rattle.go_descent.proofs.Begins.{read, if_so, if_not, Gives, gives_stop, gives_more, runs, comma_stops, closing_comma_paren, type_begins, parameters_begin, type_not_ellipsis, type_not_comma, type_not_closing, no_type_no_paren, not_closing_right_paren}
+use Rattle.go_descent.proofs.CompleteNames.{names_read}
+use Rattle.go_descent.proofs.CompleteParts.{CompleteParts}
+use Rattle.go_descent.proofs.Shorter.{Shortens, names_shorter, parameter_shorter}
 
 -- What a parameter begins with, and the look-ahead for names
 

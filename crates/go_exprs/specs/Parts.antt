@@ -1,4 +1,4 @@
--- The readers of trees up to a height, and what a function value that reads the parts of a tree ensures.
+-- What a function value that reads the parts of a tree ensures.
 -- Own: how the parser reads what the grammar derives.
 use Rattle.std.specs.Prelude.{◌≡◌, ℕ, List, Some, None, Result, Ok, Err}
 use Rattle.std.specs.declared.alloc.Global.{Global}
@@ -16,12 +16,8 @@ use Rattle.go_exprs.specs.declared.grammar.Part.TheVariants as part
 use Rattle.go_exprs.specs.declared.grammar.PartTree.{PartTree}
 use Rattle.go_exprs.specs.declared.grammar.PartTree.TheVariants as tree
 use Rattle.go_cursor.specs.Reading.{Found}
-use Rattle.go_exprs.specs.Rules.{Parts, parts}
-use Rattle.go_cursor.specs.Skipping.{skipped_body}
-
--- the readers of trees of a height below this, where bodies are skipped
-abbrev pub levels : ℕ → Parts
-levels h = parts (λ _. skipped_body) h
+use Rattle.go_descent.specs.Levels.{levels}
+use Rattle.go_descent.specs.Rules.{Parts}
 
 abbrev pub ReadsExpr : Found Expr → Result PartTree ParseError → List Token → Type 0
 ReadsExpr found (Ok (tree.Expr x)) new = found ≡ Some (x, terminals new)

@@ -15,7 +15,7 @@ use Rattle.go_syntax.specs.grammar.Grammar.{prefix_operator, is_receive_type}
 use Rattle.go_syntax.specs.grammar.Symbols.{Rule, takes, takes_name, takes_literal, begins, closes, sign_at}
 use Rattle.go_syntax.specs.grammar.Terminals.{Terminal, Sign, Identifier, Basic, Extent}
 use Rattle.go_cursor.specs.LookAheads.{begins_receive}
-use Rattle.go_exprs.specs.Rules.{operator_at}
+use Rattle.go_descent.specs.Rules.{operator_at}
 
 -- the first terminal of an operand
 pub data BeginsOperand : List Terminal → Type 0 where

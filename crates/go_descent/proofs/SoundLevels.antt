@@ -3,12 +3,12 @@ use Rattle.std.proofs.Common.{ℕ, zero, suc, true, refl}
 use Rattle.go_syntax.specs.declared.body.BodyRange.{BodyRange}
 use Rattle.go_syntax.specs.grammar.Symbols.{Rule}
 use Rattle.go_cursor.specs.Reading.{Reader}
-use Rattle.go_exprs.specs.Rules.{Parts, no_parts, whole_parts, parts}
-use Rattle.go_exprs.proofs.SoundOperands.{literal_value_sound}
-use Rattle.go_exprs.proofs.SoundOperators.{unary_sound, expr_sound}
-use Rattle.go_exprs.proofs.SoundParts.{SoundParts}
-use Rattle.go_exprs.proofs.SoundSignatures.{signature_sound}
-use Rattle.go_exprs.proofs.SoundTypes.{type_sound, composite_type_sound}
+use Rattle.go_descent.specs.Rules.{Parts, no_parts, whole_parts, parts}
+use Rattle.go_descent.proofs.SoundOperands.{literal_value_sound}
+use Rattle.go_descent.proofs.SoundOperators.{unary_sound, expr_sound}
+use Rattle.go_descent.proofs.SoundParts.{SoundParts}
+use Rattle.go_descent.proofs.SoundSignatures.{signature_sound}
+use Rattle.go_descent.proofs.SoundTypes.{type_sound, composite_type_sound}
 use Rattle.go_cursor.proofs.Steps.{Sound}
 
 module _ (Body : ℕ → Rule BodyRange) (body : ℕ → Reader BodyRange) (body_sound : (h : ℕ) → Sound (Body h) (body h)) where

@@ -3,7 +3,7 @@ use Rattle.std.proofs.Common.{◌≡◌, ℕ, zero, suc, Bool, true, arith}
 use Rattle.go_syntax.specs.declared.body.BodyRange.{BodyRange}
 use Rattle.go_syntax.specs.grammar.Grammar.{IsType, IsCompositeType, IsSignature, IsExpr, IsUnary, IsLiteralValue}
 use Rattle.go_syntax.specs.grammar.Symbols.{Rule}
-use Rattle.go_exprs.specs.Rules.{Parts}
+use Rattle.go_descent.specs.Rules.{Parts}
 use Rattle.go_cursor.proofs.Steps.{Below, Sound}
 
 pub record SoundParts (Body : ℕ → Rule BodyRange) (l : Parts) (n : ℕ) : Type 0 where

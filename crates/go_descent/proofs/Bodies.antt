@@ -7,9 +7,9 @@ use Rattle.go_syntax.specs.grammar.SourceFiles.{Skips}
 use Rattle.go_syntax.specs.grammar.Symbols.{Rule, begins}
 use Rattle.go_syntax.specs.grammar.Terminals.{Terminal}
 use Rattle.go_cursor.specs.Skipping.{skipped_body}
-use Rattle.go_exprs.proofs.Ahead.{composite_ahead}
-use Rattle.go_exprs.proofs.Balanced.{Balances}
-use Rattle.go_exprs.proofs.CompleteParts.{KnownBodies}
+use Rattle.go_descent.proofs.Ahead.{composite_ahead}
+use Rattle.go_descent.proofs.Balanced.{Balances}
+use Rattle.go_descent.proofs.CompleteParts.{KnownBodies}
 use Rattle.go_cursor.proofs.Runs.{run_shorter, skipped_balances, complete_skipped, sound_skipped}
 use Rattle.go_cursor.proofs.Steps.{Sound}
 

@@ -7,13 +7,14 @@ use Rattle.go_syntax.specs.grammar.Grammar as grammar
 use Rattle.go_syntax.specs.grammar.Symbols.{Rule}
 use Rattle.go_syntax.specs.grammar.Terminals.{Terminal}
 use Rattle.go_cursor.specs.Reading.{Reader, goes_on}
-use Rattle.go_exprs.specs.Rules.{Parts, parts, parameters, exprs, expr_of, typ_of}
-use Rattle.go_exprs.proofs.CompleteLiterals.{literal_read}
-use Rattle.go_exprs.proofs.CompleteOperators.{unary_read, expr_read}
-use Rattle.go_exprs.proofs.CompleteParts.{CompleteParts, KnownBodies, OverExpr}
-use Rattle.go_exprs.proofs.CompletePosts.{exprs_read}
-use Rattle.go_exprs.proofs.CompleteSignatures.{signature_read, parameters_read}
-use Rattle.go_exprs.proofs.CompleteTypes.{composite_read, typ_read}
+use Rattle.go_descent.specs.Rules.{Parts, parts, parameters, exprs, expr_of, typ_of}
+use Rattle.go_descent.proofs.CompleteLiterals.{literal_read}
+use Rattle.go_descent.proofs.CompleteOperators.{unary_read, expr_read}
+use Rattle.go_descent.specs.Follow.{OverExpr}
+use Rattle.go_descent.proofs.CompleteParts.{CompleteParts, KnownBodies}
+use Rattle.go_descent.proofs.CompletePosts.{exprs_read}
+use Rattle.go_descent.proofs.CompleteSignatures.{signature_read, parameters_read}
+use Rattle.go_descent.proofs.CompleteTypes.{composite_read, typ_read}
 
 module _ {Body : ℕ → Rule BodyRange} (known : KnownBodies Body) (body : ℕ → Reader BodyRange)
     (body_read : (h : ℕ) (ts : List Terminal) (b : BodyRange) (rest : List Terminal) → Body h ts b rest → body h ts ≡ Some (b, rest)) where

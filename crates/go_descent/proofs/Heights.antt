@@ -3,9 +3,9 @@ use Rattle.std.proofs.Common.{◌≡◌, ℕ, zero, suc, Bool, true, false, List
 use Rattle.go_syntax.specs.declared.body.BodyRange.{BodyRange}
 use Rattle.go_syntax.specs.grammar.Terminals.{Terminal}
 use Rattle.go_cursor.specs.Reading.{Reader}
-use Rattle.go_exprs.specs.Rules.{Parts, no_parts, whole_parts, parts}
+use Rattle.go_descent.specs.Rules.{Parts, no_parts, whole_parts, parts}
 use Rattle.go_cursor.specs.Skipping.{skipped_body}
-use Rattle.go_exprs.specs.Levels.{levels}
+use Rattle.go_descent.specs.Levels.{levels}
 
 -- none below 0
 pub bottom : (h : ℕ) → h ≡ 0 → levels h ≡ no_parts

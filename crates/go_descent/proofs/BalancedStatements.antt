@@ -16,17 +16,15 @@ use Rattle.go_syntax.specs.declared.statement.TypeCase.{TypeCase}
 use Rattle.go_syntax.specs.declared.types.«Type».{«Type» as Typ}
 use Rattle.go_syntax.specs.declared.token.TokenKind.{TokenKind}
 use Rattle.go_syntax.specs.declared.token.TokenKind.TheVariants as kind
-use Rattle.go_syntax.specs.grammar.Brackets.{IsRun, run_none, run_nest, no_bracket}
+use Rattle.go_syntax.specs.grammar.Brackets.{IsRun, run_none, run_nest, no_bracket, IsSkipped, skipped}
 use Rattle.go_syntax.specs.grammar.Declarations.{IsSpecs, specs_none, specs_more, IsGroup, group_one, group_specs, IsConstSpec, const_names, const_values, const_typed, IsVarSpec, var_type, var_values, var_typed}
 use Rattle.go_syntax.specs.declared.statement.LiteralBlock.{LiteralBlock}
 use Rattle.go_syntax.specs.grammar.ParsedBodies.{IsBody, body_of, LiteralBodies}
 use Rattle.go_syntax.specs.grammar.Statements.{step_operator, assign_operator}
 use Rattle.go_syntax.specs.grammar.Statements.{IsSimple, simple_expr, simple_send, simple_step, simple_assign, simple_operation, simple_define, IsClause, clause_none, clause_some, IsInit, init_none, init_empty, init_some, IsReceive, receive, IsCommunication, communication_send, communication_receive, communication_assign, communication_define, IsMoreTypes, types_none, types_more, IsLabel, label_none, label_some, IsBinding, binding_none, binding_some, IsBlock, block_of, IsStmts, stmts_none, stmts_more, stmts_last, IsStmt, stmt_at, IsStmtKind, stmt_empty, stmt_simple, stmt_const, stmt_var, stmt_labeled, stmt_go, stmt_defer, stmt_return_none, stmt_return, stmt_break, stmt_break_alone, stmt_continue, stmt_continue_alone, stmt_goto, stmt_fallthrough, stmt_block, stmt_if, stmt_switch, stmt_type_switch, stmt_select, stmt_while, stmt_for, stmt_range, stmt_range_assign, stmt_range_define, IsIf, if_alone, if_else_if, if_else, IsCases, cases_none, cases_values, cases_default, IsTypeCases, type_cases_none, type_cases_types, type_cases_default, IsSelectCases, select_cases_none, select_cases_communication, select_cases_default}
-use Rattle.go_syntax.specs.grammar.Symbols.{Rule, begins}
+use Rattle.go_syntax.specs.grammar.Symbols.{Rule}
 use Rattle.go_syntax.specs.grammar.Terminals.{Terminal}
-use Rattle.go_exprs.proofs.Balanced.{Balances, takes_run, takes_name_run, ends_run, nest_run, names_run, type_run, expr_run, exprs_run, optional_run, unary_run, primary_run}
-use Rattle.go_exprs.proofs.Bodies.{known_bodies}
-use Rattle.go_exprs.proofs.CompleteParts.{KnownBodies}
+use Rattle.go_descent.proofs.Balanced.{Balances, takes_run, takes_name_run, ends_run, nest_run, names_run, type_run, expr_run, exprs_run, optional_run, unary_run, primary_run}
 use Rattle.go_cursor.proofs.Runs.{run_and}
 
 step_plain : (k : TokenKind) (op : StepOperator) → step_operator k ≡ Some op → no_bracket k ≡ true
@@ -172,12 +170,10 @@ pub literals_balance : (literals : List LiteralBlock) (n : ℕ) → Balances (Li
 literals_balance literals zero h ts b rest d = absurd d
 literals_balance literals (suc n) h ts b rest d = body_run (literals_balance literals n) d.2
 
-body_braced : {Body : ℕ → Rule BodyRange} {h : ℕ} {ts rest : List Terminal} {b : BodyRange} {ss : List Stmt} → IsBody Body h ts b ss rest → begins kind.LeftBrace ts ≡ true
-body_braced (body_of start start_end end_start end d) = refl
+body_skipped : {Body : ℕ → Rule BodyRange} → Balances Body → {h : ℕ} {ts rest : List Terminal} {b : BodyRange} {ss : List Stmt} → IsBody Body h ts b ss rest → IsSkipped ts b rest
+body_skipped balanced (body_of start start_end end_start end d) = skipped start start_end end_start end (stmts_run balanced d)
 
-literals_braced : (literals : List LiteralBlock) (n h : ℕ) (ts : List Terminal) (b : BodyRange) (rest : List Terminal) → LiteralBodies literals n h ts b rest → begins kind.LeftBrace ts ≡ true
-literals_braced literals zero h ts b rest d = absurd d
-literals_braced literals (suc n) h ts b rest d = body_braced d.2
-
-pub literals_known : (literals : List LiteralBlock) (n : ℕ) → KnownBodies (LiteralBodies literals n)
-literals_known literals n = known_bodies (literals_balance literals n) (literals_braced literals n)
+-- and so one that is skipped
+pub literals_skipped : (literals : List LiteralBlock) (n h : ℕ) (ts : List Terminal) (b : BodyRange) (rest : List Terminal) → LiteralBodies literals n h ts b rest → IsSkipped ts b rest
+literals_skipped literals zero h ts b rest d = absurd d
+literals_skipped literals (suc n) h ts b rest d = body_skipped (literals_balance literals n) d.2

@@ -8,11 +8,12 @@ use Rattle.go_syntax.specs.grammar.Grammar as grammar
 use Rattle.go_syntax.specs.grammar.Symbols.{Rule, Takes, takes, MayTake, takes_none, takes_one, begins}
 use Rattle.go_syntax.specs.grammar.Terminals.{Terminal, Sign}
 use Rattle.go_cursor.specs.Reading.{after, step_of, expect}
-use Rattle.go_exprs.specs.Rules.{Parts, element_value, element_of, element_item, elements, literal_value_of}
-use Rattle.go_exprs.proofs.Begins.{read, if_so, if_not, Gives, gives_stop, gives_more, runs, comma_stops_brace, closing_comma_brace}
-use Rattle.go_exprs.proofs.BeginsExpr.{expr_begins, expr_not_left_brace, literal_begins, element_begins, value_not_right_brace, value_not_closing}
-use Rattle.go_exprs.proofs.CompleteParts.{CompleteParts, OverExpr, over_colon, over_comma, over_right_brace}
-use Rattle.go_exprs.proofs.Shorter.{Shortens, element_shorter}
+use Rattle.go_descent.specs.Rules.{Parts, element_value, element_of, element_item, elements, literal_value_of}
+use Rattle.go_descent.proofs.Begins.{read, if_so, if_not, Gives, gives_stop, gives_more, runs, comma_stops_brace, closing_comma_brace}
+use Rattle.go_descent.proofs.BeginsExpr.{expr_begins, expr_not_left_brace, literal_begins, element_begins, value_not_right_brace, value_not_closing}
+use Rattle.go_descent.specs.Follow.{OverExpr}
+use Rattle.go_descent.proofs.CompleteParts.{CompleteParts, over_colon, over_comma, over_right_brace}
+use Rattle.go_descent.proofs.Shorter.{Shortens, element_shorter}
 
 -- what follows the elements before the closing brace
 over_end : {v w rest : List Terminal} → MayTake kind.Comma v w → Takes kind.RightBrace w rest → OverExpr true v

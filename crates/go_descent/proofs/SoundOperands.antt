@@ -14,10 +14,10 @@ use Rattle.go_syntax.specs.grammar.Terminals.{Terminal}
 use Rattle.go_cursor.specs.Names.{type_name}
 use Rattle.go_cursor.specs.LookAheads.{names_composite, begins_receive}
 use Rattle.go_cursor.specs.Reading.{Reader, bind, expect, past, name, begins_name, literal_at}
-use Rattle.go_exprs.specs.Rules.{Parts, composite_type, chan_type, interface_type, element_value, element_of, element_item, elements, literal_value_of, named_composite, name_operand, func_operand, composite_operand, array_operand, paren_operand, other_operand, sign_operand, operand_at, operand}
+use Rattle.go_descent.specs.Rules.{Parts, composite_type, chan_type, interface_type, element_value, element_of, element_item, elements, literal_value_of, named_composite, name_operand, func_operand, composite_operand, array_operand, paren_operand, other_operand, sign_operand, operand_at, operand}
 use Rattle.go_cursor.specs.Skipping.{is_composite}
-use Rattle.go_exprs.proofs.SoundParts.{SoundParts, no_level}
-use Rattle.go_exprs.proofs.SoundTypes.{composite_type_sound, chan_sound, interface_sound}
+use Rattle.go_descent.proofs.SoundParts.{SoundParts, no_level}
+use Rattle.go_descent.proofs.SoundTypes.{composite_type_sound, chan_sound, interface_sound}
 use Rattle.go_cursor.proofs.Steps.{Below, Sound, above, with_bind, branch, same, taken, expected, closed, pasts, named_by, run_sound, first_sound, AfterComma, comma_item_sound, type_name_sound, receive_taken, literal_taken}
 
 -- elements, and the braces above them

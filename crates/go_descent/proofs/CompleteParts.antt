@@ -1,4 +1,4 @@
--- What it is for readers of parts to find each tree, and what must not follow an expression.
+-- What it is for readers of parts to find each tree, and what follows an expression.
 use Rattle.std.proofs.Common.{◌≡◌, ℕ, zero, suc, List, [], ◌∷◌, Bool, true, false, if◌then◌else◌, Some, None, refl}
 use Rattle.go_syntax.specs.declared.expression.Element.{Element}
 use Rattle.go_syntax.specs.declared.expression.Expr.{Expr}
@@ -6,51 +6,14 @@ use Rattle.go_syntax.specs.declared.body.BodyRange.{BodyRange}
 use Rattle.go_syntax.specs.declared.types.Signature.{Signature}
 use Rattle.go_syntax.specs.declared.types.«Type».{«Type» as Typ}
 use Rattle.go_syntax.specs.declared.token.TokenKind.TheVariants as kind
-use Rattle.go_syntax.specs.grammar.Brackets.{IsSkipped, skipped}
-use Rattle.go_syntax.specs.grammar.SourceFiles.{Skips}
 use Rattle.go_syntax.specs.grammar.Grammar.{IsType, IsCompositeType, IsSignature, IsExpr, IsUnary, IsLiteralValue, comparison, sum_operator, product_operator}
 use Rattle.go_syntax.specs.grammar.Symbols.{Rule, takes, Ends, ends_semicolon, ends_closing, begins, closes, sign_at}
 use Rattle.go_syntax.specs.grammar.Terminals.{Terminal, Sign, Extent}
-use Rattle.go_cursor.specs.LookAheads.{begins_type_switch}
-use Rattle.go_exprs.specs.Rules.{Parts, operator_at}
 use Rattle.go_cursor.specs.Skipping.{is_composite}
-use Rattle.go_exprs.proofs.Shorter.{Shortens, skipped_shorter}
-
--- a relation one level down, which nothing meets at the bottom
-abbrev pub Below : {A : Type 0} → (ℕ → Rule A) → ℕ → Rule A
-Below D zero ts a rest = ⊥
-Below D (suc h) ts a rest = D h ts a rest
-
--- whether a post is next
-abbrev pub begins_post : List Terminal → Bool
-begins_post ts = if begins kind.LeftParen ts then true else if begins kind.LeftBracket ts then true else if begins_type_switch ts then false else begins kind.Period ts
-
--- nothing follows with which an operand, a product, a sum, .. would go on; where a type's name may begin a
--- composite literal, no `{` either
-
-pub record Over (b : Bool) (rest : List Terminal) : Type 0 where
-  pub post : begins_post rest ≡ false
-  pub brace : b ≡ true → begins kind.LeftBrace rest ≡ false
-
-pub record OverProduct (b : Bool) (rest : List Terminal) : Type 0 where
-  pub operand : Over b rest
-  pub operator : operator_at product_operator (sign_at rest) ≡ None
-
-pub record OverSum (b : Bool) (rest : List Terminal) : Type 0 where
-  pub product : OverProduct b rest
-  pub operator : operator_at sum_operator (sign_at rest) ≡ None
-
-pub record OverCompare (b : Bool) (rest : List Terminal) : Type 0 where
-  pub sum : OverSum b rest
-  pub operator : operator_at comparison (sign_at rest) ≡ None
-
-pub record OverAnd (b : Bool) (rest : List Terminal) : Type 0 where
-  pub comparing : OverCompare b rest
-  pub operator : begins kind.LogicalAnd rest ≡ false
-
-pub record OverExpr (b : Bool) (rest : List Terminal) : Type 0 where
-  pub conjunct : OverAnd b rest
-  pub operator : begins kind.LogicalOr rest ≡ false
+use Rattle.go_cursor.proofs.Steps.{Below}
+use Rattle.go_descent.specs.Follow.{begins_post, Over, OverExpr}
+use Rattle.go_descent.specs.Rules.{Parts, operator_at}
+use Rattle.go_descent.proofs.Shorter.{Shortens}
 
 -- where no operator is next
 pub over : (b : Bool) (ts : List Terminal) → begins_post ts ≡ false → (b ≡ true → begins kind.LeftBrace ts ≡ false) → operator_at product_operator (sign_at ts) ≡ None → operator_at sum_operator (sign_at ts) ≡ None
@@ -112,10 +75,3 @@ pub record KnownBodies (Body : ℕ → Rule BodyRange) : Type 0 where
   pub body_shorter : Shortens Body
   -- whether `{` follows a slice, an array, a map or a struct
   pub sees_composite : (h : ℕ) (ts : List Terminal) (t : Typ) (rest : List Terminal) → IsCompositeType Body h ts t rest → is_composite ts ≡ begins kind.LeftBrace rest
-
-skipped_begins : (h : ℕ) (ts : List Terminal) (b : BodyRange) (rest : List Terminal) → IsSkipped ts b rest → begins kind.LeftBrace ts ≡ true
-skipped_begins h ts b rest (skipped start start_end end_start end d) = refl
-
--- where bodies are skipped, only the look-ahead is left to know
-pub known_skips : ((h : ℕ) (ts : List Terminal) (t : Typ) (rest : List Terminal) → IsCompositeType Skips h ts t rest → is_composite ts ≡ begins kind.LeftBrace rest) → KnownBodies Skips
-known_skips sees = record { body_begins = skipped_begins; body_shorter = skipped_shorter; sees_composite = sees }

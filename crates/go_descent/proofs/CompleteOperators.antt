@@ -12,12 +12,13 @@ use Rattle.go_syntax.specs.grammar.Grammar.{comparison, sum_operator, product_op
 use Rattle.go_syntax.specs.grammar.Symbols.{Rule, takes, sign_at}
 use Rattle.go_syntax.specs.grammar.Terminals.{Terminal, Sign, Extent}
 use Rattle.go_cursor.specs.Reading.{Reader, Next, Stop, More, after, turn, loop, step_of}
-use Rattle.go_exprs.specs.Rules.{Parts, operator_at, prefixed, unary_expr, put_both, step_both, operated, operation, chain_of, after_sign, plain_chain, product_expr, sum_expr, compare_expr, and_expr, expr_of}
-use Rattle.go_exprs.proofs.Begins.{read, if_not, Gives, gives_stop, gives_more, runs}
-use Rattle.go_exprs.proofs.BeginsExpr.{primary_begins, operand_no_receive, operand_no_prefix, prefix_no_receive}
-use Rattle.go_exprs.proofs.CompleteParts.{CompleteParts, KnownBodies, Over, OverProduct, OverSum, OverCompare, OverAnd, OverExpr}
-use Rattle.go_exprs.proofs.CompletePosts.{primary_read}
-use Rattle.go_exprs.proofs.Shorter.{unary_shorter, product_shorter, sum_shorter, compare_shorter, and_shorter}
+use Rattle.go_descent.specs.Rules.{Parts, operator_at, prefixed, unary_expr, put_both, step_both, operated, operation, chain_of, after_sign, plain_chain, product_expr, sum_expr, compare_expr, and_expr, expr_of}
+use Rattle.go_descent.proofs.Begins.{read, if_not, Gives, gives_stop, gives_more, runs}
+use Rattle.go_descent.proofs.BeginsExpr.{primary_begins, operand_no_receive, operand_no_prefix, prefix_no_receive}
+use Rattle.go_descent.specs.Follow.{Over, OverProduct, OverSum, OverCompare, OverAnd, OverExpr}
+use Rattle.go_descent.proofs.CompleteParts.{CompleteParts, KnownBodies}
+use Rattle.go_descent.proofs.CompletePosts.{primary_read}
+use Rattle.go_descent.proofs.Shorter.{unary_shorter, product_shorter, sum_shorter, compare_shorter, and_shorter}
 
 -- Loops over operators and operands
 

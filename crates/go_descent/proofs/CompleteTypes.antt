@@ -11,12 +11,12 @@ use Rattle.go_syntax.specs.grammar.Symbols.{Rule, takes, takes_name, takes_strin
 use Rattle.go_syntax.specs.grammar.Terminals.{Terminal, Sign, Identifier}
 use Rattle.go_cursor.specs.LookAheads.{names_field}
 use Rattle.go_cursor.specs.Reading.{after, step_of, expect, close}
-use Rattle.go_exprs.specs.Rules.{Parts, embedded_field, named_field, field_of, field_item, fields, struct_type, slice_or_array, map_type, composite_type, chan_type, method_of, interface_elem, interface_item, interface_elems, interface_type, receive_type, typ_of}
-use Rattle.go_exprs.proofs.Begins.{read, if_so, if_not, Gives, gives_stop, gives_more, runs, ends_here, ends_string, ends_paren, ends_comma, ends_type, type_begins, signature_begins, type_not_comma}
-use Rattle.go_exprs.proofs.BeginsExpr.{expr_begins, expr_not_right_bracket}
-use Rattle.go_exprs.proofs.CompleteNames.{names_read, type_name_read, tag_read}
-use Rattle.go_exprs.proofs.CompleteParts.{CompleteParts, over_right_bracket}
-use Rattle.go_exprs.proofs.Shorter.{Shortens, type_shorter, type_name_shorter, tag_shorter, ends_shorter, signature_shorter, more_names_shorter}
+use Rattle.go_descent.specs.Rules.{Parts, embedded_field, named_field, field_of, field_item, fields, struct_type, slice_or_array, map_type, composite_type, chan_type, method_of, interface_elem, interface_item, interface_elems, interface_type, receive_type, typ_of}
+use Rattle.go_descent.proofs.Begins.{read, if_so, if_not, Gives, gives_stop, gives_more, runs, ends_here, ends_string, ends_paren, ends_comma, ends_type, type_begins, signature_begins, type_not_comma}
+use Rattle.go_descent.proofs.BeginsExpr.{expr_begins, expr_not_right_bracket}
+use Rattle.go_descent.proofs.CompleteNames.{names_read, type_name_read, tag_read}
+use Rattle.go_descent.proofs.CompleteParts.{CompleteParts, over_right_bracket}
+use Rattle.go_descent.proofs.Shorter.{Shortens, type_shorter, type_name_shorter, tag_shorter, ends_shorter, signature_shorter, more_names_shorter}
 
 -- Fields
 

@@ -10,8 +10,8 @@ use Rattle.go_syntax.specs.grammar.Terminals.{Terminal}
 use Rattle.go_cursor.specs.Names.{names, type_name, tag}
 use Rattle.go_cursor.specs.LookAheads.{names_field, names_method}
 use Rattle.go_cursor.specs.Reading.{bind, expect, close, name, begins_name}
-use Rattle.go_exprs.specs.Rules.{Parts, slice_or_array, map_type, embedded_field, named_field, field_of, field_item, fields, struct_type, composite_type, chan_type, method_of, interface_elem, interface_item, interface_elems, interface_type, receive_type, typ_of}
-use Rattle.go_exprs.proofs.SoundParts.{SoundParts, no_level}
+use Rattle.go_descent.specs.Rules.{Parts, slice_or_array, map_type, embedded_field, named_field, field_of, field_item, fields, struct_type, composite_type, chan_type, method_of, interface_elem, interface_item, interface_elems, interface_type, receive_type, typ_of}
+use Rattle.go_descent.proofs.SoundParts.{SoundParts, no_level}
 use Rattle.go_cursor.proofs.Steps.{Below, Sound, above, with_bind, branch, same, taken, expected, closed, named_by, run_sound, from_none, Ending, ending_item_sound, names_sound, type_name_sound, tag_sound}
 
 -- fields and methods, above the types in them

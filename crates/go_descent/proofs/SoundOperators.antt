@@ -11,9 +11,9 @@ use Rattle.go_syntax.specs.grammar.Symbols.{Rule, Takes, takes, begins, sign_at}
 use Rattle.go_syntax.specs.grammar.Terminals.{Terminal, Sign, Identifier, Basic, Odd, Extent}
 use Rattle.go_cursor.specs.LookAheads.{begins_receive}
 use Rattle.go_cursor.specs.Reading.{Reader, Next, Stop, Fail, More, bind, turn, loop, run, step_of}
-use Rattle.go_exprs.specs.Rules.{Parts, operator_at, prefixed, unary_expr, put_both, step_both, operated, operation, chain_of, after_sign, plain_chain, product_expr, sum_expr, compare_expr, and_expr, expr_of}
-use Rattle.go_exprs.proofs.SoundParts.{SoundParts}
-use Rattle.go_exprs.proofs.SoundPosts.{primary_sound}
+use Rattle.go_descent.specs.Rules.{Parts, operator_at, prefixed, unary_expr, put_both, step_both, operated, operation, chain_of, after_sign, plain_chain, product_expr, sum_expr, compare_expr, and_expr, expr_of}
+use Rattle.go_descent.proofs.SoundParts.{SoundParts}
+use Rattle.go_descent.proofs.SoundPosts.{primary_sound}
 use Rattle.go_cursor.proofs.Steps.{Sound, SoundTurn, above, with_bind, branch, same, taken, run_sound, from_none, after_more, item_if}
 
 operator_taken : {O : Type 0} (operator : TokenKind → Option O) (ts : List Terminal) (op : O) → operator_at operator (sign_at ts) ≡ Some op → (k : TokenKind) × Takes k ts (drop 1 ts) × (operator k ≡ Some op)

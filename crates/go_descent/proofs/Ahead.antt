@@ -13,8 +13,8 @@ use Rattle.go_syntax.specs.grammar.Symbols.{Rule, Takes, takes, takes_name, begi
 use Rattle.go_syntax.specs.grammar.Terminals.{Terminal, Sign, Identifier, Extent}
 use Rattle.go_cursor.specs.Reading.{Found, More, turn, loop, run}
 use Rattle.go_cursor.specs.Skipping.{bracketed, past_brackets, past_result, past_front, past_step, brace_after, is_composite}
-use Rattle.go_exprs.proofs.Balanced.{Balances, may_run, type_run, expr_run, unnamed_run, named_run, fields_run, interface_elems_run}
-use Rattle.go_exprs.proofs.Begins.{type_begins, parameters_begin, no_type_no_paren}
+use Rattle.go_descent.proofs.Balanced.{Balances, may_run, type_run, expr_run, unnamed_run, named_run, fields_run, interface_elems_run}
+use Rattle.go_descent.proofs.Begins.{type_begins, parameters_begin, no_type_no_paren}
 use Rattle.go_cursor.proofs.Runs.{run_and, run_shorter, past_bracketed}
 
 -- from here on the loop gives this

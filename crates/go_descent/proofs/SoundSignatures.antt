@@ -12,8 +12,8 @@ use Rattle.go_syntax.specs.grammar.Terminals.{Terminal}
 use Rattle.go_cursor.specs.Names.{names}
 use Rattle.go_cursor.specs.LookAheads.{is_named}
 use Rattle.go_cursor.specs.Reading.{Reader, expect, past}
-use Rattle.go_exprs.specs.Rules.{Parts, parameter_of, unnamed_item, unnamed, named_parameter, named_item, named, some_parameters, parameters, result_parameters, signature_end, signature_of}
-use Rattle.go_exprs.proofs.SoundParts.{SoundParts, no_level}
+use Rattle.go_descent.specs.Rules.{Parts, parameter_of, unnamed_item, unnamed, named_parameter, named_item, named, some_parameters, parameters, result_parameters, signature_end, signature_of}
+use Rattle.go_descent.proofs.SoundParts.{SoundParts, no_level}
 use Rattle.go_cursor.proofs.Steps.{Sound, with_bind, branch, same, taken, expected, closed, pasts, run_sound, first_sound, AfterComma, comma_item_sound, names_sound}
 
 module _ (Body : ℕ → Rule BodyRange) (h : ℕ) (typ : Reader Typ) (typ_sound : Sound (IsType Body h) typ) where

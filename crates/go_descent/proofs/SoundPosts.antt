@@ -10,9 +10,9 @@ use Rattle.go_syntax.specs.grammar.Symbols.{Rule, Takes, MayTake, begins}
 use Rattle.go_syntax.specs.grammar.Terminals.{Terminal}
 use Rattle.go_cursor.specs.LookAheads.{begins_receive, begins_type_switch}
 use Rattle.go_cursor.specs.Reading.{Found, Reader, bind, run, step_of, expect, close, past, name, begins_name}
-use Rattle.go_exprs.specs.Rules.{Parts, expr_item, more_exprs, exprs, call_end, call, bound, index_of, full_slice, slice_end, index, selector, nest, post_item, operand, primary_expr}
-use Rattle.go_exprs.proofs.SoundOperands.{operand_sound}
-use Rattle.go_exprs.proofs.SoundParts.{SoundParts, no_level}
+use Rattle.go_descent.specs.Rules.{Parts, expr_item, more_exprs, exprs, call_end, call, bound, index_of, full_slice, slice_end, index, selector, nest, post_item, operand, primary_expr}
+use Rattle.go_descent.proofs.SoundOperands.{operand_sound}
+use Rattle.go_descent.proofs.SoundParts.{SoundParts, no_level}
 use Rattle.go_cursor.proofs.Steps.{Sound, SoundTurn, with_bind, branch, same, taken, expected, closed, pasts, marks, named_by, run_sound, first_sound, from_none, Adds, AfterComma, comma_item_sound, after_more, receive_taken}
 
 module _ (Body : ℕ → Rule BodyRange) (b : Bool) (h : ℕ) (read : Reader Expr) (sound : Sound (IsExpr Body b h) read) where

@@ -8,7 +8,7 @@ use Rattle.go_syntax.specs.grammar.Symbols.{takes, takes_name, takes_string, beg
 use Rattle.go_syntax.specs.grammar.Terminals.{Terminal, Sign, Identifier}
 use Rattle.go_cursor.specs.Names.{name_item, names, type_name, tag_of, tag}
 use Rattle.go_cursor.specs.Reading.{step_of, string_at}
-use Rattle.go_exprs.proofs.Begins.{if_not, Gives, gives_stop, gives_more, runs}
+use Rattle.go_descent.proofs.Begins.{if_not, Gives, gives_stop, gives_more, runs}
 
 more_names_read : {ts rest : List Terminal} {ns : List Name} → grammar.IsMoreNames ts ns rest → begins kind.Comma rest ≡ false → (acc : List Name) → Gives (step_of name_item) acc ts (Some (acc ++ ns, rest))
 more_names_read {ts} grammar.names_none e acc = gives_stop name_item acc ts (if_not _ _ _ e refl)

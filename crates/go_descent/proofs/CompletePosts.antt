@@ -10,12 +10,13 @@ use Rattle.go_syntax.specs.grammar.Symbols.{Rule, Takes, takes, MayTake, takes_n
 use Rattle.go_syntax.specs.grammar.Terminals.{Terminal, Sign, Identifier}
 use Rattle.go_cursor.specs.LookAheads.{begins_type_switch}
 use Rattle.go_cursor.specs.Reading.{Reader, Next, Stop, More, after, step_of, expect, close, goes_on}
-use Rattle.go_exprs.specs.Rules.{Parts, expr_item, more_exprs, exprs, call_end, call, bound, slice_end, index, selector, post_item, primary_expr}
-use Rattle.go_exprs.proofs.Begins.{read, if_so, if_not, Gives, gives_stop, gives_more, runs, type_begins, type_not_keyword}
-use Rattle.go_exprs.proofs.BeginsExpr.{expr_begins, expr_not_right_paren, expr_not_right_bracket, expr_not_colon, expr_not_receive, expr_not_closing}
-use Rattle.go_exprs.proofs.CompleteOperands.{NoComposite, operand_read}
-use Rattle.go_exprs.proofs.CompleteParts.{CompleteParts, KnownBodies, Over, OverExpr, begins_post, over_comma, over_colon, over_ellipsis, over_right_paren, over_right_bracket}
-use Rattle.go_exprs.proofs.Shorter.{Shortens, may_shorter, marks_shorter, type_shorter, expr_shorter, optional_shorter, exprs_shorter, more_exprs_shorter}
+use Rattle.go_descent.specs.Rules.{Parts, expr_item, more_exprs, exprs, call_end, call, bound, slice_end, index, selector, post_item, primary_expr}
+use Rattle.go_descent.proofs.Begins.{read, if_so, if_not, Gives, gives_stop, gives_more, runs, type_begins, type_not_keyword}
+use Rattle.go_descent.proofs.BeginsExpr.{expr_begins, expr_not_right_paren, expr_not_right_bracket, expr_not_colon, expr_not_receive, expr_not_closing}
+use Rattle.go_descent.proofs.CompleteOperands.{NoComposite, operand_read}
+use Rattle.go_descent.specs.Follow.{Over, OverExpr, begins_post}
+use Rattle.go_descent.proofs.CompleteParts.{CompleteParts, KnownBodies, over_comma, over_colon, over_ellipsis, over_right_paren, over_right_bracket}
+use Rattle.go_descent.proofs.Shorter.{Shortens, may_shorter, marks_shorter, type_shorter, expr_shorter, optional_shorter, exprs_shorter, more_exprs_shorter}
 
 -- Lists of expressions
 
