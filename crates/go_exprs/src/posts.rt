@@ -7,13 +7,13 @@ ghost use Rattle.go_syntax.specs.grammar.Grammar as grammar;
 ghost use Rattle.go_syntax.specs.grammar.Symbols.{begins};
 ghost use Rattle.go_syntax.specs.grammar.Terminals.{terminals};
 ghost use Rattle.go_descent.specs.Levels.{levels};
-ghost use Rattle.go_exprs.specs.Parts.{ReadsBelow};
+ghost use Rattle.go_type_exprs.specs.Parts.{ReadsBelow};
 ghost use Rattle.go_cursor.specs.Reading as reading;
 ghost use Rattle.go_cursor.specs.Reading.{bind, close, run, step_of};
 ghost use Rattle.go_cursor.specs.Reads.{Reads, ReadsNext};
 ghost use Rattle.go_descent.specs.Rules as rules;
 
-use crate::grammar::{Grammar, Part, PartTree};
+use crate::exprs::Exprs;
 use go_base::list::List;
 use go_base::memory::NoMemory;
 use go_cursor::cursor::Cursor;
@@ -23,6 +23,7 @@ use go_syntax::expression::{Expr, Post};
 use go_syntax::held::expression::{HeldExpr, HeldExprs, HeldPosts, boxed_expr};
 use go_syntax::held::types::HeldType;
 use go_syntax::token::TokenKind;
+use go_type_exprs::grammar::{Part, PartTree};
 use std::alloc::Global;
 
 /// An operand and what follows it.
@@ -59,12 +60,12 @@ fn index_of(tokens: &mut Cursor<'_>, index: Option<HeldExpr>) -> Result<Post, Pa
     }
 }
 
-impl<F: Fn(Global, &mut Cursor<'_>, usize, Part) -> Result<PartTree, ParseError>> Grammar<F> {
+impl<F: Fn(Global, &mut Cursor<'_>, usize, Part) -> Result<PartTree, ParseError>> Exprs<F> {
     /// More expressions, each after a comma.
     #[tactic(auto, unfolding(go_descent::specs::Rules::more_exprs))]
     fn more_exprs(&self, tokens: &mut Cursor<'_>, first: HeldExprs) -> Result<HeldExprs, ParseError>
-        requires { ReadsBelow self.now.height (F.pre self.now.below) (F.post self.now.below) }
-        ensures { Reads (rules.more_exprs (levels self.now.height).expr first (terminals tokens.old)) result tokens.new }
+        requires { ReadsBelow self.now.grammar.height (F.pre self.now.grammar.below) (F.post self.now.grammar.below) }
+        ensures { Reads (rules.more_exprs (levels self.now.grammar.height).expr first (terminals tokens.old)) result tokens.new }
     {
         let mut exprs = first;
         for _turn in 0..tokens.len() {
@@ -72,7 +73,7 @@ impl<F: Fn(Global, &mut Cursor<'_>, usize, Part) -> Result<PartTree, ParseError>
                 return Ok(exprs);
             }
             tokens.advance();
-            exprs.push(self.expr_below(tokens)?)?;
+            exprs.push(self.grammar.expr_below(tokens)?)?;
         }
         Ok(exprs)
     }
@@ -80,11 +81,11 @@ impl<F: Fn(Global, &mut Cursor<'_>, usize, Part) -> Result<PartTree, ParseError>
     /// Expressions with commas between them.
     #[tactic(auto, unfolding(go_descent::specs::Rules::exprs))]
     pub fn exprs(&self, tokens: &mut Cursor<'_>) -> Result<HeldExprs, ParseError>
-        requires { ReadsBelow self.now.height (F.pre self.now.below) (F.post self.now.below) }
-        ensures { Reads (rules.exprs (levels self.now.height).expr (terminals tokens.old)) result tokens.new }
+        requires { ReadsBelow self.now.grammar.height (F.pre self.now.grammar.below) (F.post self.now.grammar.below) }
+        ensures { Reads (rules.exprs (levels self.now.grammar.height).expr (terminals tokens.old)) result tokens.new }
     {
-        let mut first = HeldExprs::new(self.alloc);
-        first.push(self.expr_below(tokens)?)?;
+        let mut first = HeldExprs::new(self.grammar.alloc);
+        first.push(self.grammar.expr_below(tokens)?)?;
         self.more_exprs(tokens, first)
     }
 
@@ -103,8 +104,8 @@ impl<F: Fn(Global, &mut Cursor<'_>, usize, Part) -> Result<PartTree, ParseError>
     /// A call with one argument or more, from behind `(` on.
     #[tactic(auto, unfolding(go_descent::specs::Rules::call_end, go_cursor::specs::Reading::close))]
     fn plain_call(&self, tokens: &mut Cursor<'_>) -> Result<Post, ParseError>
-        requires { ReadsBelow self.now.height (F.pre self.now.below) (F.post self.now.below) }
-        ensures { Reads (bind (rules.exprs (levels self.now.height).expr (terminals tokens.old)) (λ xs u. rules.call_end (post.Call xs (begins kind.Ellipsis u)) u)) result tokens.new }
+        requires { ReadsBelow self.now.grammar.height (F.pre self.now.grammar.below) (F.post self.now.grammar.below) }
+        ensures { Reads (bind (rules.exprs (levels self.now.grammar.height).expr (terminals tokens.old)) (λ xs u. rules.call_end (post.Call xs (begins kind.Ellipsis u)) u)) result tokens.new }
     {
         let arguments = self.exprs(tokens)?;
         let spread = self.call_end(tokens)?;
@@ -114,11 +115,11 @@ impl<F: Fn(Global, &mut Cursor<'_>, usize, Part) -> Result<PartTree, ParseError>
     /// A call whose first argument is `<-chan T`, from behind `chan` on.
     #[tactic(auto, unfolding(go_descent::specs::Rules::call_end, go_cursor::specs::Reading::close))]
     fn receive_call(&self, tokens: &mut Cursor<'_>) -> Result<Post, ParseError>
-        requires { ReadsBelow self.now.height (F.pre self.now.below) (F.post self.now.below) }
-        ensures { Reads (bind ((levels self.now.height).typ (terminals tokens.old)) (λ t u. bind (rules.more_exprs (levels self.now.height).expr [] u) (λ xs v. rules.call_end (post.CallReceiveChan t xs (begins kind.Ellipsis v)) v))) result tokens.new }
+        requires { ReadsBelow self.now.grammar.height (F.pre self.now.grammar.below) (F.post self.now.grammar.below) }
+        ensures { Reads (bind ((levels self.now.grammar.height).typ (terminals tokens.old)) (λ t u. bind (rules.more_exprs (levels self.now.grammar.height).expr [] u) (λ xs v. rules.call_end (post.CallReceiveChan t xs (begins kind.Ellipsis v)) v))) result tokens.new }
     {
-        let element = HeldType::new(self.type_below(tokens)?);
-        let arguments = self.more_exprs(tokens, HeldExprs::new(self.alloc))?;
+        let element = HeldType::new(self.grammar.type_below(tokens)?);
+        let arguments = self.more_exprs(tokens, HeldExprs::new(self.grammar.alloc))?;
         let spread = self.call_end(tokens)?;
         Ok(Post::CallReceiveChan(element.take(), arguments.take(), spread))
     }
@@ -126,12 +127,12 @@ impl<F: Fn(Global, &mut Cursor<'_>, usize, Part) -> Result<PartTree, ParseError>
     /// A call, from behind `(` on.
     #[tactic(auto, unfolding(go_descent::specs::Rules::call))]
     fn call(&self, tokens: &mut Cursor<'_>) -> Result<Post, ParseError>
-        requires { ReadsBelow self.now.height (F.pre self.now.below) (F.post self.now.below) }
-        ensures { Reads (rules.call (levels self.now.height) (terminals tokens.old)) result tokens.new }
+        requires { ReadsBelow self.now.grammar.height (F.pre self.now.grammar.below) (F.post self.now.grammar.below) }
+        ensures { Reads (rules.call (levels self.now.grammar.height) (terminals tokens.old)) result tokens.new }
     {
         if tokens.begins(TokenKind::RightParen) {
             tokens.advance();
-            return Ok(Post::Call(List::new(self.alloc), false));
+            return Ok(Post::Call(List::new(self.grammar.alloc), false));
         }
         if tokens.begins_receive() {
             tokens.advance_twice();
@@ -143,13 +144,13 @@ impl<F: Fn(Global, &mut Cursor<'_>, usize, Part) -> Result<PartTree, ParseError>
     /// An index or a bound, which may be missing before `:` and `]`.
     #[tactic(auto, unfolding(go_descent::specs::Rules::bound))]
     fn bound(&self, tokens: &mut Cursor<'_>) -> Result<Option<HeldExpr>, ParseError>
-        requires { ReadsBelow self.now.height (F.pre self.now.below) (F.post self.now.below) }
-        ensures { Reads (rules.bound (levels self.now.height) (terminals tokens.old)) result tokens.new }
+        requires { ReadsBelow self.now.grammar.height (F.pre self.now.grammar.below) (F.post self.now.grammar.below) }
+        ensures { Reads (rules.bound (levels self.now.grammar.height) (terminals tokens.old)) result tokens.new }
     {
         if tokens.begins(TokenKind::Colon) || tokens.begins(TokenKind::RightBracket) {
             return Ok(None);
         }
-        Ok(Some(HeldExpr::new(self.expr_below(tokens)?)))
+        Ok(Some(HeldExpr::new(self.grammar.expr_below(tokens)?)))
     }
 
     /// The bound behind the second `:` of a slice, which has one before it.
@@ -160,13 +161,13 @@ impl<F: Fn(Global, &mut Cursor<'_>, usize, Part) -> Result<PartTree, ParseError>
         low: Option<HeldExpr>,
         high: Option<HeldExpr>,
     ) -> Result<Post, ParseError>
-        requires { ReadsBelow self.now.height (F.pre self.now.below) (F.post self.now.below) }
-        ensures { Reads (rules.full_slice (levels self.now.height) low high (terminals tokens.old)) result tokens.new }
+        requires { ReadsBelow self.now.grammar.height (F.pre self.now.grammar.below) (F.post self.now.grammar.below) }
+        ensures { Reads (rules.full_slice (levels self.now.grammar.height) low high (terminals tokens.old)) result tokens.new }
     {
         match high {
             None => Err(ParseError::Syntax),
             Some(high) => {
-                let max = HeldExpr::new(self.expr_below(tokens)?);
+                let max = HeldExpr::new(self.grammar.expr_below(tokens)?);
                 tokens.expect(TokenKind::RightBracket)?;
                 Ok(Post::FullSlice(taken(low), high.take(), max.take()))
             }
@@ -181,8 +182,8 @@ impl<F: Fn(Global, &mut Cursor<'_>, usize, Part) -> Result<PartTree, ParseError>
         low: Option<HeldExpr>,
         high: Option<HeldExpr>,
     ) -> Result<Post, ParseError>
-        requires { ReadsBelow self.now.height (F.pre self.now.below) (F.post self.now.below) }
-        ensures { Reads (rules.slice_end (levels self.now.height) low high (terminals tokens.old)) result tokens.new }
+        requires { ReadsBelow self.now.grammar.height (F.pre self.now.grammar.below) (F.post self.now.grammar.below) }
+        ensures { Reads (rules.slice_end (levels self.now.grammar.height) low high (terminals tokens.old)) result tokens.new }
     {
         if tokens.begins(TokenKind::Colon) {
             tokens.advance();
@@ -195,8 +196,8 @@ impl<F: Fn(Global, &mut Cursor<'_>, usize, Part) -> Result<PartTree, ParseError>
     /// An index or a slice, from behind `[` on.
     #[tactic(auto, unfolding(go_descent::specs::Rules::index))]
     fn index(&self, tokens: &mut Cursor<'_>) -> Result<Post, ParseError>
-        requires { ReadsBelow self.now.height (F.pre self.now.below) (F.post self.now.below) }
-        ensures { Reads (rules.index (levels self.now.height) (terminals tokens.old)) result tokens.new }
+        requires { ReadsBelow self.now.grammar.height (F.pre self.now.grammar.below) (F.post self.now.grammar.below) }
+        ensures { Reads (rules.index (levels self.now.grammar.height) (terminals tokens.old)) result tokens.new }
     {
         let low = self.bound(tokens)?;
         if !tokens.begins(TokenKind::Colon) {
@@ -210,17 +211,17 @@ impl<F: Fn(Global, &mut Cursor<'_>, usize, Part) -> Result<PartTree, ParseError>
     /// A selector or a type assertion, from behind `.` on.
     #[tactic(auto, unfolding(go_descent::specs::Rules::selector, go_cursor::specs::Reading::close, go_cursor::specs::Reading::expect))]
     fn selector(&self, tokens: &mut Cursor<'_>) -> Result<Post, ParseError>
-        requires { ReadsBelow self.now.height (F.pre self.now.below) (F.post self.now.below) }
-        ensures { Reads (rules.selector (levels self.now.height) (terminals tokens.old)) result tokens.new }
+        requires { ReadsBelow self.now.grammar.height (F.pre self.now.grammar.below) (F.post self.now.grammar.below) }
+        ensures { Reads (rules.selector (levels self.now.grammar.height) (terminals tokens.old)) result tokens.new }
     {
         if tokens.begins_name() {
-            return Ok(Post::Selector(tokens.name(self.alloc)?));
+            return Ok(Post::Selector(tokens.name(self.grammar.alloc)?));
         }
-        if !self.is_deep() {
+        if !self.grammar.is_deep() {
             return Err(ParseError::Syntax);
         }
         tokens.expect(TokenKind::LeftParen)?;
-        let type_ = HeldType::new(self.type_below(tokens)?);
+        let type_ = HeldType::new(self.grammar.type_below(tokens)?);
         tokens.expect(TokenKind::RightParen)?;
         Ok(Post::TypeAssertion(type_.take()))
     }
@@ -228,18 +229,18 @@ impl<F: Fn(Global, &mut Cursor<'_>, usize, Part) -> Result<PartTree, ParseError>
     /// What follows here, if anything does.
     #[tactic(auto, unfolding(go_descent::specs::Rules::post_item))]
     fn post_item(&self, tokens: &mut Cursor<'_>) -> Result<Option<Post>, ParseError>
-        requires { ReadsBelow self.now.height (F.pre self.now.below) (F.post self.now.below) }
-        ensures { ReadsNext (rules.post_item (levels self.now.height) (terminals tokens.old)) (terminals tokens.old) result tokens.new }
+        requires { ReadsBelow self.now.grammar.height (F.pre self.now.grammar.below) (F.post self.now.grammar.below) }
+        ensures { ReadsNext (rules.post_item (levels self.now.grammar.height) (terminals tokens.old)) (terminals tokens.old) result tokens.new }
     {
         if tokens.begins(TokenKind::LeftParen) {
-            if !self.is_deep() {
+            if !self.grammar.is_deep() {
                 return Err(ParseError::Syntax);
             }
             tokens.advance();
             return Ok(Some(self.call(tokens)?));
         }
         if tokens.begins(TokenKind::LeftBracket) {
-            if !self.is_deep() {
+            if !self.grammar.is_deep() {
                 return Err(ParseError::Syntax);
             }
             tokens.advance();
@@ -254,10 +255,10 @@ impl<F: Fn(Global, &mut Cursor<'_>, usize, Part) -> Result<PartTree, ParseError>
 
     /// All that follows here.
     fn posts(&self, tokens: &mut Cursor<'_>) -> Result<HeldPosts, ParseError>
-        requires { ReadsBelow self.now.height (F.pre self.now.below) (F.post self.now.below) }
-        ensures { Reads (run (step_of (rules.post_item (levels self.now.height))) [] (terminals tokens.old)) result tokens.new }
+        requires { ReadsBelow self.now.grammar.height (F.pre self.now.grammar.below) (F.post self.now.grammar.below) }
+        ensures { Reads (run (step_of (rules.post_item (levels self.now.grammar.height))) [] (terminals tokens.old)) result tokens.new }
     {
-        let mut posts = HeldPosts::new(self.alloc);
+        let mut posts = HeldPosts::new(self.grammar.alloc);
         for _turn in 0..tokens.len() {
             match self.post_item(tokens)? {
                 None => return Ok(posts),
@@ -270,11 +271,11 @@ impl<F: Fn(Global, &mut Cursor<'_>, usize, Part) -> Result<PartTree, ParseError>
     /// An operand and what follows it.
     #[tactic(auto, unfolding(go_descent::specs::Rules::primary_expr))]
     pub fn primary_expr(&self, composite: bool, tokens: &mut Cursor<'_>) -> Result<Expr, ParseError>
-        requires { ReadsBelow self.now.height (F.pre self.now.below) (F.post self.now.below) }
-        ensures { Reads (rules.primary_expr composite (levels self.now.height) (terminals tokens.old)) result tokens.new }
+        requires { ReadsBelow self.now.grammar.height (F.pre self.now.grammar.below) (F.post self.now.grammar.below) }
+        ensures { Reads (rules.primary_expr composite (levels self.now.grammar.height) (terminals tokens.old)) result tokens.new }
     {
         let operand = HeldExpr::new(self.operand(composite, tokens)?);
         let posts = self.posts(tokens)?;
-        Ok(primary_of(self.alloc, operand.take(), posts)?)
+        Ok(primary_of(self.grammar.alloc, operand.take(), posts)?)
     }
 }
