@@ -1,5 +1,5 @@
 -- What it is for readers of parts to find each tree, and what follows an expression.
-use Rattle.std.proofs.Common.{◌≡◌, ℕ, zero, suc, List, [], ◌∷◌, Bool, true, false, if◌then◌else◌, Some, None, refl}
+use Rattle.std.proofs.Common.{◌≡◌, ℕ, suc, List, ◌∷◌, Bool, true, false, Some, None, refl}
 use Rattle.go_syntax.specs.declared.expression.Element.{Element}
 use Rattle.go_syntax.specs.declared.expression.Expr.{Expr}
 use Rattle.go_syntax.specs.declared.body.BodyRange.{BodyRange}
@@ -7,7 +7,7 @@ use Rattle.go_syntax.specs.declared.types.Signature.{Signature}
 use Rattle.go_syntax.specs.declared.types.«Type».{«Type» as Typ}
 use Rattle.go_syntax.specs.declared.token.TokenKind.TheVariants as kind
 use Rattle.go_syntax.specs.grammar.Grammar.{IsType, IsCompositeType, IsSignature, IsExpr, IsUnary, IsLiteralValue, comparison, sum_operator, product_operator}
-use Rattle.go_syntax.specs.grammar.Symbols.{Rule, takes, Ends, ends_semicolon, ends_closing, begins, closes, sign_at}
+use Rattle.go_syntax.specs.grammar.Symbols.{Rule, begins, sign_at}
 use Rattle.go_syntax.specs.grammar.Terminals.{Terminal, Sign, Extent}
 use Rattle.go_cursor.specs.Skipping.{is_composite}
 use Rattle.go_cursor.proofs.Steps.{Below}
@@ -20,9 +20,6 @@ pub over : (b : Bool) (ts : List Terminal) → begins_post ts ≡ false → (b �
     → operator_at comparison (sign_at ts) ≡ None → begins kind.LogicalAnd ts ≡ false → begins kind.LogicalOr ts ≡ false → OverExpr b ts
 over b ts p l q s c a o = record { conjunct = record { comparing = record { sum = record { product = record { operand = record { post = p; brace = l }; operator = q }; operator = s }; operator = c }; operator = a }; operator = o }
 
-pub over_none : (b : Bool) → OverExpr b []
-over_none b = over b [] refl (λ _. refl) refl refl refl refl refl
-
 pub over_right_paren : (b : Bool) (at : Extent) (ts : List Terminal) → OverExpr b (Sign kind.RightParen at ∷ ts)
 over_right_paren b at ts = over b (Sign kind.RightParen at ∷ ts) refl (λ _. refl) refl refl refl refl refl
 
@@ -31,10 +28,6 @@ over_right_bracket b at ts = over b (Sign kind.RightBracket at ∷ ts) refl (λ 
 
 pub over_right_brace : (b : Bool) (at : Extent) (ts : List Terminal) → OverExpr b (Sign kind.RightBrace at ∷ ts)
 over_right_brace b at ts = over b (Sign kind.RightBrace at ∷ ts) refl (λ _. refl) refl refl refl refl refl
-
--- between `if`, `for` or `switch` and a block
-pub over_left_brace : (at : Extent) (ts : List Terminal) → OverExpr false (Sign kind.LeftBrace at ∷ ts)
-over_left_brace at ts = over false (Sign kind.LeftBrace at ∷ ts) refl (λ e. absurd (cc)) refl refl refl refl refl
 
 pub over_comma : (b : Bool) (at : Extent) (ts : List Terminal) → OverExpr b (Sign kind.Comma at ∷ ts)
 over_comma b at ts = over b (Sign kind.Comma at ∷ ts) refl (λ _. refl) refl refl refl refl refl
@@ -47,16 +40,6 @@ over_semicolon b at ts = over b (Sign kind.Semicolon at ∷ ts) refl (λ _. refl
 
 pub over_ellipsis : (b : Bool) (at : Extent) (ts : List Terminal) → OverExpr b (Sign kind.Ellipsis at ∷ ts)
 over_ellipsis b at ts = over b (Sign kind.Ellipsis at ∷ ts) refl (λ _. refl) refl refl refl refl refl
-
-pub over_closing : (b : Bool) (ts : List Terminal) → closes ts ≡ true → OverExpr b ts
-over_closing b (Sign kind.RightParen at ∷ ts) e = over_right_paren b at ts
-over_closing b (Sign kind.RightBrace at ∷ ts) e = over_right_brace b at ts
-over_closing b _ e = absurd (cc)
-
--- before the end of a declaration, a field or a method
-pub over_ends : (b : Bool) {ts rest : List Terminal} → Ends ts rest → OverExpr b ts
-over_ends b {rest = rest} (ends_semicolon (takes at)) = over_semicolon b at rest
-over_ends b {ts = ts} (ends_closing e) = over_closing b ts e
 
 -- the readers find each tree of a height below n
 pub record CompleteParts (Body : ℕ → Rule BodyRange) (l : Parts) (n : ℕ) : Type 0 where

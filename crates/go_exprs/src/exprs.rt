@@ -1,8 +1,8 @@
-//! The readers of expressions, whose parts are of lower heights.
-use go_type_exprs::grammar::Grammar;
+//! The readers of expressions.
+use go_primary_exprs::primary::PrimaryExprs;
 
-/// The readers of expressions whose parts have a height below that of the grammar.
+/// The readers of expressions whose parts have a height below that of the grammar of primary ones.
 #[derive(Clone, Copy)]
 pub struct Exprs<F> {
-    pub grammar: Grammar<F>,
+    pub primary: PrimaryExprs<F>,
 }

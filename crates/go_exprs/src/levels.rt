@@ -9,6 +9,7 @@ ghost use Rattle.go_cursor.specs.Skipping.{skipped_body};
 use crate::exprs::Exprs;
 use go_cursor::cursor::Cursor;
 use go_cursor::error::ParseError;
+use go_primary_exprs::primary::PrimaryExprs;
 use go_syntax::held::expression::HeldExpr;
 use go_syntax::held::types::{HeldSignature, HeldType};
 use go_type_exprs::grammar::{Grammar, Part, PartTree};
@@ -17,22 +18,22 @@ use std::alloc::Global;
 impl<F: Fn(Global, &mut Cursor<'_>, usize, Part) -> Result<PartTree, ParseError>> Exprs<F> {
     /// A part whose own parts are of lower heights.
     fn part(&self, tokens: &mut Cursor<'_>, part: Part) -> Result<PartTree, ParseError>
-        requires { ReadsBelow self.now.grammar.height (F.pre self.now.grammar.below) (F.post self.now.grammar.below) }
-        ensures { ReadsPart (rules.whole_parts skipped_body (levels self.now.grammar.height)) part (terminals tokens.old) result tokens.new }
+        requires { ReadsBelow self.now.primary.grammar.height (F.pre self.now.primary.grammar.below) (F.post self.now.primary.grammar.below) }
+        ensures { ReadsPart (rules.whole_parts skipped_body (levels self.now.primary.grammar.height)) part (terminals tokens.old) result tokens.new }
     {
         match part {
             Part::Expr => Ok(PartTree::Expr(HeldExpr::new(self.expr(true, tokens)?))),
             Part::Unary(composite) => {
                 Ok(PartTree::Expr(HeldExpr::new(self.unary_expr(composite, tokens)?)))
             }
-            Part::Type => Ok(PartTree::Type(HeldType::new(self.grammar.type_(tokens)?))),
+            Part::Type => Ok(PartTree::Type(HeldType::new(self.primary.grammar.type_(tokens)?))),
             Part::CompositeType => Ok(PartTree::Type(HeldType::new(
-                self.grammar.composite_type(tokens)?,
+                self.primary.grammar.composite_type(tokens)?,
             ))),
             Part::Signature => {
-                Ok(PartTree::Signature(HeldSignature::new(self.grammar.signature(tokens)?)))
+                Ok(PartTree::Signature(HeldSignature::new(self.primary.grammar.signature(tokens)?)))
             }
-            Part::LiteralValue => Ok(PartTree::LiteralValue(self.literal_value(tokens)?)),
+            Part::LiteralValue => Ok(PartTree::LiteralValue(self.primary.literal_value(tokens)?)),
         }
     }
 }
@@ -54,5 +55,6 @@ pub(crate) fn below(
         height: height - 1,
         below,
     };
-    Exprs { grammar }.part(tokens, part)
+    let primary = PrimaryExprs { grammar };
+    Exprs { primary }.part(tokens, part)
 }

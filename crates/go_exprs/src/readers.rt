@@ -9,6 +9,7 @@ use crate::exprs::Exprs;
 use crate::levels::below;
 use go_cursor::cursor::Cursor;
 use go_cursor::error::ParseError;
+use go_primary_exprs::primary::PrimaryExprs;
 use go_syntax::body::BodyRange;
 use go_syntax::expression::Expr;
 use go_syntax::held::expression::HeldExprs;
@@ -17,28 +18,16 @@ use go_syntax::types::{Signature, Type};
 use go_type_exprs::grammar::Grammar;
 use std::alloc::Global;
 
-/// The readers of trees of a height below a number, and of those that have such trees as parts. The number is at most
-/// 257, since the recursion takes the more stack the greater it is.
+/// The readers of trees of a height below this, and of those that have such trees as parts. A greater height would
+/// take more of the stack.
 #[derive(Clone, Copy)]
 pub struct Readers {
-    alloc: Global,
-    height: usize,
+    pub alloc: Global,
+    pub height: usize,
+    ghost bounded: { height ≤ 257 },
 }
 
 impl Readers {
-    /// The readers of trees of a height below this.
-    pub fn new(alloc: Global, height: usize) -> Readers
-        requires { height ≤ 257 }
-        ensures { result.height ≡ height }
-    {
-        Readers { alloc, height }
-    }
-
-    /// The allocator that the readers take.
-    pub fn alloc(&self) -> Global {
-        self.alloc
-    }
-
     /// An expression of a lower height.
     pub fn expr_below(&self, tokens: &mut Cursor<'_>) -> Result<Expr, ParseError>
         ensures { Reads ((levels self.now.height).expr (terminals tokens.old)) result tokens.new }
@@ -60,7 +49,8 @@ impl Readers {
             height: self.height,
             below,
         };
-        Exprs { grammar }.exprs(tokens)
+        let primary = PrimaryExprs { grammar };
+        primary.exprs(tokens)
     }
 
     /// A type of a lower height.
@@ -121,7 +111,8 @@ impl Readers {
             height: self.height,
             below,
         };
-        Exprs { grammar }.expr(composite, tokens)
+        let primary = PrimaryExprs { grammar };
+        Exprs { primary }.expr(composite, tokens)
     }
 
     /// The same of the operand of a prefix operator.
@@ -133,7 +124,8 @@ impl Readers {
             height: self.height,
             below,
         };
-        Exprs { grammar }.unary_expr(composite, tokens)
+        let primary = PrimaryExprs { grammar };
+        Exprs { primary }.unary_expr(composite, tokens)
     }
 
     /// The same of an operand and what follows it.
@@ -145,7 +137,8 @@ impl Readers {
             height: self.height,
             below,
         };
-        Exprs { grammar }.primary_expr(composite, tokens)
+        let primary = PrimaryExprs { grammar };
+        primary.primary_expr(composite, tokens)
     }
 
     /// A type whose parts are of lower heights.

@@ -85,7 +85,7 @@ fn const_end(
     Ok(ConstSpec {
         names,
         type_: None,
-        values: List::new(readers.alloc()),
+        values: List::new(readers.alloc),
     })
 }
 
@@ -94,7 +94,7 @@ fn const_end(
 fn const_spec(readers: &Readers, tokens: &mut Cursor<'_>) -> Result<ConstSpec, ParseError>
     ensures { Reads (rules.const_spec (levels readers.now.height) (terminals tokens.old)) result tokens.new }
 {
-    let found = names(readers.alloc(), tokens)?;
+    let found = names(readers.alloc, tokens)?;
     const_end(readers, tokens, found)
 }
 
@@ -102,7 +102,7 @@ fn const_spec(readers: &Readers, tokens: &mut Cursor<'_>) -> Result<ConstSpec, P
 fn const_specs(readers: &Readers, tokens: &mut Cursor<'_>) -> Result<HeldConstSpecs, ParseError>
     ensures { Reads (rules.specs (rules.const_spec (levels readers.now.height)) (terminals tokens.old)) result tokens.new }
 {
-    let mut specs = HeldConstSpecs::new(readers.alloc());
+    let mut specs = HeldConstSpecs::new(readers.alloc);
     for _turn in 0..tokens.len() {
         if tokens.closes() {
             return Ok(specs);
@@ -124,7 +124,7 @@ pub fn const_group(readers: &Readers, tokens: &mut Cursor<'_>) -> Result<HeldCon
         tokens.expect(TokenKind::RightParen)?;
         return Ok(specs);
     }
-    let mut specs = HeldConstSpecs::new(readers.alloc());
+    let mut specs = HeldConstSpecs::new(readers.alloc);
     specs.push(const_spec(readers, tokens)?)?;
     Ok(specs)
 }
@@ -143,7 +143,7 @@ fn typed_var(
         return Ok(VarSpec {
             names,
             type_: Some(type_.take()),
-            values: List::new(readers.alloc()),
+            values: List::new(readers.alloc),
         });
     }
     tokens.advance();
@@ -182,7 +182,7 @@ fn var_end(
 fn var_spec(readers: &Readers, tokens: &mut Cursor<'_>) -> Result<VarSpec, ParseError>
     ensures { Reads (rules.var_spec (levels readers.now.height) (terminals tokens.old)) result tokens.new }
 {
-    let found = names(readers.alloc(), tokens)?;
+    let found = names(readers.alloc, tokens)?;
     var_end(readers, tokens, found)
 }
 
@@ -190,7 +190,7 @@ fn var_spec(readers: &Readers, tokens: &mut Cursor<'_>) -> Result<VarSpec, Parse
 fn var_specs(readers: &Readers, tokens: &mut Cursor<'_>) -> Result<HeldVarSpecs, ParseError>
     ensures { Reads (rules.specs (rules.var_spec (levels readers.now.height)) (terminals tokens.old)) result tokens.new }
 {
-    let mut specs = HeldVarSpecs::new(readers.alloc());
+    let mut specs = HeldVarSpecs::new(readers.alloc);
     for _turn in 0..tokens.len() {
         if tokens.closes() {
             return Ok(specs);
@@ -212,7 +212,7 @@ pub fn var_group(readers: &Readers, tokens: &mut Cursor<'_>) -> Result<HeldVarSp
         tokens.expect(TokenKind::RightParen)?;
         return Ok(specs);
     }
-    let mut specs = HeldVarSpecs::new(readers.alloc());
+    let mut specs = HeldVarSpecs::new(readers.alloc);
     specs.push(var_spec(readers, tokens)?)?;
     Ok(specs)
 }
@@ -236,7 +236,7 @@ fn type_end(
 fn type_spec(readers: &Readers, tokens: &mut Cursor<'_>) -> Result<TypeSpec, ParseError>
     ensures { Reads (rules.type_spec (levels readers.now.height) (terminals tokens.old)) result tokens.new }
 {
-    let name = tokens.name(readers.alloc())?;
+    let name = tokens.name(readers.alloc)?;
     if tokens.begins(TokenKind::Assign) {
         tokens.advance();
         return type_end(readers, tokens, name, true);
@@ -248,7 +248,7 @@ fn type_spec(readers: &Readers, tokens: &mut Cursor<'_>) -> Result<TypeSpec, Par
 fn type_specs(readers: &Readers, tokens: &mut Cursor<'_>) -> Result<HeldTypeSpecs, ParseError>
     ensures { Reads (rules.specs (rules.type_spec (levels readers.now.height)) (terminals tokens.old)) result tokens.new }
 {
-    let mut specs = HeldTypeSpecs::new(readers.alloc());
+    let mut specs = HeldTypeSpecs::new(readers.alloc);
     for _turn in 0..tokens.len() {
         if tokens.closes() {
             return Ok(specs);
@@ -270,7 +270,7 @@ fn type_group(readers: &Readers, tokens: &mut Cursor<'_>) -> Result<HeldTypeSpec
         tokens.expect(TokenKind::RightParen)?;
         return Ok(specs);
     }
-    let mut specs = HeldTypeSpecs::new(readers.alloc());
+    let mut specs = HeldTypeSpecs::new(readers.alloc);
     specs.push(type_spec(readers, tokens)?)?;
     Ok(specs)
 }
@@ -310,7 +310,7 @@ fn func_end(
 ) -> Result<Func, ParseError>
     ensures { Reads (rules.func_end (levels readers.now.height) receiver (terminals tokens.old)) result tokens.new }
 {
-    let name = tokens.name(readers.alloc())?;
+    let name = tokens.name(readers.alloc)?;
     let signature = HeldSignature::new(readers.signature_below(tokens)?);
     let body = optional_body(readers, tokens)?;
     Ok(Func {
@@ -366,7 +366,7 @@ fn func_decl(readers: &Readers, tokens: &mut Cursor<'_>) -> Result<Decl, ParseEr
     ensures { Reads (bind (rules.func (levels readers.now.height) (terminals tokens.old)) (λ f. close kind.Semicolon (decl.FuncDecl f))) result tokens.new }
 {
     let func = func(readers, tokens)?;
-    let decl = HeldDecl::new(Decl::FuncDecl(boxed_func(readers.alloc(), func)?));
+    let decl = HeldDecl::new(Decl::FuncDecl(boxed_func(readers.alloc, func)?));
     tokens.expect(TokenKind::Semicolon)?;
     Ok(decl.take())
 }
@@ -399,7 +399,7 @@ fn decl_item(readers: &Readers, tokens: &mut Cursor<'_>) -> Result<Option<Decl>,
 pub fn decls(readers: &Readers, tokens: &mut Cursor<'_>) -> Result<HeldDecls, ParseError>
     ensures { Reads (rules.decls (levels readers.now.height) (terminals tokens.old)) result tokens.new }
 {
-    let mut decls = HeldDecls::new(readers.alloc());
+    let mut decls = HeldDecls::new(readers.alloc);
     for _turn in 0..tokens.len() {
         match decl_item(readers, tokens)? {
             None => return Ok(decls),

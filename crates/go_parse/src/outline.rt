@@ -49,8 +49,8 @@ fn package_clause(alloc: Global, tokens: &mut Cursor<'_>) -> Result<Name, ParseE
 fn file_below(readers: &Readers, tokens: &mut Cursor<'_>) -> Result<File, ParseError>
     ensures { Reads (rules.file (levels readers.now.height) (terminals tokens.old)) result tokens.new }
 {
-    let package = package_clause(readers.alloc(), tokens)?;
-    let imports = imports(readers.alloc(), tokens)?;
+    let package = package_clause(readers.alloc, tokens)?;
+    let imports = imports(readers.alloc, tokens)?;
     let decls = decls(readers, tokens)?;
     Ok(File {
         package,
@@ -63,7 +63,10 @@ fn file_below(readers: &Readers, tokens: &mut Cursor<'_>) -> Result<File, ParseE
 fn file(alloc: Global, tokens: &mut Cursor<'_>) -> Result<File, ParseError>
     ensures { Reads (rules.file (levels 257) (terminals tokens.old)) result tokens.new }
 {
-    let readers = Readers::new(alloc, MAX_HEIGHT + 1);
+    let readers = Readers {
+        alloc,
+        height: MAX_HEIGHT + 1,
+    };
     file_below(&readers, tokens)
 }
 

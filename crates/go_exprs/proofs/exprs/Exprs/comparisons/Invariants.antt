@@ -7,4 +7,4 @@ use Rattle.go_descent.specs.Rules.{step_both, operation, sum_expr}
 use Rattle.go_exprs.proofs.exprs.Exprs.comparisons.Given as goal
 
 abbrev pub invariant-loop-turn : goal.invariant-loop-turn
-invariant-loop-turn g l = run (step_both (operation comparison (sum_expr l.composite (levels l.self.grammar.height)))) ([], []) (terminals l.fn.tokens) ≡ loop (step_both (operation comparison (sum_expr l.composite (levels l.self.grammar.height)))) (l._turn-end - l._turn) (l.operators, l.operands) (terminals l.tokens)
+invariant-loop-turn g l = run (step_both (operation comparison (sum_expr l.composite (levels l.self.primary.grammar.height)))) ([], []) (terminals l.fn.tokens) ≡ loop (step_both (operation comparison (sum_expr l.composite (levels l.self.primary.grammar.height)))) (l._turn-end - l._turn) (l.operators, l.operands) (terminals l.tokens)

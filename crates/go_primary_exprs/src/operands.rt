@@ -12,7 +12,7 @@ ghost use Rattle.go_cursor.specs.Reads.{Reads};
 ghost use Rattle.go_descent.specs.Rules as rules;
 ghost use Rattle.go_cursor.specs.Names as name_rules;
 
-use crate::exprs::Exprs;
+use crate::primary::PrimaryExprs;
 use go_cursor::cursor::Cursor;
 use go_cursor::error::ParseError;
 use go_cursor::looks::names_composite;
@@ -26,7 +26,7 @@ use go_syntax::types::Type;
 use go_type_exprs::grammar::{Part, PartTree};
 use std::alloc::Global;
 
-impl<F: Fn(Global, &mut Cursor<'_>, usize, Part) -> Result<PartTree, ParseError>> Exprs<F> {
+impl<F: Fn(Global, &mut Cursor<'_>, usize, Part) -> Result<PartTree, ParseError>> PrimaryExprs<F> {
     /// A name that is an operand.
     fn plain_name(&self, tokens: &mut Cursor<'_>) -> Result<Expr, ParseError>
         ensures { Reads (bind (reading.name (terminals tokens.old)) (λ n u. Some (expr.Name n, u))) result tokens.new }

@@ -13,7 +13,7 @@ ghost use Rattle.go_cursor.specs.Reading.{bind, close, run, step_of};
 ghost use Rattle.go_cursor.specs.Reads.{Reads, ReadsNext};
 ghost use Rattle.go_descent.specs.Rules as rules;
 
-use crate::exprs::Exprs;
+use crate::primary::PrimaryExprs;
 use go_base::list::List;
 use go_base::memory::NoMemory;
 use go_cursor::cursor::Cursor;
@@ -60,7 +60,7 @@ fn index_of(tokens: &mut Cursor<'_>, index: Option<HeldExpr>) -> Result<Post, Pa
     }
 }
 
-impl<F: Fn(Global, &mut Cursor<'_>, usize, Part) -> Result<PartTree, ParseError>> Exprs<F> {
+impl<F: Fn(Global, &mut Cursor<'_>, usize, Part) -> Result<PartTree, ParseError>> PrimaryExprs<F> {
     /// More expressions, each after a comma.
     #[tactic(auto, unfolding(go_descent::specs::Rules::more_exprs))]
     fn more_exprs(&self, tokens: &mut Cursor<'_>, first: HeldExprs) -> Result<HeldExprs, ParseError>

@@ -7,7 +7,7 @@ ghost use Rattle.go_cursor.specs.Reading.{run, step_of};
 ghost use Rattle.go_cursor.specs.Reads.{Reads};
 ghost use Rattle.go_descent.specs.Rules as rules;
 
-use crate::exprs::Exprs;
+use crate::primary::PrimaryExprs;
 use go_base::list::List;
 use go_cursor::cursor::Cursor;
 use go_cursor::error::ParseError;
@@ -17,7 +17,7 @@ use go_syntax::token::TokenKind;
 use go_type_exprs::grammar::{Part, PartTree};
 use std::alloc::Global;
 
-impl<F: Fn(Global, &mut Cursor<'_>, usize, Part) -> Result<PartTree, ParseError>> Exprs<F> {
+impl<F: Fn(Global, &mut Cursor<'_>, usize, Part) -> Result<PartTree, ParseError>> PrimaryExprs<F> {
     /// A key or a value: an expression, or elements in braces.
     #[tactic(auto, unfolding(go_descent::specs::Rules::element_value))]
     fn element_value(&self, tokens: &mut Cursor<'_>) -> Result<ElementValue, ParseError>

@@ -7,7 +7,7 @@ use Rattle.go_descent.specs.Rules.{element_of}
 use Rattle.go_cursor.proofs.Handed.{handed}
 use Rattle.go_cursor.proofs.Items.{item, item_stops, item_fails, item_goes_on, starts}
 use Rattle.go_cursor.proofs.Turns.{one_more, no_more}
-use Rattle.go_exprs.proofs.exprs.Exprs.more_elements.Goals as goal
+use Rattle.go_primary_exprs.proofs.primary.PrimaryExprs.more_elements.Goals as goal
 
 abbrev read : ℕ → Reader Element
 read h = element_of (levels h)
