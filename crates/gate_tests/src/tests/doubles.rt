@@ -60,7 +60,11 @@ fn lists_each_entry_of_a_folder_once(rt: HostRuntime) -> Result<(), Fail> {
         ("m/a/b", "c.go", EntryKind::File),
     ];
     for (folder, name, kind) in entries {
-        assert_eq!(rt; times(alloc, &mut store, folder, name, kind)?, 1, "{name} in {folder}");
+        assert_eq!(rt;
+            times(alloc, &mut store, folder, name, kind)?,
+            1,
+            "{name} in {folder}"
+        );
     }
     for (folder, count) in [("m", 4usize), ("m/a", 2), ("m/a/b", 1)] {
         let listed = store.list(alloc, folder.as_bytes())?;

@@ -240,9 +240,10 @@ fn misses(alloc: Global, files: &mut Odd, wanted: &[u8]) -> bool {
 
 #[test]
 fn names_what_a_store_lists_and_has_not(rt: HostRuntime) {
-    for (file_gone, folder_gone, wanted) in
-        [(true, false, b"x.go".as_slice()), (false, true, b"d")]
-    {
+    for (file_gone, folder_gone, wanted) in [
+        (true, false, b"x.go".as_slice()),
+        (false, true, b"d"),
+    ] {
         let mut files = Odd {
             file_gone,
             folder_gone,
