@@ -1,5 +1,5 @@
 //! Sources whose tokens are changed, so that lists are read that no source has.
-ghost use Rattle.std.specs.Prelude.{◌≡◌, ◌≤◌, length, IfErr};
+ghost use Rattle.std.specs.Prelude.{◌≤◌, length};
 
 use crate::reading::{Reading, outline_of};
 use frames::fault::Fault;
@@ -28,11 +28,9 @@ fn change_tokens(tokens: &mut Vec<Token>, change: Change) {
     }
 }
 
-/// The tree of a source's tokens after the change, if they are in the grammar. Answers `NoMemory` alone, where memory is
-/// wanting.
+/// The tree of a source's tokens after the change, if they are in the grammar.
 pub fn reading_of_changed(alloc: Global, source: &[u8], change: Change) -> Result<Reading, Fault>
     requires { length source.now ≤ 4194304 }
-    ensures { IfErr result (λ e. e ≡ Fault.NoMemory) }
 {
     match scan(alloc, source) {
         Ok(tokens) => {

@@ -1,5 +1,5 @@
 //! What a source is.
-ghost use Rattle.std.specs.Prelude.{◌≡◌, ◌≤◌, length, IfOk, IfErr};
+ghost use Rattle.std.specs.Prelude.{◌≤◌, length, IfOk};
 ghost use Rattle.syntax.specs.Readings.{IsOutline, IsReading};
 
 use frames::fault::Fault;
@@ -19,10 +19,9 @@ pub enum Reading {
     Syntax,
 }
 
-/// The tree of tokens, if they are in the grammar. Answers `NoMemory` alone, where memory is wanting.
+/// The tree of tokens, if they are in the grammar.
 pub fn outline_of(alloc: Global, tokens: &[Token]) -> Result<Reading, Fault>
-    ensures reading { IfOk result (IsOutline tokens.now) }
-    ensures cause { IfErr result (λ e. e ≡ Fault.NoMemory) }
+    ensures { IfOk result (IsOutline tokens.now) }
 {
     match parse_outline(alloc, tokens) {
         Ok(file) => Ok(Reading::Tree(file)),
@@ -31,12 +30,10 @@ pub fn outline_of(alloc: Global, tokens: &[Token]) -> Result<Reading, Fault>
     }
 }
 
-/// The tree of a source, if its bytes are tokens and these are in the grammar. Answers `NoMemory` alone, where memory
-/// is wanting.
+/// The tree of a source, if its bytes are tokens and these are in the grammar.
 pub fn reading_of(alloc: Global, source: &[u8]) -> Result<Reading, Fault>
     requires { length source.now ≤ 4194304 }
-    ensures reading { IfOk result (IsReading source.now) }
-    ensures cause { IfErr result (λ e. e ≡ Fault.NoMemory) }
+    ensures { IfOk result (IsReading source.now) }
 {
     match scan(alloc, source) {
         Ok(tokens) => outline_of(alloc, tokens.items()),
