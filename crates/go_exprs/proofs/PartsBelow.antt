@@ -1,19 +1,17 @@
 -- What is read of a part at height 0, and above it.
-use Rattle.std.proofs.Common.{◌≡◌, ℕ, suc, true, List, Result, Err, sym, subst, refl}
-use Rattle.go_syntax.specs.declared.body.BodyRange.{BodyRange}
+use Rattle.std.proofs.Common.{◌≡◌, ℕ, suc, List, Result, Err, sym, subst, refl}
 use Rattle.go_syntax.specs.declared.token.Token.{Token}
 use Rattle.go_syntax.specs.grammar.Terminals.{Terminal}
 use Rattle.go_cursor.specs.declared.error.ParseError.{ParseError}
 use Rattle.go_cursor.specs.declared.error.ParseError.TheVariants.{Syntax}
-use Rattle.go_exprs.specs.declared.grammar.Part.{Part}
-use Rattle.go_exprs.specs.declared.grammar.Part.TheVariants as part
-use Rattle.go_exprs.specs.declared.grammar.PartTree.{PartTree}
-use Rattle.go_cursor.specs.Reading.{Found}
-use Rattle.go_cursor.specs.Reads.{Reads}
-use Rattle.go_exprs.specs.Rules.{Parts, no_parts, whole_parts}
+use Rattle.go_type_exprs.specs.declared.grammar.Part.{Part}
+use Rattle.go_type_exprs.specs.declared.grammar.Part.TheVariants as part
+use Rattle.go_type_exprs.specs.declared.grammar.PartTree.{PartTree}
+use Rattle.go_descent.specs.Rules.{Parts, no_parts, whole_parts}
 use Rattle.go_cursor.specs.Skipping.{skipped_body}
-use Rattle.go_exprs.specs.Levels.{levels, ReadsPart}
-use Rattle.go_exprs.proofs.Heights.{bottom, higher, some_body}
+use Rattle.go_descent.specs.Levels.{levels}
+use Rattle.go_type_exprs.specs.Parts.{ReadsPart}
+use Rattle.go_descent.proofs.Heights.{bottom, higher}
 
 at_bottom : (p : Part) (ts : List Terminal) (new : List Token) → ReadsPart no_parts p ts (Err Syntax) new
 at_bottom part.Expr ts new = refl
@@ -30,7 +28,3 @@ nothing_below h e p ts new = subst (λ (l : Parts). ReadsPart l p ts (Err Syntax
 -- above it, what is read of the parts of the height below
 pub part_above : (h k : ℕ) → h ≡ suc k → (p : Part) (ts : List Terminal) (r : Result PartTree ParseError) (new : List Token) → ReadsPart (whole_parts skipped_body (levels k)) p ts r new → ReadsPart (levels h) p ts r new
 part_above h k e p ts r new d = subst (λ (l : Parts). ReadsPart l p ts r new) (sym (higher h k e)) d
-
--- a body, where there are lower trees
-pub body_above : (h : ℕ) → (levels h).deep ≡ true → (ts : List Terminal) (r : Result BodyRange ParseError) (new : List Token) → Reads {A = BodyRange} (skipped_body ts) r new → Reads {A = BodyRange} ((levels h).body ts) r new
-body_above h e ts r new d = subst (λ (f : Found BodyRange). Reads {A = BodyRange} f r new) (sym (some_body h ts e)) d

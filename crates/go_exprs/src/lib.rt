@@ -1,13 +1,8 @@
-//! Types and expressions, read from tokens by recursive descent, up to a height. The bodies of function literals are
-//! skipped.
+//! Expressions, read from tokens by recursive descent, and the readers of all trees up to a height. The bodies of
+//! function literals are skipped.
 #![tactic(auto)]
 
-mod grammar;
-pub mod levels;
-mod literals;
-mod operands;
+mod exprs;
+mod levels;
 mod operators;
-mod posts;
 pub mod readers;
-mod signatures;
-mod types;

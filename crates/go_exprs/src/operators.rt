@@ -4,12 +4,13 @@ ghost use Rattle.go_syntax.specs.declared.expression.Expr.TheVariants as expr;
 ghost use Rattle.go_syntax.specs.declared.token.TokenKind.TheVariants as kind;
 ghost use Rattle.go_syntax.specs.grammar.Grammar as grammar;
 ghost use Rattle.go_syntax.specs.grammar.Terminals.{terminals};
-ghost use Rattle.go_exprs.specs.Levels.{levels, ReadsBelow};
+ghost use Rattle.go_descent.specs.Levels.{levels};
+ghost use Rattle.go_type_exprs.specs.Parts.{ReadsBelow};
 ghost use Rattle.go_cursor.specs.Reading.{bind, run, step_of};
 ghost use Rattle.go_cursor.specs.Reads.{Reads};
-ghost use Rattle.go_exprs.specs.Rules as rules;
+ghost use Rattle.go_descent.specs.Rules as rules;
 
-use crate::grammar::{Grammar, Part, PartTree};
+use crate::exprs::Exprs;
 use go_base::list::List;
 use go_base::memory::NoMemory;
 use go_base::operator::{CompareOp, PrefixOperator, ProductOperator, SumOperator};
@@ -18,6 +19,7 @@ use go_cursor::error::ParseError;
 use go_syntax::expression::Expr;
 use go_syntax::held::expression::{HeldExpr, HeldExprs, boxed_expr};
 use go_syntax::token::TokenKind;
+use go_type_exprs::grammar::{Part, PartTree};
 use std::alloc::Global;
 
 /// The prefix operator that is next.
@@ -145,7 +147,7 @@ fn or_of(alloc: Global, first: Expr, others: HeldExprs) -> Result<Expr, NoMemory
     Ok(Expr::Or(boxed_expr(alloc, first)?, others.take()))
 }
 
-impl<F: Fn(Global, &mut Cursor<'_>, usize, Part) -> Result<PartTree, ParseError>> Grammar<F> {
+impl<F: Fn(Global, &mut Cursor<'_>, usize, Part) -> Result<PartTree, ParseError>> Exprs<F> {
     /// A prefix operator and its operand, from behind the operator on.
     fn prefixed(
         &self,
@@ -153,24 +155,24 @@ impl<F: Fn(Global, &mut Cursor<'_>, usize, Part) -> Result<PartTree, ParseError>
         composite: bool,
         tokens: &mut Cursor<'_>,
     ) -> Result<Expr, ParseError>
-        requires { ReadsBelow self.now.height (F.pre self.now.below) (F.post self.now.below) }
-        ensures { Reads (bind ((levels self.now.height).unary composite (terminals tokens.old)) (λ x u. Some (expr.Prefix operator x, u))) result tokens.new }
+        requires { ReadsBelow self.now.primary.grammar.height (F.pre self.now.primary.grammar.below) (F.post self.now.primary.grammar.below) }
+        ensures { Reads (bind ((levels self.now.primary.grammar.height).unary composite (terminals tokens.old)) (λ x u. Some (expr.Prefix operator x, u))) result tokens.new }
     {
-        let operand = self.unary_below(composite, tokens)?;
-        Ok(Expr::Prefix(operator, boxed_expr(self.alloc, operand)?))
+        let operand = self.primary.grammar.unary_below(composite, tokens)?;
+        Ok(Expr::Prefix(operator, boxed_expr(self.primary.grammar.alloc, operand)?))
     }
 
     /// An operand with or without a prefix operator.
-    #[tactic(auto, unfolding(crate::specs::Rules::unary_expr))]
+    #[tactic(auto, unfolding(go_descent::specs::Rules::unary_expr))]
     pub fn unary_expr(&self, composite: bool, tokens: &mut Cursor<'_>) -> Result<Expr, ParseError>
-        requires { ReadsBelow self.now.height (F.pre self.now.below) (F.post self.now.below) }
-        ensures { Reads (rules.unary_expr composite (levels self.now.height) (terminals tokens.old)) result tokens.new }
+        requires { ReadsBelow self.now.primary.grammar.height (F.pre self.now.primary.grammar.below) (F.post self.now.primary.grammar.below) }
+        ensures { Reads (rules.unary_expr composite (levels self.now.primary.grammar.height) (terminals tokens.old)) result tokens.new }
     {
         if tokens.begins_receive() {
             return Err(ParseError::Syntax);
         }
         match prefix_operator(tokens.sign()) {
-            None => self.primary_expr(composite, tokens),
+            None => self.primary.primary_expr(composite, tokens),
             Some(operator) => {
                 tokens.advance();
                 self.prefixed(operator, composite, tokens)
@@ -184,11 +186,11 @@ impl<F: Fn(Global, &mut Cursor<'_>, usize, Part) -> Result<PartTree, ParseError>
         composite: bool,
         tokens: &mut Cursor<'_>,
     ) -> Result<(List<ProductOperator>, HeldExprs), ParseError>
-        requires { ReadsBelow self.now.height (F.pre self.now.below) (F.post self.now.below) }
-        ensures { Reads (run (rules.step_both (rules.operation grammar.product_operator (rules.unary_expr composite (levels self.now.height)))) ([], []) (terminals tokens.old)) result tokens.new }
+        requires { ReadsBelow self.now.primary.grammar.height (F.pre self.now.primary.grammar.below) (F.post self.now.primary.grammar.below) }
+        ensures { Reads (run (rules.step_both (rules.operation grammar.product_operator (rules.unary_expr composite (levels self.now.primary.grammar.height)))) ([], []) (terminals tokens.old)) result tokens.new }
     {
-        let mut operators = List::new(self.alloc);
-        let mut operands = HeldExprs::new(self.alloc);
+        let mut operators = List::new(self.primary.grammar.alloc);
+        let mut operands = HeldExprs::new(self.primary.grammar.alloc);
         for _turn in 0..tokens.len() {
             match product_operator(tokens.sign()) {
                 None => return Ok((operators, operands)),
@@ -203,14 +205,14 @@ impl<F: Fn(Global, &mut Cursor<'_>, usize, Part) -> Result<PartTree, ParseError>
     }
 
     /// Factors.
-    #[tactic(auto, unfolding(crate::specs::Rules::product_expr, crate::specs::Rules::chain_of))]
+    #[tactic(auto, unfolding(go_descent::specs::Rules::product_expr, go_descent::specs::Rules::chain_of))]
     fn product_expr(&self, composite: bool, tokens: &mut Cursor<'_>) -> Result<Expr, ParseError>
-        requires { ReadsBelow self.now.height (F.pre self.now.below) (F.post self.now.below) }
-        ensures { Reads (rules.product_expr composite (levels self.now.height) (terminals tokens.old)) result tokens.new }
+        requires { ReadsBelow self.now.primary.grammar.height (F.pre self.now.primary.grammar.below) (F.post self.now.primary.grammar.below) }
+        ensures { Reads (rules.product_expr composite (levels self.now.primary.grammar.height) (terminals tokens.old)) result tokens.new }
     {
         let first = HeldExpr::new(self.unary_expr(composite, tokens)?);
         let (operators, others) = self.products(composite, tokens)?;
-        Ok(product_of(self.alloc, first.take(), operators, others)?)
+        Ok(product_of(self.primary.grammar.alloc, first.take(), operators, others)?)
     }
 
     /// The operators and terms that follow.
@@ -219,11 +221,11 @@ impl<F: Fn(Global, &mut Cursor<'_>, usize, Part) -> Result<PartTree, ParseError>
         composite: bool,
         tokens: &mut Cursor<'_>,
     ) -> Result<(List<SumOperator>, HeldExprs), ParseError>
-        requires { ReadsBelow self.now.height (F.pre self.now.below) (F.post self.now.below) }
-        ensures { Reads (run (rules.step_both (rules.operation grammar.sum_operator (rules.product_expr composite (levels self.now.height)))) ([], []) (terminals tokens.old)) result tokens.new }
+        requires { ReadsBelow self.now.primary.grammar.height (F.pre self.now.primary.grammar.below) (F.post self.now.primary.grammar.below) }
+        ensures { Reads (run (rules.step_both (rules.operation grammar.sum_operator (rules.product_expr composite (levels self.now.primary.grammar.height)))) ([], []) (terminals tokens.old)) result tokens.new }
     {
-        let mut operators = List::new(self.alloc);
-        let mut operands = HeldExprs::new(self.alloc);
+        let mut operators = List::new(self.primary.grammar.alloc);
+        let mut operands = HeldExprs::new(self.primary.grammar.alloc);
         for _turn in 0..tokens.len() {
             match sum_operator(tokens.sign()) {
                 None => return Ok((operators, operands)),
@@ -238,14 +240,14 @@ impl<F: Fn(Global, &mut Cursor<'_>, usize, Part) -> Result<PartTree, ParseError>
     }
 
     /// Terms.
-    #[tactic(auto, unfolding(crate::specs::Rules::sum_expr, crate::specs::Rules::chain_of))]
+    #[tactic(auto, unfolding(go_descent::specs::Rules::sum_expr, go_descent::specs::Rules::chain_of))]
     fn sum_expr(&self, composite: bool, tokens: &mut Cursor<'_>) -> Result<Expr, ParseError>
-        requires { ReadsBelow self.now.height (F.pre self.now.below) (F.post self.now.below) }
-        ensures { Reads (rules.sum_expr composite (levels self.now.height) (terminals tokens.old)) result tokens.new }
+        requires { ReadsBelow self.now.primary.grammar.height (F.pre self.now.primary.grammar.below) (F.post self.now.primary.grammar.below) }
+        ensures { Reads (rules.sum_expr composite (levels self.now.primary.grammar.height) (terminals tokens.old)) result tokens.new }
     {
         let first = HeldExpr::new(self.product_expr(composite, tokens)?);
         let (operators, others) = self.sums(composite, tokens)?;
-        Ok(sum_of(self.alloc, first.take(), operators, others)?)
+        Ok(sum_of(self.primary.grammar.alloc, first.take(), operators, others)?)
     }
 
     /// The comparisons and operands that follow.
@@ -254,11 +256,11 @@ impl<F: Fn(Global, &mut Cursor<'_>, usize, Part) -> Result<PartTree, ParseError>
         composite: bool,
         tokens: &mut Cursor<'_>,
     ) -> Result<(List<CompareOp>, HeldExprs), ParseError>
-        requires { ReadsBelow self.now.height (F.pre self.now.below) (F.post self.now.below) }
-        ensures { Reads (run (rules.step_both (rules.operation grammar.comparison (rules.sum_expr composite (levels self.now.height)))) ([], []) (terminals tokens.old)) result tokens.new }
+        requires { ReadsBelow self.now.primary.grammar.height (F.pre self.now.primary.grammar.below) (F.post self.now.primary.grammar.below) }
+        ensures { Reads (run (rules.step_both (rules.operation grammar.comparison (rules.sum_expr composite (levels self.now.primary.grammar.height)))) ([], []) (terminals tokens.old)) result tokens.new }
     {
-        let mut operators = List::new(self.alloc);
-        let mut operands = HeldExprs::new(self.alloc);
+        let mut operators = List::new(self.primary.grammar.alloc);
+        let mut operands = HeldExprs::new(self.primary.grammar.alloc);
         for _turn in 0..tokens.len() {
             match comparison(tokens.sign()) {
                 None => return Ok((operators, operands)),
@@ -273,22 +275,22 @@ impl<F: Fn(Global, &mut Cursor<'_>, usize, Part) -> Result<PartTree, ParseError>
     }
 
     /// Operands of comparisons.
-    #[tactic(auto, unfolding(crate::specs::Rules::compare_expr, crate::specs::Rules::chain_of))]
+    #[tactic(auto, unfolding(go_descent::specs::Rules::compare_expr, go_descent::specs::Rules::chain_of))]
     fn compare_expr(&self, composite: bool, tokens: &mut Cursor<'_>) -> Result<Expr, ParseError>
-        requires { ReadsBelow self.now.height (F.pre self.now.below) (F.post self.now.below) }
-        ensures { Reads (rules.compare_expr composite (levels self.now.height) (terminals tokens.old)) result tokens.new }
+        requires { ReadsBelow self.now.primary.grammar.height (F.pre self.now.primary.grammar.below) (F.post self.now.primary.grammar.below) }
+        ensures { Reads (rules.compare_expr composite (levels self.now.primary.grammar.height) (terminals tokens.old)) result tokens.new }
     {
         let first = HeldExpr::new(self.sum_expr(composite, tokens)?);
         let (operators, others) = self.comparisons(composite, tokens)?;
-        Ok(compare_of(self.alloc, first.take(), operators, others)?)
+        Ok(compare_of(self.primary.grammar.alloc, first.take(), operators, others)?)
     }
 
     /// The operands that follow, each after `&&`.
     fn ands(&self, composite: bool, tokens: &mut Cursor<'_>) -> Result<HeldExprs, ParseError>
-        requires { ReadsBelow self.now.height (F.pre self.now.below) (F.post self.now.below) }
-        ensures { Reads (run (step_of (rules.after_sign kind.LogicalAnd (rules.compare_expr composite (levels self.now.height)))) [] (terminals tokens.old)) result tokens.new }
+        requires { ReadsBelow self.now.primary.grammar.height (F.pre self.now.primary.grammar.below) (F.post self.now.primary.grammar.below) }
+        ensures { Reads (run (step_of (rules.after_sign kind.LogicalAnd (rules.compare_expr composite (levels self.now.primary.grammar.height)))) [] (terminals tokens.old)) result tokens.new }
     {
-        let mut operands = HeldExprs::new(self.alloc);
+        let mut operands = HeldExprs::new(self.primary.grammar.alloc);
         for _turn in 0..tokens.len() {
             if !tokens.begins(TokenKind::LogicalAnd) {
                 return Ok(operands);
@@ -300,22 +302,22 @@ impl<F: Fn(Global, &mut Cursor<'_>, usize, Part) -> Result<PartTree, ParseError>
     }
 
     /// Operands of `&&`.
-    #[tactic(auto, unfolding(crate::specs::Rules::and_expr, crate::specs::Rules::plain_chain))]
+    #[tactic(auto, unfolding(go_descent::specs::Rules::and_expr, go_descent::specs::Rules::plain_chain))]
     fn and_expr(&self, composite: bool, tokens: &mut Cursor<'_>) -> Result<Expr, ParseError>
-        requires { ReadsBelow self.now.height (F.pre self.now.below) (F.post self.now.below) }
-        ensures { Reads (rules.and_expr composite (levels self.now.height) (terminals tokens.old)) result tokens.new }
+        requires { ReadsBelow self.now.primary.grammar.height (F.pre self.now.primary.grammar.below) (F.post self.now.primary.grammar.below) }
+        ensures { Reads (rules.and_expr composite (levels self.now.primary.grammar.height) (terminals tokens.old)) result tokens.new }
     {
         let first = HeldExpr::new(self.compare_expr(composite, tokens)?);
         let others = self.ands(composite, tokens)?;
-        Ok(and_of(self.alloc, first.take(), others)?)
+        Ok(and_of(self.primary.grammar.alloc, first.take(), others)?)
     }
 
     /// The operands that follow, each after `||`.
     fn ors(&self, composite: bool, tokens: &mut Cursor<'_>) -> Result<HeldExprs, ParseError>
-        requires { ReadsBelow self.now.height (F.pre self.now.below) (F.post self.now.below) }
-        ensures { Reads (run (step_of (rules.after_sign kind.LogicalOr (rules.and_expr composite (levels self.now.height)))) [] (terminals tokens.old)) result tokens.new }
+        requires { ReadsBelow self.now.primary.grammar.height (F.pre self.now.primary.grammar.below) (F.post self.now.primary.grammar.below) }
+        ensures { Reads (run (step_of (rules.after_sign kind.LogicalOr (rules.and_expr composite (levels self.now.primary.grammar.height)))) [] (terminals tokens.old)) result tokens.new }
     {
-        let mut operands = HeldExprs::new(self.alloc);
+        let mut operands = HeldExprs::new(self.primary.grammar.alloc);
         for _turn in 0..tokens.len() {
             if !tokens.begins(TokenKind::LogicalOr) {
                 return Ok(operands);
@@ -327,13 +329,13 @@ impl<F: Fn(Global, &mut Cursor<'_>, usize, Part) -> Result<PartTree, ParseError>
     }
 
     /// An expression.
-    #[tactic(auto, unfolding(crate::specs::Rules::expr_of, crate::specs::Rules::plain_chain))]
+    #[tactic(auto, unfolding(go_descent::specs::Rules::expr_of, go_descent::specs::Rules::plain_chain))]
     pub fn expr(&self, composite: bool, tokens: &mut Cursor<'_>) -> Result<Expr, ParseError>
-        requires { ReadsBelow self.now.height (F.pre self.now.below) (F.post self.now.below) }
-        ensures { Reads (rules.expr_of composite (levels self.now.height) (terminals tokens.old)) result tokens.new }
+        requires { ReadsBelow self.now.primary.grammar.height (F.pre self.now.primary.grammar.below) (F.post self.now.primary.grammar.below) }
+        ensures { Reads (rules.expr_of composite (levels self.now.primary.grammar.height) (terminals tokens.old)) result tokens.new }
     {
         let first = HeldExpr::new(self.and_expr(composite, tokens)?);
         let others = self.ors(composite, tokens)?;
-        Ok(or_of(self.alloc, first.take(), others)?)
+        Ok(or_of(self.primary.grammar.alloc, first.take(), others)?)
     }
 }

@@ -1,26 +1,30 @@
 //! The readers of types and expressions, for the crates above. The body of a function literal is skipped.
-ghost use Rattle.std.specs.Prelude.{◌≡◌};
+ghost use Rattle.std.specs.Prelude.{◌≡◌, ◌≤◌};
 ghost use Rattle.go_syntax.specs.grammar.Terminals.{terminals};
 ghost use Rattle.go_cursor.specs.Reads.{Reads};
-ghost use Rattle.go_exprs.specs.Levels.{levels};
-ghost use Rattle.go_exprs.specs.Rules as rules;
+ghost use Rattle.go_descent.specs.Levels.{levels};
+ghost use Rattle.go_descent.specs.Rules as rules;
 
-use crate::grammar::Grammar;
+use crate::exprs::Exprs;
 use crate::levels::below;
 use go_cursor::cursor::Cursor;
 use go_cursor::error::ParseError;
+use go_primary_exprs::primary::PrimaryExprs;
 use go_syntax::body::BodyRange;
 use go_syntax::expression::Expr;
 use go_syntax::held::expression::HeldExprs;
 use go_syntax::held::types::HeldParameters;
 use go_syntax::types::{Signature, Type};
+use go_type_exprs::grammar::Grammar;
 use std::alloc::Global;
 
-/// The readers of trees of a height below this, and of those that have such trees as parts.
+/// The readers of trees of a height below this, and of those that have such trees as parts. A greater height would
+/// take more of the stack.
 #[derive(Clone, Copy)]
 pub struct Readers {
     pub alloc: Global,
     pub height: usize,
+    ghost bounded: { height ≤ 257 },
 }
 
 impl Readers {
@@ -40,12 +44,13 @@ impl Readers {
     pub fn exprs(&self, tokens: &mut Cursor<'_>) -> Result<HeldExprs, ParseError>
         ensures { Reads (rules.exprs (levels self.now.height).expr (terminals tokens.old)) result tokens.new }
     {
-        Grammar {
+        let grammar = Grammar {
             alloc: self.alloc,
             height: self.height,
             below,
-        }
-        .exprs(tokens)
+        };
+        let primary = PrimaryExprs { grammar };
+        primary.exprs(tokens)
     }
 
     /// A type of a lower height.
@@ -101,36 +106,39 @@ impl Readers {
     pub fn expr(&self, composite: bool, tokens: &mut Cursor<'_>) -> Result<Expr, ParseError>
         ensures { Reads (rules.expr_of composite (levels self.now.height) (terminals tokens.old)) result tokens.new }
     {
-        Grammar {
+        let grammar = Grammar {
             alloc: self.alloc,
             height: self.height,
             below,
-        }
-        .expr(composite, tokens)
+        };
+        let primary = PrimaryExprs { grammar };
+        Exprs { primary }.expr(composite, tokens)
     }
 
     /// The same of the operand of a prefix operator.
     pub fn unary_expr(&self, composite: bool, tokens: &mut Cursor<'_>) -> Result<Expr, ParseError>
         ensures { Reads (rules.unary_expr composite (levels self.now.height) (terminals tokens.old)) result tokens.new }
     {
-        Grammar {
+        let grammar = Grammar {
             alloc: self.alloc,
             height: self.height,
             below,
-        }
-        .unary_expr(composite, tokens)
+        };
+        let primary = PrimaryExprs { grammar };
+        Exprs { primary }.unary_expr(composite, tokens)
     }
 
     /// The same of an operand and what follows it.
     pub fn primary_expr(&self, composite: bool, tokens: &mut Cursor<'_>) -> Result<Expr, ParseError>
         ensures { Reads (rules.primary_expr composite (levels self.now.height) (terminals tokens.old)) result tokens.new }
     {
-        Grammar {
+        let grammar = Grammar {
             alloc: self.alloc,
             height: self.height,
             below,
-        }
-        .primary_expr(composite, tokens)
+        };
+        let primary = PrimaryExprs { grammar };
+        primary.primary_expr(composite, tokens)
     }
 
     /// A type whose parts are of lower heights.
@@ -143,40 +151,5 @@ impl Readers {
             below,
         }
         .type_(tokens)
-    }
-
-    /// More expressions whose parts are of lower heights, each after a comma.
-    #[tactic(auto, unfolding(crate::specs::Rules::more_exprs))]
-    fn more_exprs_of(
-        &self,
-        composite: bool,
-        tokens: &mut Cursor<'_>,
-        first: HeldExprs,
-    ) -> Result<HeldExprs, ParseError>
-        ensures { Reads (rules.more_exprs (rules.expr_of composite (levels self.now.height)) first (terminals tokens.old)) result tokens.new }
-    {
-        let mut exprs = first;
-        for _turn in 0..tokens.len() {
-            if !tokens.goes_on() {
-                return Ok(exprs);
-            }
-            tokens.advance();
-            exprs.push(self.expr(composite, tokens)?)?;
-        }
-        Ok(exprs)
-    }
-
-    /// Expressions whose parts are of lower heights, with commas between them.
-    #[tactic(auto, unfolding(crate::specs::Rules::exprs))]
-    pub fn exprs_of(
-        &self,
-        composite: bool,
-        tokens: &mut Cursor<'_>,
-    ) -> Result<HeldExprs, ParseError>
-        ensures { Reads (rules.exprs (rules.expr_of composite (levels self.now.height)) (terminals tokens.old)) result tokens.new }
-    {
-        let mut first = HeldExprs::new(self.alloc);
-        first.push(self.expr(composite, tokens)?)?;
-        self.more_exprs_of(composite, tokens, first)
     }
 }

@@ -28,13 +28,14 @@ use Rattle.go_syntax.specs.grammar.Terminals.{Terminal, Sign, Identifier}
 use Rattle.go_cursor.specs.Names.{names}
 use Rattle.go_parse.specs.Declarations.{specs, alone, group, values, typed_const, const_end, const_spec, typed_var, var_end, var_spec, type_end, type_spec, only_receiver, receiver, optional_body, func_end, func, with_semicolon, decl_item, decls, import_path, import_spec, import_item, imports, package_name, package_clause, file}
 use Rattle.go_cursor.specs.Reading.{Found, Reader, Next, Stop, More, bind, after, turn, loop, step_of, expect, close, ended, spec_item, put_all, step_all}
-use Rattle.go_exprs.specs.Rules.{Parts, exprs, parameters}
-use Rattle.go_exprs.proofs.Begins.{read, if_so, if_not, Gives, gives_stop, gives_more, runs, ends_comma, ends_type, ends_here, ends_stops, type_begins, parameters_begin, type_not_comma}
-use Rattle.go_exprs.proofs.CompleteNames.{names_read}
-use Rattle.go_exprs.proofs.CompleteParts.{CompleteParts, KnownBodies, OverExpr, over_semicolon, over_right_paren, over_right_brace}
-use Rattle.go_exprs.proofs.CompletePosts.{exprs_read}
-use Rattle.go_exprs.proofs.CompleteSignatures.{parameters_read}
-use Rattle.go_exprs.proofs.Shorter.{ends_shorter, more_names_shorter, type_shorter, exprs_shorter, parameters_shorter, signature_shorter}
+use Rattle.go_descent.specs.Rules.{Parts, exprs, parameters}
+use Rattle.go_descent.proofs.Begins.{read, if_so, if_not, Gives, gives_stop, gives_more, runs, ends_comma, ends_type, ends_here, ends_stops, type_begins, parameters_begin, type_not_comma}
+use Rattle.go_descent.proofs.CompleteNames.{names_read}
+use Rattle.go_descent.specs.Follow.{OverExpr}
+use Rattle.go_descent.proofs.CompleteParts.{CompleteParts, KnownBodies, over_semicolon, over_right_paren, over_right_brace}
+use Rattle.go_descent.proofs.CompletePosts.{exprs_read}
+use Rattle.go_descent.proofs.CompleteSignatures.{parameters_read}
+use Rattle.go_descent.proofs.Shorter.{ends_shorter, more_names_shorter, type_shorter, exprs_shorter, parameters_shorter, signature_shorter}
 
 -- What follows an item
 

@@ -9,14 +9,14 @@ use Rattle.go_syntax.specs.grammar.Symbols.{Rule}
 use Rattle.go_syntax.specs.grammar.Terminals.{Terminal, terminals}
 use Rattle.go_parse.specs.Declarations.{file}
 use Rattle.go_cursor.specs.Reading.{Found, Reader}
-use Rattle.go_exprs.specs.Rules.{parts}
+use Rattle.go_descent.specs.Rules.{parts}
 use Rattle.go_cursor.specs.Skipping.{skipped_body}
-use Rattle.go_exprs.proofs.Bodies.{skips_known, skips_sound, skips_read}
+use Rattle.go_descent.proofs.Bodies.{skips_known, skips_sound, skips_read}
 use Rattle.go_parse.proofs.CompleteDeclarations.{file_read}
-use Rattle.go_exprs.proofs.CompleteLevels.{complete_parts}
-use Rattle.go_exprs.proofs.CompleteParts.{KnownBodies}
+use Rattle.go_descent.proofs.CompleteLevels.{complete_parts}
+use Rattle.go_descent.proofs.CompleteParts.{KnownBodies}
 use Rattle.go_parse.proofs.SoundDeclarations.{file_sound}
-use Rattle.go_exprs.proofs.SoundLevels.{parts_sound}
+use Rattle.go_descent.proofs.SoundLevels.{parts_sound}
 use Rattle.go_cursor.proofs.Steps.{Sound}
 
 same_read : (p q : File × List Terminal) → ◌≡◌ {A = Found File} (Some p) (Some q) → p ≡ q

@@ -22,10 +22,10 @@ use Rattle.go_syntax.specs.grammar.Terminals.{Terminal}
 use Rattle.go_cursor.specs.Names.{names}
 use Rattle.go_parse.specs.Declarations.{specs, group, values, typed_const, const_end, const_spec, typed_var, var_end, var_spec, type_end, type_spec, only_receiver, receiver, optional_body, func_end, func, with_semicolon, decl_item, decls, import_at, import_path, import_spec, import_item, imports, package_name, package_clause, file}
 use Rattle.go_cursor.specs.Reading.{Found, Reader, Next, Stop, Fail, More, bind, turn, loop, run, expect, close, name, begins_name, string_at, spec_item, put_all, step_all}
-use Rattle.go_exprs.specs.Rules.{Parts, exprs, parameters}
-use Rattle.go_exprs.proofs.SoundParts.{SoundParts}
-use Rattle.go_exprs.proofs.SoundPosts.{exprs_sound}
-use Rattle.go_exprs.proofs.SoundSignatures.{parameters_sound}
+use Rattle.go_descent.specs.Rules.{Parts, exprs, parameters}
+use Rattle.go_descent.proofs.SoundParts.{SoundParts}
+use Rattle.go_descent.proofs.SoundPosts.{exprs_sound}
+use Rattle.go_descent.proofs.SoundSignatures.{parameters_sound}
 use Rattle.go_cursor.proofs.Steps.{Sound, SoundTurn, with_bind, branch, same, taken, expected, closed, named_by, string_taken, after_more, item_if, Adds, run_sound, from_none, Ending, ending_item_sound, names_sound}
 
 -- Groups

@@ -24,7 +24,7 @@ use Rattle.go_syntax.specs.grammar.Symbols.{begins, begins_type, closes}
 use Rattle.go_syntax.specs.grammar.Terminals.{Terminal}
 use Rattle.go_cursor.specs.Names.{names}
 use Rattle.go_cursor.specs.Reading.{Found, Reader, Next, Stop, Fail, More, bind, after, run, step_of, expect, close, ended, spec_item, step_all, name, begins_name, string_at}
-use Rattle.go_exprs.specs.Rules.{Parts, exprs, parameters}
+use Rattle.go_descent.specs.Rules.{Parts, exprs, parameters}
 
 -- Groups
 

@@ -6,7 +6,7 @@ ghost use Rattle.go_syntax.specs.declared.types.«Type».{«Type»};
 ghost use Rattle.go_syntax.specs.declared.token.TokenKind.TheVariants as kind;
 ghost use Rattle.go_syntax.specs.grammar.Terminals.{terminals};
 ghost use Rattle.go_parse.specs.Declarations as rules;
-ghost use Rattle.go_exprs.specs.Levels.{levels};
+ghost use Rattle.go_descent.specs.Levels.{levels};
 ghost use Rattle.go_cursor.specs.Reading.{bind, close};
 ghost use Rattle.go_cursor.specs.Reads.{Reads, ReadsNext};
 

@@ -5,7 +5,7 @@ ghost use Rattle.go_syntax.specs.grammar.Terminals.{terminals};
 ghost use Rattle.go_syntax.specs.declared.declaration.File.{File};
 ghost use Rattle.go_syntax.specs.declared.token.Token.{Token};
 ghost use Rattle.go_parse.specs.Declarations as rules;
-ghost use Rattle.go_exprs.specs.Levels.{levels};
+ghost use Rattle.go_descent.specs.Levels.{levels};
 ghost use Rattle.go_cursor.specs.Reads.{Reads};
 
 use crate::declarations::decls;

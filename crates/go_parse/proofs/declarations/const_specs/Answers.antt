@@ -1,7 +1,7 @@
 use Rattle.std.proofs.Common.{◌∙◌, [], sym}
 use Rattle.go_syntax.specs.grammar.Terminals.{terminals}
 use Rattle.go_parse.specs.Declarations.{specs, const_spec}
-use Rattle.go_exprs.specs.Levels.{levels}
+use Rattle.go_descent.specs.Levels.{levels}
 use Rattle.go_cursor.specs.Reading.{loop, step_of, ended, spec_item}
 use Rattle.go_cursor.proofs.Loops.{handed, nothing_found, starts, specs_stop, specs_fail, specs_unended, specs_more}
 use Rattle.go_cursor.proofs.Turns.{no_more}

@@ -7,7 +7,7 @@ use Rattle.go_syntax.specs.grammar.Terminals.{Terminal, terminals}
 use Rattle.go_cursor.specs.declared.error.ParseError.{ParseError}
 use Rattle.go_cursor.specs.declared.error.ParseError.TheVariants.{Syntax, NoMemory}
 use Rattle.go_parse.specs.Declarations.{file}
-use Rattle.go_exprs.specs.Levels.{levels}
+use Rattle.go_descent.specs.Levels.{levels}
 use Rattle.go_cursor.specs.Reads.{Reads}
 use Rattle.go_parse.proofs.Files.{has_outline, no_outline, more_than_outline}
 use Rattle.go_parse.proofs.outline.parse_outline.Goals as goal

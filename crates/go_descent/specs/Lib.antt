@@ -1,0 +1,3 @@
+pub mod Follow
+pub mod Levels
+pub mod Rules

@@ -1,0 +1,2 @@
+pub mod BodyBelow
+pub mod Variadics
