@@ -1,0 +1,7 @@
+pub mod Codes
+pub mod Images
+pub mod Outermost
+pub mod OwnedPairs
+pub mod Publics
+pub mod Rules
+pub mod inner

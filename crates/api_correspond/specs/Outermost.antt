@@ -1,0 +1,92 @@
+-- The outermost constructor of a type, and the parts under it.
+-- Public source: Go specification, "Types" and "Type identity"; after the README of golang.org/x/exp/apidiff, "Correspondence".
+use Rattle.std.specs.Prelude.{◌≡◌, ℕ, Bool, true, false, List, [], ◌∷◌, ◌++◌, length, map, if◌then◌else◌}
+use Rattle.go_base.specs.Gathered.{gather}
+use Rattle.go_model.specs.types.Terms.{Layer}
+use Rattle.go_model.specs.types.MethodSets.{method_sel}
+use Rattle.go_model.specs.worlds.Worlds.{Packages}
+use Rattle.go_model.specs.declared.constants.value.Basic.{Basic}
+use Rattle.go_model.specs.declared.types.names.TypeName.{TypeName}
+use Rattle.go_model.specs.declared.types.names.Sel.{Sel}
+use Rattle.go_model.specs.declared.types.term.Direction.{Direction}
+use Rattle.go_model.specs.declared.types.term.Term.{Term, Term-F, roll-Term}
+use Rattle.go_model.specs.declared.types.term.Field.{Field, out-Field}
+use Rattle.go_model.specs.declared.types.term.Method.{Method, out-Method}
+use Rattle.go_model.specs.declared.types.term.Signature.{Signature, out-Signature}
+use Rattle.api_correspond.specs.declared.pair.TypePair.{TypePair}
+use Rattle.api_correspond.specs.Publics.{of_module, package_at}
+
+-- a field but for its type
+pub record FieldHead : Type 0 where
+  pub sel : Sel
+  pub embedded : Bool
+  pub tag : List ℕ
+
+-- what two types have in common whose outermost constructors match: all types of the module do, and of the other
+-- names, `error` and those of the standard library, each with itself
+pub data Outermost : Type 0 where
+  basic : Basic → Outermost
+  named : TypeName → Outermost
+  module_type : Outermost
+  pointer : Outermost
+  slice : Outermost
+  array : ℕ → Outermost
+  mapping : Outermost
+  channel : Direction → Outermost
+  function : ℕ → ℕ → Bool → Outermost
+  structure : List FieldHead → Outermost
+  interface : List Sel → Outermost
+
+abbrev pub field_head : Field → FieldHead
+field_head f = record { sel = (out-Field f).sel; embedded = (out-Field f).embedded; tag = (out-Field f).tag }
+
+abbrev pub function_head : Signature → Outermost
+function_head g = function (length (out-Signature g).params) (length (out-Signature g).results) (out-Signature g).variadic
+
+abbrev pub outermost : Packages → Layer → Outermost
+outermost w (Term-F.Plain b) = basic b
+outermost w (Term-F.Named n) = if of_module (package_at w n.path) then module_type else named n
+outermost w (Term-F.Pointer e) = pointer
+outermost w (Term-F.Slice e) = slice
+outermost w (Term-F.Array n e) = array n
+outermost w (Term-F.Map k e) = mapping
+outermost w (Term-F.Chan d e) = channel d
+outermost w (Term-F.Func g) = function_head g
+outermost w (Term-F.Struct fs) = structure (map field_head fs)
+outermost w (Term-F.Interface ms) = interface (map method_sel ms)
+
+-- two types match in their outermost constructors, the first in the old packages, the second in the new
+abbrev pub Match : Packages → Packages → Layer → Layer → Type 0
+Match old new k l = outermost old k ≡ outermost new l
+
+-- a function type
+abbrev pub function_type : Signature → Term
+function_type g = roll-Term (Term-F.Func g)
+
+abbrev pub field_type : Field → Term
+field_type f = (out-Field f).term
+
+abbrev pub method_type : Method → Term
+method_type m = function_type (out-Method m).signature
+
+-- the types under the outermost constructor, in order; those of an interface are the types of its methods
+abbrev pub parts : Layer → List Term
+parts (Term-F.Plain b) = []
+parts (Term-F.Named n) = []
+parts (Term-F.Pointer e) = e ∷ []
+parts (Term-F.Slice e) = e ∷ []
+parts (Term-F.Array n e) = e ∷ []
+parts (Term-F.Map k e) = k ∷ e ∷ []
+parts (Term-F.Chan d e) = e ∷ []
+parts (Term-F.Func g) = (out-Signature g).params ++ (out-Signature g).results
+parts (Term-F.Struct fs) = map field_type fs
+parts (Term-F.Interface ms) = map method_type ms
+
+abbrev pub pair : Term → Term → TypePair
+pair s t = record { old = s; new = t }
+
+-- the pairs of types that stand at the same places
+abbrev pub side_by_side : List Term → List Term → List TypePair
+side_by_side [] ts = []
+side_by_side (s ∷ ss) [] = []
+side_by_side (s ∷ ss) (t ∷ ts) = pair s t ∷ side_by_side ss ts
