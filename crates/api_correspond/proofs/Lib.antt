@@ -1,7 +1,10 @@
+pub mod Growing
 pub mod Heads
+pub mod Leading
 pub mod Lookups
 pub mod Places
 pub mod PrefixFree
 pub mod Putting
+pub mod Spreading
 pub mod Tabling
 pub mod Trees

@@ -1,3 +1,6 @@
+pub mod Leading
+pub mod Members
 pub mod Names
 pub mod Parts
+pub mod Spreading
 pub mod Tables

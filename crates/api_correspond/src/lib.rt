@@ -1,10 +1,14 @@
 //! Which old and new types of two worlds have to correspond, for which exported object: the definitions, and
-//! what a search for them is made of.
+//! the pairs of types to which a pair leads.
 #![tactic(auto)]
 
 mod codes;
+mod embedded;
+pub mod leads;
 pub mod matching;
+mod members;
 pub mod pair;
 pub mod parts;
 pub mod publics;
+mod spot;
 pub mod table;
