@@ -1,0 +1,104 @@
+//! The next version.
+ghost use Rattle.std.specs.Prelude.{◌≡◌};
+ghost use Rattle.go_selectors.specs.Answers.{Decides};
+ghost use Rattle.api_judge.specs.Advice.{IsRelease, raised, Advises};
+ghost use Rattle.api_judge.specs.inner.Raising.{RaisesNumber};
+
+use crate::class::Class;
+use semver::Version;
+
+/// A number of a version, from the left.
+#[derive(Clone, Copy, Debug, PartialEq, Eq)]
+pub enum Number {
+    Major,
+    Minor,
+    Patch,
+}
+
+/// A version without pre-release and build metadata.
+#[derive(Clone, Copy, Debug, PartialEq, Eq)]
+pub struct Release {
+    pub major: u64,
+    pub minor: u64,
+    pub patch: u64,
+}
+
+/// Why no version is advised.
+#[derive(Clone, Copy, Debug, PartialEq, Eq)]
+pub enum AdviceError {
+    /// The version has a pre-release or build metadata.
+    NotRelease,
+    /// The version is a release, and the number to raise is 18446744073709551615.
+    NoVersion,
+}
+
+fn is_release(version: &Version) -> bool
+    ensures { Decides (IsRelease version.now) result }
+{
+    version.pre.is_empty() && version.build.is_empty()
+}
+
+/// The number that a change raises. From 1.0.0 on a break raises the major number and an addition the minor
+/// number; before that a break raises the minor number; everything else raises the patch number.
+pub fn raised_number(major: u64, class: Class) -> Number
+    ensures { result ≡ raised major class }
+{
+    if major == 0 {
+        return match class {
+            Class::Major => Number::Minor,
+            Class::Minor => Number::Patch,
+            Class::Patch => Number::Patch,
+        };
+    }
+    match class {
+        Class::Major => Number::Major,
+        Class::Minor => Number::Minor,
+        Class::Patch => Number::Patch,
+    }
+}
+
+// The version with this number one greater, and zeros behind it.
+fn raise(version: &Version, number: Number) -> Option<Release>
+    ensures { RaisesNumber version.now number result }
+{
+    match number {
+        Number::Major => {
+            let major = version.major.checked_add(1)?;
+            Some(Release {
+                major,
+                minor: 0,
+                patch: 0,
+            })
+        }
+        Number::Minor => {
+            let minor = version.minor.checked_add(1)?;
+            Some(Release {
+                major: version.major,
+                minor,
+                patch: 0,
+            })
+        }
+        Number::Patch => {
+            let patch = version.patch.checked_add(1)?;
+            Some(Release {
+                major: version.major,
+                minor: version.minor,
+                patch,
+            })
+        }
+    }
+}
+
+/// The least release that may follow a version after a change of this class: one with a greater number where
+/// [`raised_number`] says, and the same numbers before it.
+pub fn advise(version: &Version, class: Class) -> Result<Release, AdviceError>
+    ensures { Advises version.now class result }
+{
+    if !is_release(version) {
+        return Err(AdviceError::NotRelease);
+    }
+    match raise(version, raised_number(version.major, class)) {
+        Some(release) => Ok(release),
+        None => Err(AdviceError::NoVersion),
+    }
+}
