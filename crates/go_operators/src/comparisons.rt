@@ -251,8 +251,9 @@ fn as_truth(holds: bool) -> Option<Operand>
 }
 
 /// The truth of a comparison of two constants, and that a comparison of other operands is true or false.
-/// It is None exactly where the operands don't match for an order, or of a kind that has none; where for
-/// `==` and `!=` neither is usable as the other's type, or a type isn't comparable.
+/// It is None exactly where two constants, or the operands of an order, don't match in a kind that has the
+/// comparison, and where for `==` and `!=` of others neither may be used as a value of the other's type, or
+/// a type isn't comparable.
 pub fn compare(
     context: &Context<'_>,
     alloc: Global,

@@ -182,8 +182,9 @@ fn convert_value(
     }
 }
 
-/// The conversion of an operand to a type. It is None exactly where a constant isn't representable in a
-/// basic type and no whole number as a string, and where a value isn't convertible.
+/// The conversion of an operand to a type. It is None exactly where a basic type doesn't represent a
+/// constant that isn't a whole number for a type of strings, where another value, or the default type's
+/// value of a constant, isn't convertible, and where nil may not be used as a value of the type.
 pub fn conversion(
     context: &Context<'_>,
     alloc: Global,

@@ -120,8 +120,9 @@ fn shift_by(
 }
 
 /// The result of a shift of an operand to the left or to the right. It is None exactly where the count
-/// is neither an integer nor a constant that is a whole number from 0 representable in uint, where a
-/// constant by a constant has no result in range, and where else the operand isn't of an integer type.
+/// isn't a value of an integer type, from 0 where it is constant, or an untyped constant that is a whole
+/// number from 0 representable in uint; where a constant by a constant has no result of its kind; and where
+/// else the operand isn't of an integer type.
 pub fn shift(
     context: &Context<'_>,
     alloc: Global,
