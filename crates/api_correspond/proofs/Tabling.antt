@@ -58,7 +58,7 @@ pair_new codes longer pairs grown p c at fresh s e a f g =
     let same : longer ≡ map code_of_pair grown = k.0 ∙ ap (λ w. w ++ c ∷ []) s.same ∙ ap (λ z. map code_of_pair pairs ++ z ∷ []) e ∙ sym (map_last code_of_pair pairs p) ∙ ap (map code_of_pair) (sym g) in
     let there = at_unmap code_of_pair grown at c (subst (λ (w : List Code). At w at c) same k.1) in (
       record { same = same; once = subst Once (sym g) (once_more pairs p s.once (λ h. k.2 (subst (Has codes) (sym e) (subst (λ (w : List Code). Has w (code_of_pair p)) (sym s.same) (has_map code_of_pair pairs p h))))) },
-      record { more = p ∷ []; grown = g; there = subst (At grown at) (pairs_told there.0 p (there.2 ∙ e)) there.1 },
+      record { more = p ∷ []; grown = g; only = λ q h. elim h [ inl e ↦ sym e | inr n ↦ absurd n ]; there = subst (At grown at) (pairs_told there.0 p (there.2 ∙ e)) there.1 },
     )
 
 pub pair_known : (codes longer : List Code) (pairs : List TypePair) (p : TypePair) (c : Code) (at : ℕ) (fresh : Bool) → InStep codes pairs → c ≡ code_of_pair p → AddsAt codes longer c at fresh → fresh ≡ false → InStep longer pairs × AddsPair pairs pairs p at
@@ -67,7 +67,7 @@ pair_known codes longer pairs p c at fresh s e a f =
     let same : longer ≡ map code_of_pair pairs = k.0 ∙ s.same in
     let there = at_unmap code_of_pair pairs at c (subst (λ (w : List Code). At w at c) same k.1) in (
       record { same = same; once = s.once },
-      record { more = []; grown = sym (append_nil pairs); there = subst (At pairs at) (pairs_told there.0 p (there.2 ∙ e)) there.1 },
+      record { more = []; grown = sym (append_nil pairs); only = λ q h. absurd h; there = subst (At pairs at) (pairs_told there.0 p (there.2 ∙ e)) there.1 },
     )
 
 -- pairs that were added one by one, the rest still to come

@@ -1,5 +1,5 @@
 -- Packages of the module and of the standard library, and what a world makes public.
--- Public source: Go specification, "Exported identifiers"; documentation of the Go command, "Internal packages", for public ones.
+-- Public source: Go specification, "Exported identifiers"; which packages are public a world tells, which is own.
 use Rattle.std.specs.Prelude.{◌≡◌, ℕ, not, Bool, true, false, List, [], ◌∷◌, ◌++◌, Option, None, Some}
 use Rattle.go_base.specs.Characters.{BeginsPassing, is_upper}
 use Rattle.go_base.specs.Lists.{Has}

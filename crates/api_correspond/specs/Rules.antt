@@ -107,7 +107,7 @@ HasAsMethod w t m = (n : Method) × Has (methods_of (under (types_of w) t)) n ×
 -- `interface-methods`: of types of the module with interfaces, both have unexported methods or neither
 pub record KeepsSealing (old new : Packages) (p : TypePair) : Type 0 where
   pub kept : IsSealed old p.old → IsSealed new p.new
-  pub none : IsSealed new p.new → IsSealed old p.old
+  pub not_new : IsSealed new p.new → IsSealed old p.old
 
 -- each method that counts is kept
 abbrev pub KeepsInterfaceMethod : Packages → TypePair → Method → Type 0

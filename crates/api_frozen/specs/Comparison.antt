@@ -1,5 +1,6 @@
 -- What features lost and gained against frozen lines.
--- Public source: the comparison of Go's cmd/api with its files api/go1.txt, api/except.txt and later; that a line in a context is met without it is theirs too, and that nothing else is allowed is own.
+-- Public source: the comparison of Go's cmd/api with its files api/go1.txt, api/except.txt and later. Own: that a line is met
+-- by the same line without the context behind its path, and that no other line is allowed to miss.
 use Rattle.std.specs.Prelude.{ℕ, Bool, true, false, List, map}
 use Rattle.std.specs.Ordering.{nat_cmp}
 use Rattle.std.specs.Cmp.Lexicographic.{slice_cmp}

@@ -6,6 +6,7 @@ ghost use Rattle.api_judge.specs.inner.Raising.{RaisesNumber};
 
 use crate::class::Class;
 use semver::Version;
+use thiserror::Error;
 
 /// A number of a version, from the left.
 #[derive(Clone, Copy, Debug, PartialEq, Eq)]
@@ -24,11 +25,13 @@ pub struct Release {
 }
 
 /// Why no version is advised.
-#[derive(Clone, Copy, Debug, PartialEq, Eq)]
+#[derive(Clone, Copy, Debug, PartialEq, Eq, Error)]
 pub enum AdviceError {
     /// The version has a pre-release or build metadata.
+    #[error("not a release")]
     NotRelease,
     /// The version is a release, and the number to raise is 18446744073709551615.
+    #[error("no version follows")]
     NoVersion,
 }
 
@@ -38,8 +41,8 @@ fn is_release(version: &Version) -> bool
     version.pre.is_empty() && version.build.is_empty()
 }
 
-/// The number that a change raises. From 1.0.0 on a break raises the major number and an addition the minor
-/// number; before that a break raises the minor number; everything else raises the patch number.
+/// The number that a change raises. From 1.0.0 on a break raises the major number and other feature lines the
+/// minor number; before that a break raises the minor number; everything else raises the patch number.
 pub fn raised_number(major: u64, class: Class) -> Number
     ensures { result ≡ raised major class }
 {

@@ -5,7 +5,7 @@
 pub enum Class {
     /// A break on some platform.
     Major,
-    /// No break, and other features on some platform.
+    /// No break, and other feature lines on some platform.
     Minor,
     /// Neither.
     Patch,

@@ -1,4 +1,4 @@
-//! The feature lines of worlds, and one list of them for several platforms.
+//! Feature lines, and one list of them for several platforms.
 #![tactic(auto)]
 
 pub mod line;

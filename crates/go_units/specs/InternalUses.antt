@@ -1,4 +1,4 @@
--- The first used import of a file that its package may not import, and what a package needs.
+-- The first used import of a file that its package may not import.
 -- Public source: the documentation of Go's command line, "Internal Directories"; Go specification, "Import declarations". Own: the order.
 use Rattle.std.specs.Prelude.{◌≡◌, ◌⊎◌, ℕ, Bool, Option, Some, None, List, [], ◌∷◌}
 use Rattle.go_units.specs.ImportPaths.{IsInternalUse}

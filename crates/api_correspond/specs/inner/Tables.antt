@@ -29,10 +29,11 @@ pub record InStep (codes : List Code) (pairs : List TypePair) : Type 0 where
   pub same : codes ≡ map code_of_pair pairs
   pub once : Once pairs
 
--- a pair is at the place, and the others are where they were
+-- a pair is at the place, the others are where they were, and none but it is new
 pub record AddsPair (old new : List TypePair) (p : TypePair) (at : ℕ) : Type 0 where
   pub more : List TypePair
   pub grown : new ≡ old ++ more
+  pub only : (q : TypePair) → Has more q → q ≡ p
   pub there : At new at p
 
 -- the item of a list at a place, where there is one
