@@ -251,9 +251,9 @@ fn as_truth(holds: bool) -> Option<Operand>
 }
 
 /// The truth of a comparison of two constants, and that a comparison of other operands is true or false.
-/// It is None exactly where two constants, or the operands of an order, don't match in a kind that has the
-/// comparison, and where for `==` and `!=` of others neither may be used as a value of the other's type, or
-/// a type isn't comparable.
+/// Two constants, and the operands of an order, have to match in a kind that has the comparison. For `==` and
+/// `!=` of others one may be used as a value of the other's type, and both types are comparable; `nil` may be
+/// used as the other's type; and two operands without types match. Else it is None.
 pub fn compare(
     context: &Context<'_>,
     alloc: Global,

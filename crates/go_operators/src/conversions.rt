@@ -182,9 +182,10 @@ fn convert_value(
     }
 }
 
-/// The conversion of an operand to a type. It is None exactly where a basic type doesn't represent a
-/// constant that isn't a whole number for a type of strings, where another value, or the default type's
-/// value of a constant, isn't convertible, and where nil may not be used as a value of the type.
+/// The conversion of an operand to a type. A constant has a value in a basic type, or is a whole number and
+/// the type one of floats or complex numbers; to another type its own type, or a default type that holds it,
+/// is convertible; so is the type of another value; and `nil` may be used as a value of the type. Else it is
+/// None.
 pub fn conversion(
     context: &Context<'_>,
     alloc: Global,

@@ -1,5 +1,5 @@
-//! What operators and conversions make of operands, by the rules of the Go specification. Each answer is
-//! the operand that the rule gives, or None where it gives none.
+//! What operators and conversions make of operands. Each answer is the operand that the definition of the
+//! operator gives, or None where it gives none.
 #![tactic(auto)]
 
 pub mod arithmetic;

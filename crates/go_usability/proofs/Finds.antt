@@ -51,8 +51,8 @@ module _ (E : Env) (s : Sel) (t : Term) where
 
   -- where the levels are told, it is found
   pub answered : (r : Find) (d : ℕ) → Finds E.table s t r → depth_of r ≡ Some d → d < 4294967295 → ToldFrom E s d t → FindsIn E s t (Some r)
-  answered (find.FieldAt f) d (k, o, b) i l h = made k f.depth d _ o b i l h
-  answered (find.MethodAt m) d (k, o, b, c) i l h = (made k m.depth d _ o b i l h, c)
+  answered (find.FieldAt f) d (k, o, b) i l h = (made k f.depth d _ o b i l h, some_same f.depth d i)
+  answered (find.MethodAt m) d (k, o, b, c) i l h = (made k m.depth d _ o b i l h, some_same m.depth d i, c)
   answered find.Ambiguous d f i l h = absurd (cc)
   answered find.Nothing d f i l h = absurd (cc)
 
@@ -86,7 +86,7 @@ module _ (E : Env) (s : Sel) (t : Term) where
   same_method m g addressable f x = same_ending E.table s from f.0.depth x.found.depth _ _ f.0.only x.found.only
 
   by_flags : (m : MethodFound) (addressable answer : Bool) → (m.pointer_receiver && not m.through_pointer && not addressable) ≡ answer → FindsIn E s t (Some (find.MethodAt m)) → Gives (HasMethod E addressable t s) (if answer then None else Some m.signature)
-  by_flags m addressable false h f = record { through = m.through_pointer; owner = m.owner; pointer = m.pointer_receiver; found = f.0; counts = f.1; reaches = by m.pointer_receiver m.through_pointer addressable h }
+  by_flags m addressable false h f = record { through = m.through_pointer; owner = m.owner; pointer = m.pointer_receiver; found = f.0; counts = f.2; reaches = by m.pointer_receiver m.through_pointer addressable h }
     where
       by : (pointer through address : Bool) → (pointer && not through && not address) ≡ false → Reaches pointer (if through then true else address)
       by false through address n = inl refl
@@ -112,7 +112,7 @@ module _ (E : Env) (s : Sel) (t : Term) where
   -- what was found gives the method that can be called so
   pub calls : (addressable : Bool) (r : Option Find) → FindsIn E s t r → Gives (HasMethod E addressable t s) (called_in addressable r)
   calls addressable (Some (find.MethodAt m)) f = by_flags m addressable (m.pointer_receiver && not m.through_pointer && not addressable) refl f
-  calls addressable (Some (find.FieldAt a)) f = λ g x. no_both _ _ _ _ _ _ (same_ending E.table s from f.depth x.found.depth _ _ f.only x.found.only)
+  calls addressable (Some (find.FieldAt a)) f = λ g x. no_both _ _ _ _ _ _ (same_ending E.table s from f.0.depth x.found.depth _ _ f.0.only x.found.only)
   calls addressable (Some find.Ambiguous) f = absurd f
   calls addressable (Some find.Nothing) f = absurd f
   calls addressable None f = λ g x. f.no_method x.through x.owner x.pointer g x.found x.counts

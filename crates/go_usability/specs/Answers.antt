@@ -27,11 +27,11 @@ pub record FindsNone (E : Env) (s : Sel) (t : Term) : Type 0 where
   pub no_method : (through : Bool) (owner : Option TypeName) (pointer : Bool) (g : Signature)
       → Found E s t (record { through = through; target = method owner pointer g }) → is_defined_pointer E.table t ≡ false → ⊥
 
--- the field that the selector finds in the type, or the method, where the type isn't defined over a pointer
+-- the field that the selector finds in the type and its depth, or the method, where the type isn't defined over a pointer
 abbrev pub FindsIn : Env → Sel → Term → Option Find → Type 0
-FindsIn E s t (Some (find.FieldAt f)) = Found E s t (record { through = f.through_pointer; target = field f.term })
+FindsIn E s t (Some (find.FieldAt f)) = (x : Found E s t (record { through = f.through_pointer; target = field f.term })) × (f.depth ≡ x.depth)
 FindsIn E s t (Some (find.MethodAt m)) =
-    Found E s t (record { through = m.through_pointer; target = method m.owner m.pointer_receiver m.signature }) × (is_defined_pointer E.table t ≡ false)
+    (x : Found E s t (record { through = m.through_pointer; target = method m.owner m.pointer_receiver m.signature })) × (m.depth ≡ x.depth) × (is_defined_pointer E.table t ≡ false)
 FindsIn E s t (Some find.Ambiguous) = ⊥
 FindsIn E s t (Some find.Nothing) = ⊥
 FindsIn E s t None = FindsNone E s t
