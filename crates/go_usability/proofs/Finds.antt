@@ -43,16 +43,16 @@ module _ (E : Env) (s : Sel) (t : Term) where
   abbrev from : Spot
   from = start E.table t
 
-  made : (depth n d : ℕ) (e : Ending) → IsOnly E.table s from depth e → n ≡ bounded_depth depth → Some n ≡ Some d → d < 4294967295 → ToldFrom E s d t → Found E s t e
-  made depth n d e o b i l h = record { depth = d; only = subst (λ (k : ℕ). IsOnly E.table s from k e) (unbounded depth d (sym (some_same n d i) ∙ b) l) o; begins = h.0; told = h.1 }
+  made : (depth n d : ℕ) (e : Ending) → IsOnly E.table s from depth e → n ≡ bounded_depth depth → Some n ≡ Some d → d < 4294967295 → ToldFrom E s d t → (x : Found E s t e) × (n ≡ x.depth)
+  made depth n d e o b i l h = (record { depth = d; only = subst (λ (k : ℕ). IsOnly E.table s from k e) (unbounded depth d (sym (some_same n d i) ∙ b) l) o; begins = h.0; told = h.1 }, some_same n d i)
 
   untold : (depth n d : ℕ) (e x : Ending) → IsOnly E.table s from depth e → n ≡ bounded_depth depth → Some n ≡ Some d → d < 4294967295 → (ToldFrom E s d t → ⊥) → Found E s t x → ⊥
   untold depth n d e x o b i l h f = h (f.begins, subst (λ (k : ℕ). ToldTo E s k from) (same_depth E.table s from f.depth depth x e f.only o ∙ unbounded depth d (sym (some_same n d i) ∙ b) l) f.told)
 
   -- where the levels are told, it is found
   pub answered : (r : Find) (d : ℕ) → Finds E.table s t r → depth_of r ≡ Some d → d < 4294967295 → ToldFrom E s d t → FindsIn E s t (Some r)
-  answered (find.FieldAt f) d (k, o, b) i l h = (made k f.depth d _ o b i l h, some_same f.depth d i)
-  answered (find.MethodAt m) d (k, o, b, c) i l h = (made k m.depth d _ o b i l h, some_same m.depth d i, c)
+  answered (find.FieldAt f) d (k, o, b) i l h = made k f.depth d _ o b i l h
+  answered (find.MethodAt m) d (k, o, b, c) i l h = (let x = made k m.depth d _ o b i l h in (x.0, x.1, c))
   answered find.Ambiguous d f i l h = absurd (cc)
   answered find.Nothing d f i l h = absurd (cc)
 
