@@ -5,7 +5,7 @@ ghost use Rattle.go_syntax.specs.declared.token.TokenKind.TheVariants as kind;
 ghost use Rattle.go_syntax.specs.grammar.Grammar as grammar;
 ghost use Rattle.go_syntax.specs.grammar.Terminals.{terminals};
 ghost use Rattle.go_descent.specs.Levels.{levels};
-ghost use Rattle.go_type_exprs.specs.Parts.{ReadsBelow};
+ghost use Rattle.go_descent.specs.Parts.{ReadsBelow};
 ghost use Rattle.go_cursor.specs.Reading.{bind, run, step_of};
 ghost use Rattle.go_cursor.specs.Reads.{Reads};
 ghost use Rattle.go_descent.specs.Rules as rules;
@@ -16,17 +16,27 @@ use go_base::memory::NoMemory;
 use go_base::operator::{CompareOp, PrefixOperator, ProductOperator, SumOperator};
 use go_cursor::cursor::Cursor;
 use go_cursor::error::ParseError;
+use go_descent::grammar::{Part, PartTree};
 use go_syntax::expression::Expr;
 use go_syntax::held::expression::{HeldExpr, HeldExprs, boxed_expr};
 use go_syntax::token::TokenKind;
-use go_type_exprs::grammar::{Part, PartTree};
 use std::alloc::Global;
 
 /// The prefix operator that is next.
 fn prefix_operator(sign: Option<TokenKind>) -> Option<PrefixOperator>
     ensures { result ≡ rules.operator_at grammar.prefix_operator sign }
 {
-    match sign? {
+    match sign {
+        None => None,
+        Some(sign) => prefix_operator_of(sign),
+    }
+}
+
+/// The prefix operator that this token is.
+fn prefix_operator_of(sign: TokenKind) -> Option<PrefixOperator>
+    ensures { result ≡ grammar.prefix_operator sign }
+{
+    match sign {
         TokenKind::Add => Some(PrefixOperator::Plus),
         TokenKind::Subtract => Some(PrefixOperator::Minus),
         TokenKind::Not => Some(PrefixOperator::Not),
@@ -42,7 +52,17 @@ fn prefix_operator(sign: Option<TokenKind>) -> Option<PrefixOperator>
 fn product_operator(sign: Option<TokenKind>) -> Option<ProductOperator>
     ensures { result ≡ rules.operator_at grammar.product_operator sign }
 {
-    match sign? {
+    match sign {
+        None => None,
+        Some(sign) => product_operator_of(sign),
+    }
+}
+
+/// The operator between factors that this token is.
+fn product_operator_of(sign: TokenKind) -> Option<ProductOperator>
+    ensures { result ≡ grammar.product_operator sign }
+{
+    match sign {
         TokenKind::Multiply => Some(ProductOperator::Multiply),
         TokenKind::Divide => Some(ProductOperator::Divide),
         TokenKind::Remainder => Some(ProductOperator::Remainder),
@@ -58,7 +78,17 @@ fn product_operator(sign: Option<TokenKind>) -> Option<ProductOperator>
 fn sum_operator(sign: Option<TokenKind>) -> Option<SumOperator>
     ensures { result ≡ rules.operator_at grammar.sum_operator sign }
 {
-    match sign? {
+    match sign {
+        None => None,
+        Some(sign) => sum_operator_of(sign),
+    }
+}
+
+/// The operator between terms that this token is.
+fn sum_operator_of(sign: TokenKind) -> Option<SumOperator>
+    ensures { result ≡ grammar.sum_operator sign }
+{
+    match sign {
         TokenKind::Add => Some(SumOperator::Add),
         TokenKind::Subtract => Some(SumOperator::Subtract),
         TokenKind::Or => Some(SumOperator::Or),
@@ -71,7 +101,17 @@ fn sum_operator(sign: Option<TokenKind>) -> Option<SumOperator>
 fn comparison(sign: Option<TokenKind>) -> Option<CompareOp>
     ensures { result ≡ rules.operator_at grammar.comparison sign }
 {
-    match sign? {
+    match sign {
+        None => None,
+        Some(sign) => comparison_of(sign),
+    }
+}
+
+/// The comparison that this token is.
+fn comparison_of(sign: TokenKind) -> Option<CompareOp>
+    ensures { result ≡ grammar.comparison sign }
+{
+    match sign {
         TokenKind::Equal => Some(CompareOp::Equal),
         TokenKind::NotEqual => Some(CompareOp::NotEqual),
         TokenKind::Less => Some(CompareOp::Less),

@@ -9,13 +9,14 @@ use crate::exprs::Exprs;
 use crate::levels::below;
 use go_cursor::cursor::Cursor;
 use go_cursor::error::ParseError;
+use go_descent::grammar::Grammar;
 use go_primary_exprs::primary::PrimaryExprs;
 use go_syntax::body::BodyRange;
 use go_syntax::expression::Expr;
 use go_syntax::held::expression::HeldExprs;
 use go_syntax::held::types::HeldParameters;
 use go_syntax::types::{Signature, Type};
-use go_type_exprs::grammar::Grammar;
+use go_type_exprs::types::TypeExprs;
 use std::alloc::Global;
 
 /// The readers of trees of a height below this, and of those that have such trees as parts. A greater height would
@@ -49,8 +50,7 @@ impl Readers {
             height: self.height,
             below,
         };
-        let primary = PrimaryExprs { grammar };
-        primary.exprs(tokens)
+        PrimaryExprs { grammar }.exprs(tokens)
     }
 
     /// A type of a lower height.
@@ -81,12 +81,12 @@ impl Readers {
     pub fn parameters(&self, tokens: &mut Cursor<'_>) -> Result<HeldParameters, ParseError>
         ensures { Reads (rules.parameters (levels self.now.height).typ (terminals tokens.old)) result tokens.new }
     {
-        Grammar {
+        let grammar = Grammar {
             alloc: self.alloc,
             height: self.height,
             below,
-        }
-        .parameters(tokens)
+        };
+        TypeExprs { grammar }.parameters(tokens)
     }
 
     /// The body of a function, where it may have one at all.
@@ -111,8 +111,7 @@ impl Readers {
             height: self.height,
             below,
         };
-        let primary = PrimaryExprs { grammar };
-        Exprs { primary }.expr(composite, tokens)
+        Exprs::over(grammar).expr(composite, tokens)
     }
 
     /// The same of the operand of a prefix operator.
@@ -124,8 +123,7 @@ impl Readers {
             height: self.height,
             below,
         };
-        let primary = PrimaryExprs { grammar };
-        Exprs { primary }.unary_expr(composite, tokens)
+        Exprs::over(grammar).unary_expr(composite, tokens)
     }
 
     /// The same of an operand and what follows it.
@@ -137,19 +135,18 @@ impl Readers {
             height: self.height,
             below,
         };
-        let primary = PrimaryExprs { grammar };
-        primary.primary_expr(composite, tokens)
+        PrimaryExprs { grammar }.primary_expr(composite, tokens)
     }
 
     /// A type whose parts are of lower heights.
     pub fn type_(&self, tokens: &mut Cursor<'_>) -> Result<Type, ParseError>
         ensures { Reads (rules.typ_of (levels self.now.height) (terminals tokens.old)) result tokens.new }
     {
-        Grammar {
+        let grammar = Grammar {
             alloc: self.alloc,
             height: self.height,
             below,
-        }
-        .type_(tokens)
+        };
+        TypeExprs { grammar }.type_(tokens)
     }
 }

@@ -2,7 +2,7 @@
 ghost use Rattle.std.specs.Prelude.{◌≡◌};
 ghost use Rattle.go_syntax.specs.grammar.Terminals.{terminals};
 ghost use Rattle.go_descent.specs.Levels.{levels};
-ghost use Rattle.go_type_exprs.specs.Parts.{ReadsBelow};
+ghost use Rattle.go_descent.specs.Parts.{ReadsBelow};
 ghost use Rattle.go_cursor.specs.Reading.{run, step_of};
 ghost use Rattle.go_cursor.specs.Reads.{Reads};
 ghost use Rattle.go_descent.specs.Rules as rules;
@@ -11,10 +11,10 @@ use crate::primary::PrimaryExprs;
 use go_base::list::List;
 use go_cursor::cursor::Cursor;
 use go_cursor::error::ParseError;
+use go_descent::grammar::{Part, PartTree};
 use go_syntax::expression::{Element, ElementValue};
 use go_syntax::held::expression::{HeldElementValue, HeldElements};
 use go_syntax::token::TokenKind;
-use go_type_exprs::grammar::{Part, PartTree};
 use std::alloc::Global;
 
 impl<F: Fn(Global, &mut Cursor<'_>, usize, Part) -> Result<PartTree, ParseError>> PrimaryExprs<F> {

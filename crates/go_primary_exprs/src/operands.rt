@@ -5,7 +5,7 @@ ghost use Rattle.go_syntax.specs.declared.token.TokenKind.TheVariants as kind;
 ghost use Rattle.go_syntax.specs.grammar.Symbols.{begins};
 ghost use Rattle.go_syntax.specs.grammar.Terminals.{terminals};
 ghost use Rattle.go_descent.specs.Levels.{levels};
-ghost use Rattle.go_type_exprs.specs.Parts.{ReadsBelow};
+ghost use Rattle.go_descent.specs.Parts.{ReadsBelow};
 ghost use Rattle.go_cursor.specs.Reading as reading;
 ghost use Rattle.go_cursor.specs.Reading.{bind, close};
 ghost use Rattle.go_cursor.specs.Reads.{Reads};
@@ -18,12 +18,12 @@ use go_cursor::error::ParseError;
 use go_cursor::looks::names_composite;
 use go_cursor::names::type_name;
 use go_cursor::skipping::is_composite;
+use go_descent::grammar::{Part, PartTree};
 use go_syntax::expression::Expr;
 use go_syntax::held::expression::{HeldExpr, boxed_expr};
 use go_syntax::held::types::{HeldSignature, HeldType, boxed_signature};
 use go_syntax::token::TokenKind;
 use go_syntax::types::Type;
-use go_type_exprs::grammar::{Part, PartTree};
 use std::alloc::Global;
 
 impl<F: Fn(Global, &mut Cursor<'_>, usize, Part) -> Result<PartTree, ParseError>> PrimaryExprs<F> {

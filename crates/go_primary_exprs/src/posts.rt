@@ -7,7 +7,7 @@ ghost use Rattle.go_syntax.specs.grammar.Grammar as grammar;
 ghost use Rattle.go_syntax.specs.grammar.Symbols.{begins};
 ghost use Rattle.go_syntax.specs.grammar.Terminals.{terminals};
 ghost use Rattle.go_descent.specs.Levels.{levels};
-ghost use Rattle.go_type_exprs.specs.Parts.{ReadsBelow};
+ghost use Rattle.go_descent.specs.Parts.{ReadsBelow};
 ghost use Rattle.go_cursor.specs.Reading as reading;
 ghost use Rattle.go_cursor.specs.Reading.{bind, close, run, step_of};
 ghost use Rattle.go_cursor.specs.Reads.{Reads, ReadsNext};
@@ -19,11 +19,11 @@ use go_base::memory::NoMemory;
 use go_cursor::cursor::Cursor;
 use go_cursor::error::ParseError;
 use go_cursor::looks::begins_type_switch;
+use go_descent::grammar::{Part, PartTree};
 use go_syntax::expression::{Expr, Post};
 use go_syntax::held::expression::{HeldExpr, HeldExprs, HeldPosts, boxed_expr};
 use go_syntax::held::types::HeldType;
 use go_syntax::token::TokenKind;
-use go_type_exprs::grammar::{Part, PartTree};
 use std::alloc::Global;
 
 /// An operand and what follows it.

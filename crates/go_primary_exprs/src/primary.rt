@@ -1,5 +1,5 @@
 //! The readers of primary expressions.
-use go_type_exprs::grammar::Grammar;
+use go_descent::grammar::Grammar;
 
 /// The readers of primary expressions whose parts have a height below that of the grammar.
 #[derive(Clone, Copy)]

@@ -1,2 +1,1 @@
-pub mod BodyBelow
 pub mod Variadics

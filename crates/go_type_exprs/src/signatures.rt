@@ -4,17 +4,18 @@ ghost use Rattle.go_syntax.specs.declared.types.ParameterDecl.{ParameterDecl};
 ghost use Rattle.go_syntax.specs.grammar.Grammar as grammar;
 ghost use Rattle.go_syntax.specs.grammar.Terminals.{terminals};
 ghost use Rattle.go_descent.specs.Levels.{levels};
-ghost use Rattle.go_type_exprs.specs.Parts.{ReadsBelow};
+ghost use Rattle.go_descent.specs.Parts.{ReadsBelow};
 ghost use Rattle.go_cursor.specs.Reading.{run, step_of};
 ghost use Rattle.go_cursor.specs.Reads.{Reads};
 ghost use Rattle.go_descent.specs.Rules as rules;
 
-use crate::grammar::{Grammar, Part, PartTree};
+use crate::types::TypeExprs;
 use go_base::list::List;
 use go_cursor::cursor::Cursor;
 use go_cursor::error::ParseError;
 use go_cursor::looks::is_named;
 use go_cursor::names::names;
+use go_descent::grammar::{Part, PartTree};
 use go_syntax::held::types::{HeldParameters, HeldSignature};
 use go_syntax::name::Name;
 use go_syntax::token::TokenKind;
@@ -46,7 +47,7 @@ fn last_variadic(parameters: &[ParameterDecl]) -> bool
     }
 }
 
-impl<F: Fn(Global, &mut Cursor<'_>, usize, Part) -> Result<PartTree, ParseError>> Grammar<F> {
+impl<F: Fn(Global, &mut Cursor<'_>, usize, Part) -> Result<PartTree, ParseError>> TypeExprs<F> {
     /// The type of these parameters.
     #[tactic(auto, unfolding(go_descent::specs::Rules::parameter_of))]
     fn parameter_of(
@@ -54,14 +55,14 @@ impl<F: Fn(Global, &mut Cursor<'_>, usize, Part) -> Result<PartTree, ParseError>
         tokens: &mut Cursor<'_>,
         names: List<Name>,
     ) -> Result<ParameterDecl, ParseError>
-        requires { ReadsBelow self.now.height (F.pre self.now.below) (F.post self.now.below) }
-        ensures { Reads (rules.parameter_of (levels self.now.height).typ names (terminals tokens.old)) result tokens.new }
+        requires { ReadsBelow self.now.grammar.height (F.pre self.now.grammar.below) (F.post self.now.grammar.below) }
+        ensures { Reads (rules.parameter_of (levels self.now.grammar.height).typ names (terminals tokens.old)) result tokens.new }
     {
         let variadic = tokens.begins(TokenKind::Ellipsis);
         if variadic {
             tokens.advance();
         }
-        let type_ = self.type_below(tokens)?;
+        let type_ = self.grammar.type_below(tokens)?;
         Ok(ParameterDecl {
             names,
             variadic,
@@ -71,10 +72,10 @@ impl<F: Fn(Global, &mut Cursor<'_>, usize, Part) -> Result<PartTree, ParseError>
 
     /// A parameter without a name.
     fn unnamed_parameter(&self, tokens: &mut Cursor<'_>) -> Result<ParameterDecl, ParseError>
-        requires { ReadsBelow self.now.height (F.pre self.now.below) (F.post self.now.below) }
-        ensures { Reads (rules.parameter_of (levels self.now.height).typ [] (terminals tokens.old)) result tokens.new }
+        requires { ReadsBelow self.now.grammar.height (F.pre self.now.grammar.below) (F.post self.now.grammar.below) }
+        ensures { Reads (rules.parameter_of (levels self.now.grammar.height).typ [] (terminals tokens.old)) result tokens.new }
     {
-        self.parameter_of(tokens, List::new(self.alloc))
+        self.parameter_of(tokens, List::new(self.grammar.alloc))
     }
 
     /// More parameters without names.
@@ -83,8 +84,8 @@ impl<F: Fn(Global, &mut Cursor<'_>, usize, Part) -> Result<PartTree, ParseError>
         tokens: &mut Cursor<'_>,
         first: HeldParameters,
     ) -> Result<HeldParameters, ParseError>
-        requires { ReadsBelow self.now.height (F.pre self.now.below) (F.post self.now.below) }
-        ensures { Reads (run (step_of (rules.unnamed_item (levels self.now.height).typ)) first (terminals tokens.old)) result tokens.new }
+        requires { ReadsBelow self.now.grammar.height (F.pre self.now.grammar.below) (F.post self.now.grammar.below) }
+        ensures { Reads (run (step_of (rules.unnamed_item (levels self.now.grammar.height).typ)) first (terminals tokens.old)) result tokens.new }
     {
         let mut parameters = first;
         for _turn in 0..tokens.len() {
@@ -100,10 +101,10 @@ impl<F: Fn(Global, &mut Cursor<'_>, usize, Part) -> Result<PartTree, ParseError>
     /// Parameters without names.
     #[tactic(auto, unfolding(go_descent::specs::Rules::unnamed))]
     fn unnamed(&self, tokens: &mut Cursor<'_>) -> Result<HeldParameters, ParseError>
-        requires { ReadsBelow self.now.height (F.pre self.now.below) (F.post self.now.below) }
-        ensures { Reads (rules.unnamed (levels self.now.height).typ (terminals tokens.old)) result tokens.new }
+        requires { ReadsBelow self.now.grammar.height (F.pre self.now.grammar.below) (F.post self.now.grammar.below) }
+        ensures { Reads (rules.unnamed (levels self.now.grammar.height).typ (terminals tokens.old)) result tokens.new }
     {
-        let mut first = HeldParameters::new(self.alloc);
+        let mut first = HeldParameters::new(self.grammar.alloc);
         first.push(self.unnamed_parameter(tokens)?)?;
         self.more_unnamed(tokens, first)
     }
@@ -111,10 +112,10 @@ impl<F: Fn(Global, &mut Cursor<'_>, usize, Part) -> Result<PartTree, ParseError>
     /// Names and their type.
     #[tactic(auto, unfolding(go_descent::specs::Rules::named_parameter))]
     fn named_parameter(&self, tokens: &mut Cursor<'_>) -> Result<ParameterDecl, ParseError>
-        requires { ReadsBelow self.now.height (F.pre self.now.below) (F.post self.now.below) }
-        ensures { Reads (rules.named_parameter (levels self.now.height).typ (terminals tokens.old)) result tokens.new }
+        requires { ReadsBelow self.now.grammar.height (F.pre self.now.grammar.below) (F.post self.now.grammar.below) }
+        ensures { Reads (rules.named_parameter (levels self.now.grammar.height).typ (terminals tokens.old)) result tokens.new }
     {
-        let found = names(self.alloc, tokens)?;
+        let found = names(self.grammar.alloc, tokens)?;
         self.parameter_of(tokens, found)
     }
 
@@ -124,8 +125,8 @@ impl<F: Fn(Global, &mut Cursor<'_>, usize, Part) -> Result<PartTree, ParseError>
         tokens: &mut Cursor<'_>,
         first: HeldParameters,
     ) -> Result<HeldParameters, ParseError>
-        requires { ReadsBelow self.now.height (F.pre self.now.below) (F.post self.now.below) }
-        ensures { Reads (run (step_of (rules.named_item (levels self.now.height).typ)) first (terminals tokens.old)) result tokens.new }
+        requires { ReadsBelow self.now.grammar.height (F.pre self.now.grammar.below) (F.post self.now.grammar.below) }
+        ensures { Reads (run (step_of (rules.named_item (levels self.now.grammar.height).typ)) first (terminals tokens.old)) result tokens.new }
     {
         let mut parameters = first;
         for _turn in 0..tokens.len() {
@@ -141,10 +142,10 @@ impl<F: Fn(Global, &mut Cursor<'_>, usize, Part) -> Result<PartTree, ParseError>
     /// Parameters with names.
     #[tactic(auto, unfolding(go_descent::specs::Rules::named))]
     fn named(&self, tokens: &mut Cursor<'_>) -> Result<HeldParameters, ParseError>
-        requires { ReadsBelow self.now.height (F.pre self.now.below) (F.post self.now.below) }
-        ensures { Reads (rules.named (levels self.now.height).typ (terminals tokens.old)) result tokens.new }
+        requires { ReadsBelow self.now.grammar.height (F.pre self.now.grammar.below) (F.post self.now.grammar.below) }
+        ensures { Reads (rules.named (levels self.now.grammar.height).typ (terminals tokens.old)) result tokens.new }
     {
-        let mut first = HeldParameters::new(self.alloc);
+        let mut first = HeldParameters::new(self.grammar.alloc);
         first.push(self.named_parameter(tokens)?)?;
         self.more_named(tokens, first)
     }
@@ -152,8 +153,8 @@ impl<F: Fn(Global, &mut Cursor<'_>, usize, Part) -> Result<PartTree, ParseError>
     /// One parameter and more, and the closing bracket.
     #[tactic(auto, unfolding(go_descent::specs::Rules::some_parameters, go_cursor::specs::Reading::close, go_cursor::specs::Reading::expect))]
     fn some_parameters(&self, tokens: &mut Cursor<'_>) -> Result<HeldParameters, ParseError>
-        requires { ReadsBelow self.now.height (F.pre self.now.below) (F.post self.now.below) }
-        ensures { Reads (rules.some_parameters (levels self.now.height).typ (terminals tokens.old)) result tokens.new }
+        requires { ReadsBelow self.now.grammar.height (F.pre self.now.grammar.below) (F.post self.now.grammar.below) }
+        ensures { Reads (rules.some_parameters (levels self.now.grammar.height).typ (terminals tokens.old)) result tokens.new }
     {
         let parameters = if is_named(tokens) {
             self.named(tokens)?
@@ -168,13 +169,13 @@ impl<F: Fn(Global, &mut Cursor<'_>, usize, Part) -> Result<PartTree, ParseError>
     /// Parameters in their brackets.
     #[tactic(auto, unfolding(go_descent::specs::Rules::parameters, go_cursor::specs::Reading::expect))]
     pub fn parameters(&self, tokens: &mut Cursor<'_>) -> Result<HeldParameters, ParseError>
-        requires { ReadsBelow self.now.height (F.pre self.now.below) (F.post self.now.below) }
-        ensures { Reads (rules.parameters (levels self.now.height).typ (terminals tokens.old)) result tokens.new }
+        requires { ReadsBelow self.now.grammar.height (F.pre self.now.grammar.below) (F.post self.now.grammar.below) }
+        ensures { Reads (rules.parameters (levels self.now.grammar.height).typ (terminals tokens.old)) result tokens.new }
     {
         tokens.expect(TokenKind::LeftParen)?;
         if tokens.begins(TokenKind::RightParen) {
             tokens.advance();
-            return Ok(HeldParameters::new(self.alloc));
+            return Ok(HeldParameters::new(self.grammar.alloc));
         }
         self.some_parameters(tokens)
     }
@@ -186,8 +187,8 @@ impl<F: Fn(Global, &mut Cursor<'_>, usize, Part) -> Result<PartTree, ParseError>
         tokens: &mut Cursor<'_>,
         parameters: HeldParameters,
     ) -> Result<Signature, ParseError>
-        requires { ReadsBelow self.now.height (F.pre self.now.below) (F.post self.now.below) }
-        ensures { Reads (rules.result_parameters (levels self.now.height).typ parameters (terminals tokens.old)) result tokens.new }
+        requires { ReadsBelow self.now.grammar.height (F.pre self.now.grammar.below) (F.post self.now.grammar.below) }
+        ensures { Reads (rules.result_parameters (levels self.now.grammar.height).typ parameters (terminals tokens.old)) result tokens.new }
     {
         let results = self.parameters(tokens)?;
         if !none_variadic(results.items()) {
@@ -206,8 +207,8 @@ impl<F: Fn(Global, &mut Cursor<'_>, usize, Part) -> Result<PartTree, ParseError>
         tokens: &mut Cursor<'_>,
         parameters: HeldParameters,
     ) -> Result<Signature, ParseError>
-        requires { ReadsBelow self.now.height (F.pre self.now.below) (F.post self.now.below) }
-        ensures { Reads (rules.signature_end (levels self.now.height).typ parameters (terminals tokens.old)) result tokens.new }
+        requires { ReadsBelow self.now.grammar.height (F.pre self.now.grammar.below) (F.post self.now.grammar.below) }
+        ensures { Reads (rules.signature_end (levels self.now.grammar.height).typ parameters (terminals tokens.old)) result tokens.new }
     {
         if tokens.begins(TokenKind::LeftParen) {
             return self.result_parameters(tokens, parameters);
@@ -218,7 +219,7 @@ impl<F: Fn(Global, &mut Cursor<'_>, usize, Part) -> Result<PartTree, ParseError>
                 result: None,
             });
         }
-        let type_ = self.type_below(tokens)?;
+        let type_ = self.grammar.type_below(tokens)?;
         Ok(Signature {
             parameters: parameters.take(),
             result: Some(FuncResult::Type(type_)),
@@ -228,10 +229,10 @@ impl<F: Fn(Global, &mut Cursor<'_>, usize, Part) -> Result<PartTree, ParseError>
     /// Parameters and a result.
     #[tactic(auto, unfolding(go_descent::specs::Rules::signature_of))]
     pub fn signature(&self, tokens: &mut Cursor<'_>) -> Result<Signature, ParseError>
-        requires { ReadsBelow self.now.height (F.pre self.now.below) (F.post self.now.below) }
-        ensures { Reads (rules.signature_of (levels self.now.height) (terminals tokens.old)) result tokens.new }
+        requires { ReadsBelow self.now.grammar.height (F.pre self.now.grammar.below) (F.post self.now.grammar.below) }
+        ensures { Reads (rules.signature_of (levels self.now.grammar.height) (terminals tokens.old)) result tokens.new }
     {
-        if !self.is_deep() {
+        if !self.grammar.is_deep() {
             return Err(ParseError::Syntax);
         }
         let parameters = self.parameters(tokens)?;
