@@ -5,6 +5,7 @@ pub mod Begins
 pub mod BeginsExpr
 pub mod Bodies
 pub mod BodyBelow
+pub mod Chains
 pub mod CompleteLevels
 pub mod CompleteLiterals
 pub mod CompleteNames

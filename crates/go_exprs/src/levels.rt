@@ -6,7 +6,7 @@ ghost use Rattle.go_descent.specs.Parts.{ReadsBelow, ReadsPart};
 ghost use Rattle.go_descent.specs.Rules as rules;
 ghost use Rattle.go_cursor.specs.Skipping.{skipped_body};
 
-use crate::exprs::Exprs;
+use crate::exprs::{expr, unary_expr};
 use go_cursor::cursor::Cursor;
 use go_cursor::error::ParseError;
 use go_descent::grammar::{Grammar, Part, PartTree};
@@ -26,9 +26,17 @@ fn part_at<F: Fn(Global, &mut Cursor<'_>, usize, Part) -> Result<PartTree, Parse
     ensures { ReadsPart (rules.whole_parts skipped_body (levels grammar.height)) part (terminals tokens.old) result tokens.new }
 {
     match part {
-        Part::Expr => Ok(PartTree::Expr(HeldExpr::new(Exprs::over(grammar).expr(true, tokens)?))),
+        Part::Expr => Ok(PartTree::Expr(HeldExpr::new(expr(
+            &PrimaryExprs { grammar },
+            true,
+            tokens,
+        )?))),
         Part::Unary(composite) => {
-            Ok(PartTree::Expr(HeldExpr::new(Exprs::over(grammar).unary_expr(composite, tokens)?)))
+            Ok(PartTree::Expr(HeldExpr::new(unary_expr(
+                &PrimaryExprs { grammar },
+                composite,
+                tokens,
+            )?)))
         }
         Part::Type => Ok(PartTree::Type(HeldType::new(TypeExprs { grammar }.type_(tokens)?))),
         Part::CompositeType => Ok(PartTree::Type(HeldType::new(TypeExprs { grammar }.composite_type(

@@ -5,7 +5,7 @@ ghost use Rattle.go_cursor.specs.Reads.{Reads};
 ghost use Rattle.go_descent.specs.Levels.{levels};
 ghost use Rattle.go_descent.specs.Rules as rules;
 
-use crate::exprs::Exprs;
+use crate::exprs::{expr, unary_expr};
 use crate::levels::below;
 use go_cursor::cursor::Cursor;
 use go_cursor::error::ParseError;
@@ -111,7 +111,7 @@ impl Readers {
             height: self.height,
             below,
         };
-        Exprs::over(grammar).expr(composite, tokens)
+        expr(&PrimaryExprs { grammar }, composite, tokens)
     }
 
     /// The same of the operand of a prefix operator.
@@ -123,7 +123,7 @@ impl Readers {
             height: self.height,
             below,
         };
-        Exprs::over(grammar).unary_expr(composite, tokens)
+        unary_expr(&PrimaryExprs { grammar }, composite, tokens)
     }
 
     /// The same of an operand and what follows it.

@@ -4,7 +4,7 @@ use Rattle.go_syntax.specs.grammar.Terminals.{Terminal, terminals}
 use Rattle.go_descent.specs.Levels.{levels}
 use Rattle.go_cursor.specs.Reading.{Reader, goes_on, run, step_of}
 use Rattle.go_descent.specs.Rules.{more_exprs}
-use Rattle.go_primary_exprs.proofs.Chains.{handed, began, ran_out, behind, none_behind, bad_behind, one_behind}
+use Rattle.go_descent.proofs.Chains.{handed, began, ran_out, behind, none_behind, bad_behind, one_behind}
 use Rattle.go_primary_exprs.proofs.primary.PrimaryExprs.more_exprs.Goals as goal
 
 pub loop-turn-init : goal.loop-turn-init

@@ -4,7 +4,7 @@ use Rattle.go_syntax.specs.grammar.Terminals.{Terminal, terminals}
 use Rattle.go_descent.specs.Levels.{levels}
 use Rattle.go_cursor.specs.Reading.{Next, run, step_of}
 use Rattle.go_descent.specs.Rules.{post_item}
-use Rattle.go_primary_exprs.proofs.Chains.{handed_next, began, ran_out, found_none, found_one, no_item, bad_item, one_item}
+use Rattle.go_descent.proofs.Chains.{handed_next, began, ran_out, found_none, found_one, no_item, bad_item, one_item}
 use Rattle.go_primary_exprs.proofs.primary.PrimaryExprs.posts.Goals as goal
 
 pub loop-turn-init : goal.loop-turn-init

@@ -6,23 +6,23 @@ use Rattle.go_syntax.specs.grammar.Terminals.{Terminal, terminals}
 use Rattle.go_descent.specs.Levels.{levels}
 use Rattle.go_cursor.specs.Reading.{Reader, run, step_of}
 use Rattle.go_descent.specs.Rules.{and_expr}
-use Rattle.go_primary_exprs.proofs.Chains.{handed, began, ran_out, behind, none_behind, bad_behind, one_behind}
-use Rattle.go_exprs.proofs.exprs.Exprs.ors.Goals as goal
+use Rattle.go_descent.proofs.Chains.{handed, began, ran_out, behind, none_behind, bad_behind, one_behind}
+use Rattle.go_operator_exprs.proofs.operators.OperatorExprs.ors.Goals as goal
 
 pub loop-turn-init : goal.loop-turn-init
 loop-turn-init g c =
-    let operand : Reader Expr = and_expr c.args.composite (levels c.args.self.now.primary.grammar.height) in
+    let operand : Reader Expr = and_expr c.args.composite (levels c.args.self.now.grammar.now.height) in
     began (step_of (behind (begins kind.LogicalOr) operand)) [] c.new-operands.result (terminals c.args.tokens.now) c.len-turn-end.result c.len-turn-end.ensures c.new-operands.ensures
 
 pub returns-then-not-begins : goal.returns-then-not-begins
 returns-then-not-begins g c =
-    let operand : Reader Expr = and_expr c.args.composite (levels c.args.self.now.primary.grammar.height) in
+    let operand : Reader Expr = and_expr c.args.composite (levels c.args.self.now.grammar.now.height) in
     let ts : List Terminal = terminals c.loop-turn.tokens in
     none_behind (run (step_of (behind (begins kind.LogicalOr) operand)) [] (terminals c.args.tokens.now)) (begins kind.LogicalOr) operand c.len-turn-end.result c.loop-turn._turn c.loop-turn.operands ts c.loop-turn-test.true c.loop-turn.invariant (sym c.begins.ensures ∙ c.if-not-begins.true)
 
 pub returns-in_err-and_expr : goal.returns-in_err-and_expr
 returns-in_err-and_expr g c =
-    let operand : Reader Expr = and_expr c.args.composite (levels c.args.self.now.primary.grammar.height) in
+    let operand : Reader Expr = and_expr c.args.composite (levels c.args.self.now.grammar.now.height) in
     let ts : List Terminal = terminals c.loop-turn.tokens in
     let us : List Terminal = terminals c.advance.new.self in
     handed (run (step_of (behind (begins kind.LogicalOr) operand)) [] (terminals c.args.tokens.now)) (operand us) c.in_err-and_expr.field-0.0 c.from_residual.result c.and_expr.new.tokens c.and_expr.new.tokens c.from_residual.ensures.1 c.in_err-and_expr.ensures
@@ -30,7 +30,7 @@ returns-in_err-and_expr g c =
 
 pub loop-turn-preserved : goal.loop-turn-preserved
 loop-turn-preserved g c =
-    let operand : Reader Expr = and_expr c.args.composite (levels c.args.self.now.primary.grammar.height) in
+    let operand : Reader Expr = and_expr c.args.composite (levels c.args.self.now.grammar.now.height) in
     let ts : List Terminal = terminals c.loop-turn.tokens in
     let us : List Terminal = terminals c.advance.new.self in
     one_behind (run (step_of (behind (begins kind.LogicalOr) operand)) [] (terminals c.args.tokens.now)) (begins kind.LogicalOr) operand c.len-turn-end.result c.loop-turn._turn c.loop-turn.operands ts c.loop-turn-test.true c.loop-turn.invariant
@@ -38,6 +38,6 @@ loop-turn-preserved g c =
 
 pub returns : goal.returns
 returns g c =
-    let operand : Reader Expr = and_expr c.args.composite (levels c.args.self.now.primary.grammar.height) in
+    let operand : Reader Expr = and_expr c.args.composite (levels c.args.self.now.grammar.now.height) in
     let ts : List Terminal = terminals c.loop-turn.tokens in
     ran_out (run (step_of (behind (begins kind.LogicalOr) operand)) [] (terminals c.args.tokens.now)) (step_of (behind (begins kind.LogicalOr) operand)) c.len-turn-end.result c.loop-turn._turn c.loop-turn.operands ts c.loop-turn-test.false c.loop-turn.invariant

@@ -9,14 +9,14 @@ ghost use Rattle.go_descent.specs.Parts.{ReadsBelow};
 ghost use Rattle.go_cursor.specs.Reading.{bind, run, step_of};
 ghost use Rattle.go_cursor.specs.Reads.{Reads};
 ghost use Rattle.go_descent.specs.Rules as rules;
+ghost use Rattle.go_operator_exprs.specs.Primary.{ReadsPrimary};
 
-use crate::exprs::Exprs;
 use go_base::list::List;
 use go_base::memory::NoMemory;
 use go_base::operator::{CompareOp, PrefixOperator, ProductOperator, SumOperator};
 use go_cursor::cursor::Cursor;
 use go_cursor::error::ParseError;
-use go_descent::grammar::{Part, PartTree};
+use go_descent::grammar::{Grammar, Part, PartTree};
 use go_syntax::expression::Expr;
 use go_syntax::held::expression::{HeldExpr, HeldExprs, boxed_expr};
 use go_syntax::token::TokenKind;
@@ -187,7 +187,17 @@ fn or_of(alloc: Global, first: Expr, others: HeldExprs) -> Result<Expr, NoMemory
     Ok(Expr::Or(boxed_expr(alloc, first)?, others.take()))
 }
 
-impl<F: Fn(Global, &mut Cursor<'_>, usize, Part) -> Result<PartTree, ParseError>> Exprs<F> {
+/// The readers of operators and their operands, over what reads a primary expression and the parts of lower heights.
+pub struct OperatorExprs<'a, F, P> {
+    pub grammar: &'a Grammar<F>,
+    pub primary: P,
+}
+
+impl<
+    'a,
+    F: Fn(Global, &mut Cursor<'_>, usize, Part) -> Result<PartTree, ParseError>,
+    P: Fn(bool, &mut Cursor<'_>) -> Result<Expr, ParseError>,
+> OperatorExprs<'a, F, P> {
     /// A prefix operator and its operand, from behind the operator on.
     fn prefixed(
         &self,
@@ -195,24 +205,26 @@ impl<F: Fn(Global, &mut Cursor<'_>, usize, Part) -> Result<PartTree, ParseError>
         composite: bool,
         tokens: &mut Cursor<'_>,
     ) -> Result<Expr, ParseError>
-        requires { ReadsBelow self.now.primary.grammar.height (F.pre self.now.primary.grammar.below) (F.post self.now.primary.grammar.below) }
-        ensures { Reads (bind ((levels self.now.primary.grammar.height).unary composite (terminals tokens.old)) (λ x u. Some (expr.Prefix operator x, u))) result tokens.new }
+        requires parts { ReadsBelow self.now.grammar.now.height (F.pre self.now.grammar.now.below) (F.post self.now.grammar.now.below) }
+        requires primary { ReadsPrimary self.now.grammar.now.height (P.pre self.now.primary) (P.post self.now.primary) }
+        ensures { Reads (bind ((levels self.now.grammar.now.height).unary composite (terminals tokens.old)) (λ x u. Some (expr.Prefix operator x, u))) result tokens.new }
     {
-        let operand = self.primary.grammar.unary_below(composite, tokens)?;
-        Ok(Expr::Prefix(operator, boxed_expr(self.primary.grammar.alloc, operand)?))
+        let operand = self.grammar.unary_below(composite, tokens)?;
+        Ok(Expr::Prefix(operator, boxed_expr(self.grammar.alloc, operand)?))
     }
 
     /// An operand with or without a prefix operator.
     #[tactic(auto, unfolding(go_descent::specs::Rules::unary_expr))]
     pub fn unary_expr(&self, composite: bool, tokens: &mut Cursor<'_>) -> Result<Expr, ParseError>
-        requires { ReadsBelow self.now.primary.grammar.height (F.pre self.now.primary.grammar.below) (F.post self.now.primary.grammar.below) }
-        ensures { Reads (rules.unary_expr composite (levels self.now.primary.grammar.height) (terminals tokens.old)) result tokens.new }
+        requires parts { ReadsBelow self.now.grammar.now.height (F.pre self.now.grammar.now.below) (F.post self.now.grammar.now.below) }
+        requires primary { ReadsPrimary self.now.grammar.now.height (P.pre self.now.primary) (P.post self.now.primary) }
+        ensures { Reads (rules.unary_expr composite (levels self.now.grammar.now.height) (terminals tokens.old)) result tokens.new }
     {
         if tokens.begins_receive() {
             return Err(ParseError::Syntax);
         }
         match prefix_operator(tokens.sign()) {
-            None => self.primary.primary_expr(composite, tokens),
+            None => (self.primary)(composite, tokens),
             Some(operator) => {
                 tokens.advance();
                 self.prefixed(operator, composite, tokens)
@@ -226,11 +238,12 @@ impl<F: Fn(Global, &mut Cursor<'_>, usize, Part) -> Result<PartTree, ParseError>
         composite: bool,
         tokens: &mut Cursor<'_>,
     ) -> Result<(List<ProductOperator>, HeldExprs), ParseError>
-        requires { ReadsBelow self.now.primary.grammar.height (F.pre self.now.primary.grammar.below) (F.post self.now.primary.grammar.below) }
-        ensures { Reads (run (rules.step_both (rules.operation grammar.product_operator (rules.unary_expr composite (levels self.now.primary.grammar.height)))) ([], []) (terminals tokens.old)) result tokens.new }
+        requires parts { ReadsBelow self.now.grammar.now.height (F.pre self.now.grammar.now.below) (F.post self.now.grammar.now.below) }
+        requires primary { ReadsPrimary self.now.grammar.now.height (P.pre self.now.primary) (P.post self.now.primary) }
+        ensures { Reads (run (rules.step_both (rules.operation grammar.product_operator (rules.unary_expr composite (levels self.now.grammar.now.height)))) ([], []) (terminals tokens.old)) result tokens.new }
     {
-        let mut operators = List::new(self.primary.grammar.alloc);
-        let mut operands = HeldExprs::new(self.primary.grammar.alloc);
+        let mut operators = List::new(self.grammar.alloc);
+        let mut operands = HeldExprs::new(self.grammar.alloc);
         for _turn in 0..tokens.len() {
             match product_operator(tokens.sign()) {
                 None => return Ok((operators, operands)),
@@ -247,12 +260,13 @@ impl<F: Fn(Global, &mut Cursor<'_>, usize, Part) -> Result<PartTree, ParseError>
     /// Factors.
     #[tactic(auto, unfolding(go_descent::specs::Rules::product_expr, go_descent::specs::Rules::chain_of))]
     fn product_expr(&self, composite: bool, tokens: &mut Cursor<'_>) -> Result<Expr, ParseError>
-        requires { ReadsBelow self.now.primary.grammar.height (F.pre self.now.primary.grammar.below) (F.post self.now.primary.grammar.below) }
-        ensures { Reads (rules.product_expr composite (levels self.now.primary.grammar.height) (terminals tokens.old)) result tokens.new }
+        requires parts { ReadsBelow self.now.grammar.now.height (F.pre self.now.grammar.now.below) (F.post self.now.grammar.now.below) }
+        requires primary { ReadsPrimary self.now.grammar.now.height (P.pre self.now.primary) (P.post self.now.primary) }
+        ensures { Reads (rules.product_expr composite (levels self.now.grammar.now.height) (terminals tokens.old)) result tokens.new }
     {
         let first = HeldExpr::new(self.unary_expr(composite, tokens)?);
         let (operators, others) = self.products(composite, tokens)?;
-        Ok(product_of(self.primary.grammar.alloc, first.take(), operators, others)?)
+        Ok(product_of(self.grammar.alloc, first.take(), operators, others)?)
     }
 
     /// The operators and terms that follow.
@@ -261,11 +275,12 @@ impl<F: Fn(Global, &mut Cursor<'_>, usize, Part) -> Result<PartTree, ParseError>
         composite: bool,
         tokens: &mut Cursor<'_>,
     ) -> Result<(List<SumOperator>, HeldExprs), ParseError>
-        requires { ReadsBelow self.now.primary.grammar.height (F.pre self.now.primary.grammar.below) (F.post self.now.primary.grammar.below) }
-        ensures { Reads (run (rules.step_both (rules.operation grammar.sum_operator (rules.product_expr composite (levels self.now.primary.grammar.height)))) ([], []) (terminals tokens.old)) result tokens.new }
+        requires parts { ReadsBelow self.now.grammar.now.height (F.pre self.now.grammar.now.below) (F.post self.now.grammar.now.below) }
+        requires primary { ReadsPrimary self.now.grammar.now.height (P.pre self.now.primary) (P.post self.now.primary) }
+        ensures { Reads (run (rules.step_both (rules.operation grammar.sum_operator (rules.product_expr composite (levels self.now.grammar.now.height)))) ([], []) (terminals tokens.old)) result tokens.new }
     {
-        let mut operators = List::new(self.primary.grammar.alloc);
-        let mut operands = HeldExprs::new(self.primary.grammar.alloc);
+        let mut operators = List::new(self.grammar.alloc);
+        let mut operands = HeldExprs::new(self.grammar.alloc);
         for _turn in 0..tokens.len() {
             match sum_operator(tokens.sign()) {
                 None => return Ok((operators, operands)),
@@ -282,12 +297,13 @@ impl<F: Fn(Global, &mut Cursor<'_>, usize, Part) -> Result<PartTree, ParseError>
     /// Terms.
     #[tactic(auto, unfolding(go_descent::specs::Rules::sum_expr, go_descent::specs::Rules::chain_of))]
     fn sum_expr(&self, composite: bool, tokens: &mut Cursor<'_>) -> Result<Expr, ParseError>
-        requires { ReadsBelow self.now.primary.grammar.height (F.pre self.now.primary.grammar.below) (F.post self.now.primary.grammar.below) }
-        ensures { Reads (rules.sum_expr composite (levels self.now.primary.grammar.height) (terminals tokens.old)) result tokens.new }
+        requires parts { ReadsBelow self.now.grammar.now.height (F.pre self.now.grammar.now.below) (F.post self.now.grammar.now.below) }
+        requires primary { ReadsPrimary self.now.grammar.now.height (P.pre self.now.primary) (P.post self.now.primary) }
+        ensures { Reads (rules.sum_expr composite (levels self.now.grammar.now.height) (terminals tokens.old)) result tokens.new }
     {
         let first = HeldExpr::new(self.product_expr(composite, tokens)?);
         let (operators, others) = self.sums(composite, tokens)?;
-        Ok(sum_of(self.primary.grammar.alloc, first.take(), operators, others)?)
+        Ok(sum_of(self.grammar.alloc, first.take(), operators, others)?)
     }
 
     /// The comparisons and operands that follow.
@@ -296,11 +312,12 @@ impl<F: Fn(Global, &mut Cursor<'_>, usize, Part) -> Result<PartTree, ParseError>
         composite: bool,
         tokens: &mut Cursor<'_>,
     ) -> Result<(List<CompareOp>, HeldExprs), ParseError>
-        requires { ReadsBelow self.now.primary.grammar.height (F.pre self.now.primary.grammar.below) (F.post self.now.primary.grammar.below) }
-        ensures { Reads (run (rules.step_both (rules.operation grammar.comparison (rules.sum_expr composite (levels self.now.primary.grammar.height)))) ([], []) (terminals tokens.old)) result tokens.new }
+        requires parts { ReadsBelow self.now.grammar.now.height (F.pre self.now.grammar.now.below) (F.post self.now.grammar.now.below) }
+        requires primary { ReadsPrimary self.now.grammar.now.height (P.pre self.now.primary) (P.post self.now.primary) }
+        ensures { Reads (run (rules.step_both (rules.operation grammar.comparison (rules.sum_expr composite (levels self.now.grammar.now.height)))) ([], []) (terminals tokens.old)) result tokens.new }
     {
-        let mut operators = List::new(self.primary.grammar.alloc);
-        let mut operands = HeldExprs::new(self.primary.grammar.alloc);
+        let mut operators = List::new(self.grammar.alloc);
+        let mut operands = HeldExprs::new(self.grammar.alloc);
         for _turn in 0..tokens.len() {
             match comparison(tokens.sign()) {
                 None => return Ok((operators, operands)),
@@ -317,20 +334,22 @@ impl<F: Fn(Global, &mut Cursor<'_>, usize, Part) -> Result<PartTree, ParseError>
     /// Operands of comparisons.
     #[tactic(auto, unfolding(go_descent::specs::Rules::compare_expr, go_descent::specs::Rules::chain_of))]
     fn compare_expr(&self, composite: bool, tokens: &mut Cursor<'_>) -> Result<Expr, ParseError>
-        requires { ReadsBelow self.now.primary.grammar.height (F.pre self.now.primary.grammar.below) (F.post self.now.primary.grammar.below) }
-        ensures { Reads (rules.compare_expr composite (levels self.now.primary.grammar.height) (terminals tokens.old)) result tokens.new }
+        requires parts { ReadsBelow self.now.grammar.now.height (F.pre self.now.grammar.now.below) (F.post self.now.grammar.now.below) }
+        requires primary { ReadsPrimary self.now.grammar.now.height (P.pre self.now.primary) (P.post self.now.primary) }
+        ensures { Reads (rules.compare_expr composite (levels self.now.grammar.now.height) (terminals tokens.old)) result tokens.new }
     {
         let first = HeldExpr::new(self.sum_expr(composite, tokens)?);
         let (operators, others) = self.comparisons(composite, tokens)?;
-        Ok(compare_of(self.primary.grammar.alloc, first.take(), operators, others)?)
+        Ok(compare_of(self.grammar.alloc, first.take(), operators, others)?)
     }
 
     /// The operands that follow, each after `&&`.
     fn ands(&self, composite: bool, tokens: &mut Cursor<'_>) -> Result<HeldExprs, ParseError>
-        requires { ReadsBelow self.now.primary.grammar.height (F.pre self.now.primary.grammar.below) (F.post self.now.primary.grammar.below) }
-        ensures { Reads (run (step_of (rules.after_sign kind.LogicalAnd (rules.compare_expr composite (levels self.now.primary.grammar.height)))) [] (terminals tokens.old)) result tokens.new }
+        requires parts { ReadsBelow self.now.grammar.now.height (F.pre self.now.grammar.now.below) (F.post self.now.grammar.now.below) }
+        requires primary { ReadsPrimary self.now.grammar.now.height (P.pre self.now.primary) (P.post self.now.primary) }
+        ensures { Reads (run (step_of (rules.after_sign kind.LogicalAnd (rules.compare_expr composite (levels self.now.grammar.now.height)))) [] (terminals tokens.old)) result tokens.new }
     {
-        let mut operands = HeldExprs::new(self.primary.grammar.alloc);
+        let mut operands = HeldExprs::new(self.grammar.alloc);
         for _turn in 0..tokens.len() {
             if !tokens.begins(TokenKind::LogicalAnd) {
                 return Ok(operands);
@@ -344,20 +363,22 @@ impl<F: Fn(Global, &mut Cursor<'_>, usize, Part) -> Result<PartTree, ParseError>
     /// Operands of `&&`.
     #[tactic(auto, unfolding(go_descent::specs::Rules::and_expr, go_descent::specs::Rules::plain_chain))]
     fn and_expr(&self, composite: bool, tokens: &mut Cursor<'_>) -> Result<Expr, ParseError>
-        requires { ReadsBelow self.now.primary.grammar.height (F.pre self.now.primary.grammar.below) (F.post self.now.primary.grammar.below) }
-        ensures { Reads (rules.and_expr composite (levels self.now.primary.grammar.height) (terminals tokens.old)) result tokens.new }
+        requires parts { ReadsBelow self.now.grammar.now.height (F.pre self.now.grammar.now.below) (F.post self.now.grammar.now.below) }
+        requires primary { ReadsPrimary self.now.grammar.now.height (P.pre self.now.primary) (P.post self.now.primary) }
+        ensures { Reads (rules.and_expr composite (levels self.now.grammar.now.height) (terminals tokens.old)) result tokens.new }
     {
         let first = HeldExpr::new(self.compare_expr(composite, tokens)?);
         let others = self.ands(composite, tokens)?;
-        Ok(and_of(self.primary.grammar.alloc, first.take(), others)?)
+        Ok(and_of(self.grammar.alloc, first.take(), others)?)
     }
 
     /// The operands that follow, each after `||`.
     fn ors(&self, composite: bool, tokens: &mut Cursor<'_>) -> Result<HeldExprs, ParseError>
-        requires { ReadsBelow self.now.primary.grammar.height (F.pre self.now.primary.grammar.below) (F.post self.now.primary.grammar.below) }
-        ensures { Reads (run (step_of (rules.after_sign kind.LogicalOr (rules.and_expr composite (levels self.now.primary.grammar.height)))) [] (terminals tokens.old)) result tokens.new }
+        requires parts { ReadsBelow self.now.grammar.now.height (F.pre self.now.grammar.now.below) (F.post self.now.grammar.now.below) }
+        requires primary { ReadsPrimary self.now.grammar.now.height (P.pre self.now.primary) (P.post self.now.primary) }
+        ensures { Reads (run (step_of (rules.after_sign kind.LogicalOr (rules.and_expr composite (levels self.now.grammar.now.height)))) [] (terminals tokens.old)) result tokens.new }
     {
-        let mut operands = HeldExprs::new(self.primary.grammar.alloc);
+        let mut operands = HeldExprs::new(self.grammar.alloc);
         for _turn in 0..tokens.len() {
             if !tokens.begins(TokenKind::LogicalOr) {
                 return Ok(operands);
@@ -371,11 +392,12 @@ impl<F: Fn(Global, &mut Cursor<'_>, usize, Part) -> Result<PartTree, ParseError>
     /// An expression.
     #[tactic(auto, unfolding(go_descent::specs::Rules::expr_of, go_descent::specs::Rules::plain_chain))]
     pub fn expr(&self, composite: bool, tokens: &mut Cursor<'_>) -> Result<Expr, ParseError>
-        requires { ReadsBelow self.now.primary.grammar.height (F.pre self.now.primary.grammar.below) (F.post self.now.primary.grammar.below) }
-        ensures { Reads (rules.expr_of composite (levels self.now.primary.grammar.height) (terminals tokens.old)) result tokens.new }
+        requires parts { ReadsBelow self.now.grammar.now.height (F.pre self.now.grammar.now.below) (F.post self.now.grammar.now.below) }
+        requires primary { ReadsPrimary self.now.grammar.now.height (P.pre self.now.primary) (P.post self.now.primary) }
+        ensures { Reads (rules.expr_of composite (levels self.now.grammar.now.height) (terminals tokens.old)) result tokens.new }
     {
         let first = HeldExpr::new(self.and_expr(composite, tokens)?);
         let others = self.ors(composite, tokens)?;
-        Ok(or_of(self.primary.grammar.alloc, first.take(), others)?)
+        Ok(or_of(self.grammar.alloc, first.take(), others)?)
     }
 }
