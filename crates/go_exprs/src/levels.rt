@@ -10,7 +10,8 @@ use crate::exprs::{expr, unary_expr};
 use go_cursor::cursor::Cursor;
 use go_cursor::error::ParseError;
 use go_descent::grammar::{Grammar, Part, PartTree};
-use go_primary_exprs::primary::PrimaryExprs;
+use go_operand_exprs::operands::OperandExprs;
+use go_signatures::signatures::Signatures;
 use go_syntax::held::expression::HeldExpr;
 use go_syntax::held::types::{HeldSignature, HeldType};
 use go_type_exprs::types::TypeExprs;
@@ -18,35 +19,27 @@ use std::alloc::Global;
 
 /// A part whose own parts are of lower heights.
 fn part_at<F: Fn(Global, &mut Cursor<'_>, usize, Part) -> Result<PartTree, ParseError>>(
-    grammar: Grammar<F>,
+    grammar: &Grammar<F>,
     tokens: &mut Cursor<'_>,
     part: Part,
 ) -> Result<PartTree, ParseError>
-    requires { ReadsBelow grammar.height (F.pre grammar.below) (F.post grammar.below) }
-    ensures { ReadsPart (rules.whole_parts skipped_body (levels grammar.height)) part (terminals tokens.old) result tokens.new }
+    requires { ReadsBelow grammar.now.height (F.pre grammar.now.below) (F.post grammar.now.below) }
+    ensures { ReadsPart (rules.whole_parts skipped_body (levels grammar.now.height)) part (terminals tokens.old) result tokens.new }
 {
     match part {
-        Part::Expr => Ok(PartTree::Expr(HeldExpr::new(expr(
-            &PrimaryExprs { grammar },
-            true,
-            tokens,
-        )?))),
+        Part::Expr => Ok(PartTree::Expr(HeldExpr::new(expr(grammar, true, tokens)?))),
         Part::Unary(composite) => {
-            Ok(PartTree::Expr(HeldExpr::new(unary_expr(
-                &PrimaryExprs { grammar },
-                composite,
-                tokens,
-            )?)))
+            Ok(PartTree::Expr(HeldExpr::new(unary_expr(grammar, composite, tokens)?)))
         }
         Part::Type => Ok(PartTree::Type(HeldType::new(TypeExprs { grammar }.type_(tokens)?))),
         Part::CompositeType => Ok(PartTree::Type(HeldType::new(TypeExprs { grammar }.composite_type(
             tokens,
         )?))),
-        Part::Signature => Ok(PartTree::Signature(HeldSignature::new(TypeExprs {
+        Part::Signature => Ok(PartTree::Signature(HeldSignature::new(Signatures {
             grammar,
         }.signature(tokens)?))),
         Part::LiteralValue => {
-            Ok(PartTree::LiteralValue(PrimaryExprs { grammar }.literal_value(tokens)?))
+            Ok(PartTree::LiteralValue(OperandExprs { grammar }.literal_value(tokens)?))
         }
     }
 }
@@ -68,5 +61,5 @@ pub(crate) fn below(
         height: height - 1,
         below,
     };
-    part_at(grammar, tokens, part)
+    part_at(&grammar, tokens, part)
 }

@@ -5,12 +5,13 @@ ghost use Rattle.go_cursor.specs.Reads.{Reads};
 ghost use Rattle.go_descent.specs.Levels.{levels};
 ghost use Rattle.go_descent.specs.Rules as rules;
 
-use crate::exprs::{expr, unary_expr};
+use crate::exprs::{expr, primary_expr, unary_expr};
 use crate::levels::below;
 use go_cursor::cursor::Cursor;
 use go_cursor::error::ParseError;
 use go_descent::grammar::Grammar;
-use go_primary_exprs::primary::PrimaryExprs;
+use go_posts::posts::Posts;
+use go_signatures::signatures::Signatures;
 use go_syntax::body::BodyRange;
 use go_syntax::expression::Expr;
 use go_syntax::held::expression::HeldExprs;
@@ -50,7 +51,7 @@ impl Readers {
             height: self.height,
             below,
         };
-        PrimaryExprs { grammar }.exprs(tokens)
+        Posts { grammar: &grammar }.exprs(tokens)
     }
 
     /// A type of a lower height.
@@ -86,7 +87,7 @@ impl Readers {
             height: self.height,
             below,
         };
-        TypeExprs { grammar }.parameters(tokens)
+        Signatures { grammar: &grammar }.parameters(tokens)
     }
 
     /// The body of a function, where it may have one at all.
@@ -111,7 +112,7 @@ impl Readers {
             height: self.height,
             below,
         };
-        expr(&PrimaryExprs { grammar }, composite, tokens)
+        expr(&grammar, composite, tokens)
     }
 
     /// The same of the operand of a prefix operator.
@@ -123,7 +124,7 @@ impl Readers {
             height: self.height,
             below,
         };
-        unary_expr(&PrimaryExprs { grammar }, composite, tokens)
+        unary_expr(&grammar, composite, tokens)
     }
 
     /// The same of an operand and what follows it.
@@ -135,7 +136,7 @@ impl Readers {
             height: self.height,
             below,
         };
-        PrimaryExprs { grammar }.primary_expr(composite, tokens)
+        primary_expr(&grammar, composite, tokens)
     }
 
     /// A type whose parts are of lower heights.
@@ -147,6 +148,6 @@ impl Readers {
             height: self.height,
             below,
         };
-        TypeExprs { grammar }.type_(tokens)
+        TypeExprs { grammar: &grammar }.type_(tokens)
     }
 }

@@ -1,5 +1,4 @@
 //! Types as they are written, read from tokens by recursive descent up to a height.
 #![tactic(auto)]
 
-mod signatures;
 pub mod types;

@@ -26,16 +26,19 @@ use std::alloc::Global;
 
 /// The readers of types whose parts have a height below that of the grammar.
 #[derive(Clone, Copy)]
-pub struct TypeExprs<F> {
-    pub grammar: Grammar<F>,
+pub struct TypeExprs<'a, F> {
+    pub grammar: &'a Grammar<F>,
 }
 
-impl<F: Fn(Global, &mut Cursor<'_>, usize, Part) -> Result<PartTree, ParseError>> TypeExprs<F> {
+impl<'a, F: Fn(Global, &mut Cursor<'_>, usize, Part) -> Result<PartTree, ParseError>> TypeExprs<
+    'a,
+    F,
+> {
     /// A slice or an array, from behind `[` on.
     #[tactic(auto, unfolding(go_descent::specs::Rules::slice_or_array))]
     fn slice_or_array(&self, tokens: &mut Cursor<'_>) -> Result<Type, ParseError>
-        requires { ReadsBelow self.now.grammar.height (F.pre self.now.grammar.below) (F.post self.now.grammar.below) }
-        ensures { Reads (rules.slice_or_array (levels self.now.grammar.height) (terminals tokens.old)) result tokens.new }
+        requires { ReadsBelow self.now.grammar.now.height (F.pre self.now.grammar.now.below) (F.post self.now.grammar.now.below) }
+        ensures { Reads (rules.slice_or_array (levels self.now.grammar.now.height) (terminals tokens.old)) result tokens.new }
     {
         if tokens.begins(TokenKind::RightBracket) {
             tokens.advance();
@@ -51,8 +54,8 @@ impl<F: Fn(Global, &mut Cursor<'_>, usize, Part) -> Result<PartTree, ParseError>
     /// A map, from behind `map` on.
     #[tactic(auto, unfolding(go_descent::specs::Rules::map_type))]
     fn map_of(&self, tokens: &mut Cursor<'_>) -> Result<Type, ParseError>
-        requires { ReadsBelow self.now.grammar.height (F.pre self.now.grammar.below) (F.post self.now.grammar.below) }
-        ensures { Reads (rules.map_type (levels self.now.grammar.height) (terminals tokens.old)) result tokens.new }
+        requires { ReadsBelow self.now.grammar.now.height (F.pre self.now.grammar.now.below) (F.post self.now.grammar.now.below) }
+        ensures { Reads (rules.map_type (levels self.now.grammar.now.height) (terminals tokens.old)) result tokens.new }
     {
         tokens.expect(TokenKind::LeftBracket)?;
         let key = HeldType::new(self.grammar.type_below(tokens)?);
@@ -78,8 +81,8 @@ impl<F: Fn(Global, &mut Cursor<'_>, usize, Part) -> Result<PartTree, ParseError>
     /// Fields of one type.
     #[tactic(auto, unfolding(go_descent::specs::Rules::named_field))]
     fn named_field(&self, tokens: &mut Cursor<'_>) -> Result<FieldDecl, ParseError>
-        requires { ReadsBelow self.now.grammar.height (F.pre self.now.grammar.below) (F.post self.now.grammar.below) }
-        ensures { Reads (rules.named_field (levels self.now.grammar.height) (terminals tokens.old)) result tokens.new }
+        requires { ReadsBelow self.now.grammar.now.height (F.pre self.now.grammar.now.below) (F.post self.now.grammar.now.below) }
+        ensures { Reads (rules.named_field (levels self.now.grammar.now.height) (terminals tokens.old)) result tokens.new }
     {
         let found = names(self.grammar.alloc, tokens)?;
         let type_ = HeldType::new(self.grammar.type_below(tokens)?);
@@ -90,8 +93,8 @@ impl<F: Fn(Global, &mut Cursor<'_>, usize, Part) -> Result<PartTree, ParseError>
     /// A field declaration.
     #[tactic(auto, unfolding(go_descent::specs::Rules::field_of))]
     fn field(&self, tokens: &mut Cursor<'_>) -> Result<FieldDecl, ParseError>
-        requires { ReadsBelow self.now.grammar.height (F.pre self.now.grammar.below) (F.post self.now.grammar.below) }
-        ensures { Reads (rules.field_of (levels self.now.grammar.height) (terminals tokens.old)) result tokens.new }
+        requires { ReadsBelow self.now.grammar.now.height (F.pre self.now.grammar.now.below) (F.post self.now.grammar.now.below) }
+        ensures { Reads (rules.field_of (levels self.now.grammar.now.height) (terminals tokens.old)) result tokens.new }
     {
         if tokens.begins(TokenKind::Multiply) {
             tokens.advance();
@@ -106,8 +109,8 @@ impl<F: Fn(Global, &mut Cursor<'_>, usize, Part) -> Result<PartTree, ParseError>
 
     /// The field declarations up to the closing brace.
     fn fields(&self, tokens: &mut Cursor<'_>) -> Result<HeldFields, ParseError>
-        requires { ReadsBelow self.now.grammar.height (F.pre self.now.grammar.below) (F.post self.now.grammar.below) }
-        ensures { Reads (rules.fields (levels self.now.grammar.height) (terminals tokens.old)) result tokens.new }
+        requires { ReadsBelow self.now.grammar.now.height (F.pre self.now.grammar.now.below) (F.post self.now.grammar.now.below) }
+        ensures { Reads (rules.fields (levels self.now.grammar.now.height) (terminals tokens.old)) result tokens.new }
     {
         let mut items = HeldFields::new(self.grammar.alloc);
         for _turn in 0..tokens.len() {
@@ -123,8 +126,8 @@ impl<F: Fn(Global, &mut Cursor<'_>, usize, Part) -> Result<PartTree, ParseError>
     /// A struct, from behind `struct` on.
     #[tactic(auto, unfolding(go_descent::specs::Rules::struct_type, go_cursor::specs::Reading::close, go_cursor::specs::Reading::expect))]
     fn struct_of(&self, tokens: &mut Cursor<'_>) -> Result<Type, ParseError>
-        requires { ReadsBelow self.now.grammar.height (F.pre self.now.grammar.below) (F.post self.now.grammar.below) }
-        ensures { Reads (rules.struct_type (levels self.now.grammar.height) (terminals tokens.old)) result tokens.new }
+        requires { ReadsBelow self.now.grammar.now.height (F.pre self.now.grammar.now.below) (F.post self.now.grammar.now.below) }
+        ensures { Reads (rules.struct_type (levels self.now.grammar.now.height) (terminals tokens.old)) result tokens.new }
     {
         tokens.expect(TokenKind::LeftBrace)?;
         if tokens.begins(TokenKind::RightBrace) {
@@ -142,8 +145,8 @@ impl<F: Fn(Global, &mut Cursor<'_>, usize, Part) -> Result<PartTree, ParseError>
     /// A slice, an array, a map or a struct.
     #[tactic(auto, unfolding(go_descent::specs::Rules::composite_type))]
     pub fn composite_type(&self, tokens: &mut Cursor<'_>) -> Result<Type, ParseError>
-        requires { ReadsBelow self.now.grammar.height (F.pre self.now.grammar.below) (F.post self.now.grammar.below) }
-        ensures { Reads (rules.composite_type (levels self.now.grammar.height) (terminals tokens.old)) result tokens.new }
+        requires { ReadsBelow self.now.grammar.now.height (F.pre self.now.grammar.now.below) (F.post self.now.grammar.now.below) }
+        ensures { Reads (rules.composite_type (levels self.now.grammar.now.height) (terminals tokens.old)) result tokens.new }
     {
         if tokens.begins(TokenKind::LeftBracket) {
             tokens.advance();
@@ -163,8 +166,8 @@ impl<F: Fn(Global, &mut Cursor<'_>, usize, Part) -> Result<PartTree, ParseError>
     /// A channel, from behind `chan` on.
     #[tactic(auto, unfolding(go_descent::specs::Rules::chan_type))]
     pub fn chan_type(&self, tokens: &mut Cursor<'_>) -> Result<Type, ParseError>
-        requires { ReadsBelow self.now.grammar.height (F.pre self.now.grammar.below) (F.post self.now.grammar.below) }
-        ensures { Reads (rules.chan_type (levels self.now.grammar.height) (terminals tokens.old)) result tokens.new }
+        requires { ReadsBelow self.now.grammar.now.height (F.pre self.now.grammar.now.below) (F.post self.now.grammar.now.below) }
+        ensures { Reads (rules.chan_type (levels self.now.grammar.now.height) (terminals tokens.old)) result tokens.new }
     {
         if tokens.begins(TokenKind::Arrow) {
             tokens.advance();
@@ -178,8 +181,8 @@ impl<F: Fn(Global, &mut Cursor<'_>, usize, Part) -> Result<PartTree, ParseError>
     /// A method or an embedded interface.
     #[tactic(auto, unfolding(go_descent::specs::Rules::interface_elem, go_descent::specs::Rules::method_of))]
     fn interface_elem(&self, tokens: &mut Cursor<'_>) -> Result<InterfaceElem, ParseError>
-        requires { ReadsBelow self.now.grammar.height (F.pre self.now.grammar.below) (F.post self.now.grammar.below) }
-        ensures { Reads (rules.interface_elem (levels self.now.grammar.height) (terminals tokens.old)) result tokens.new }
+        requires { ReadsBelow self.now.grammar.now.height (F.pre self.now.grammar.now.below) (F.post self.now.grammar.now.below) }
+        ensures { Reads (rules.interface_elem (levels self.now.grammar.now.height) (terminals tokens.old)) result tokens.new }
     {
         if !names_method(tokens) {
             return Ok(InterfaceElem::Embedded(type_name(self.grammar.alloc, tokens)?));
@@ -191,8 +194,8 @@ impl<F: Fn(Global, &mut Cursor<'_>, usize, Part) -> Result<PartTree, ParseError>
 
     /// The methods and embedded interfaces up to the closing brace.
     fn interface_elems(&self, tokens: &mut Cursor<'_>) -> Result<HeldInterfaceElems, ParseError>
-        requires { ReadsBelow self.now.grammar.height (F.pre self.now.grammar.below) (F.post self.now.grammar.below) }
-        ensures { Reads (rules.interface_elems (levels self.now.grammar.height) (terminals tokens.old)) result tokens.new }
+        requires { ReadsBelow self.now.grammar.now.height (F.pre self.now.grammar.now.below) (F.post self.now.grammar.now.below) }
+        ensures { Reads (rules.interface_elems (levels self.now.grammar.now.height) (terminals tokens.old)) result tokens.new }
     {
         let mut items = HeldInterfaceElems::new(self.grammar.alloc);
         for _turn in 0..tokens.len() {
@@ -208,8 +211,8 @@ impl<F: Fn(Global, &mut Cursor<'_>, usize, Part) -> Result<PartTree, ParseError>
     /// An interface, from behind `interface` on.
     #[tactic(auto, unfolding(go_descent::specs::Rules::interface_type, go_cursor::specs::Reading::close, go_cursor::specs::Reading::expect))]
     pub fn interface_type(&self, tokens: &mut Cursor<'_>) -> Result<Type, ParseError>
-        requires { ReadsBelow self.now.grammar.height (F.pre self.now.grammar.below) (F.post self.now.grammar.below) }
-        ensures { Reads (rules.interface_type (levels self.now.grammar.height) (terminals tokens.old)) result tokens.new }
+        requires { ReadsBelow self.now.grammar.now.height (F.pre self.now.grammar.now.below) (F.post self.now.grammar.now.below) }
+        ensures { Reads (rules.interface_type (levels self.now.grammar.now.height) (terminals tokens.old)) result tokens.new }
     {
         tokens.expect(TokenKind::LeftBrace)?;
         if tokens.begins(TokenKind::RightBrace) {
@@ -227,8 +230,8 @@ impl<F: Fn(Global, &mut Cursor<'_>, usize, Part) -> Result<PartTree, ParseError>
     /// A type in parentheses, from behind `(` on.
     #[tactic(auto, unfolding(go_cursor::specs::Reading::close, go_cursor::specs::Reading::expect))]
     fn paren_type(&self, tokens: &mut Cursor<'_>) -> Result<Type, ParseError>
-        requires { ReadsBelow self.now.grammar.height (F.pre self.now.grammar.below) (F.post self.now.grammar.below) }
-        ensures { Reads (bind ((levels self.now.grammar.height).typ (terminals tokens.old)) (λ t. close kind.RightParen (type.Paren t))) result tokens.new }
+        requires { ReadsBelow self.now.grammar.now.height (F.pre self.now.grammar.now.below) (F.post self.now.grammar.now.below) }
+        ensures { Reads (bind ((levels self.now.grammar.now.height).typ (terminals tokens.old)) (λ t. close kind.RightParen (type.Paren t))) result tokens.new }
     {
         let inner = HeldType::new(self.grammar.type_below(tokens)?);
         tokens.expect(TokenKind::RightParen)?;
@@ -237,8 +240,8 @@ impl<F: Fn(Global, &mut Cursor<'_>, usize, Part) -> Result<PartTree, ParseError>
 
     /// A pointer, from behind `*` on.
     fn pointer(&self, tokens: &mut Cursor<'_>) -> Result<Type, ParseError>
-        requires { ReadsBelow self.now.grammar.height (F.pre self.now.grammar.below) (F.post self.now.grammar.below) }
-        ensures { Reads (bind ((levels self.now.grammar.height).typ (terminals tokens.old)) (λ t u. Some (type.Pointer t, u))) result tokens.new }
+        requires { ReadsBelow self.now.grammar.now.height (F.pre self.now.grammar.now.below) (F.post self.now.grammar.now.below) }
+        ensures { Reads (bind ((levels self.now.grammar.now.height).typ (terminals tokens.old)) (λ t u. Some (type.Pointer t, u))) result tokens.new }
     {
         let base = self.grammar.type_below(tokens)?;
         Ok(Type::Pointer(boxed_type(self.grammar.alloc, base)?))
@@ -247,8 +250,8 @@ impl<F: Fn(Global, &mut Cursor<'_>, usize, Part) -> Result<PartTree, ParseError>
     /// A channel that is received from, from `chan` on.
     #[tactic(auto, unfolding(go_descent::specs::Rules::receive_type))]
     fn receive_chan(&self, tokens: &mut Cursor<'_>) -> Result<Type, ParseError>
-        requires { ReadsBelow self.now.grammar.height (F.pre self.now.grammar.below) (F.post self.now.grammar.below) }
-        ensures { Reads (bind (rules.receive_type (levels self.now.grammar.height) (terminals tokens.old)) (λ t u. Some (type.ReceiveChan t, u))) result tokens.new }
+        requires { ReadsBelow self.now.grammar.now.height (F.pre self.now.grammar.now.below) (F.post self.now.grammar.now.below) }
+        ensures { Reads (bind (rules.receive_type (levels self.now.grammar.now.height) (terminals tokens.old)) (λ t u. Some (type.ReceiveChan t, u))) result tokens.new }
     {
         tokens.expect(TokenKind::ChanWord)?;
         let element = self.grammar.type_below(tokens)?;
@@ -257,8 +260,8 @@ impl<F: Fn(Global, &mut Cursor<'_>, usize, Part) -> Result<PartTree, ParseError>
 
     /// A function, from behind `func` on.
     fn func_type(&self, tokens: &mut Cursor<'_>) -> Result<Type, ParseError>
-        requires { ReadsBelow self.now.grammar.height (F.pre self.now.grammar.below) (F.post self.now.grammar.below) }
-        ensures { Reads (bind ((levels self.now.grammar.height).signature (terminals tokens.old)) (λ s u. Some (type.Func s, u))) result tokens.new }
+        requires { ReadsBelow self.now.grammar.now.height (F.pre self.now.grammar.now.below) (F.post self.now.grammar.now.below) }
+        ensures { Reads (bind ((levels self.now.grammar.now.height).signature (terminals tokens.old)) (λ s u. Some (type.Func s, u))) result tokens.new }
     {
         let signature = self.grammar.signature_below(tokens)?;
         Ok(Type::Func(boxed_signature(self.grammar.alloc, signature)?))
@@ -274,8 +277,8 @@ impl<F: Fn(Global, &mut Cursor<'_>, usize, Part) -> Result<PartTree, ParseError>
     /// A type.
     #[tactic(auto, unfolding(go_descent::specs::Rules::typ_of))]
     pub fn type_(&self, tokens: &mut Cursor<'_>) -> Result<Type, ParseError>
-        requires { ReadsBelow self.now.grammar.height (F.pre self.now.grammar.below) (F.post self.now.grammar.below) }
-        ensures { Reads (rules.typ_of (levels self.now.grammar.height) (terminals tokens.old)) result tokens.new }
+        requires { ReadsBelow self.now.grammar.now.height (F.pre self.now.grammar.now.below) (F.post self.now.grammar.now.below) }
+        ensures { Reads (rules.typ_of (levels self.now.grammar.now.height) (terminals tokens.old)) result tokens.new }
     {
         if tokens.begins(TokenKind::LeftParen) {
             tokens.advance();
