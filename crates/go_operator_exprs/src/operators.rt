@@ -188,6 +188,7 @@ fn or_of(alloc: Global, first: Expr, others: HeldExprs) -> Result<Expr, NoMemory
 }
 
 /// The readers of operators and their operands, over what reads a primary expression and the parts of lower heights.
+#[derive(Drop)]
 pub struct OperatorExprs<'a, F, P> {
     pub grammar: &'a Grammar<F>,
     pub primary: P,
