@@ -18,7 +18,7 @@ use go_type_exprs::types::TypeExprs;
 use std::alloc::Global;
 
 /// A part whose own parts are of lower heights.
-fn part_at<F: Fn(Global, &mut Cursor<'_>, usize, Part) -> Result<PartTree, ParseError>>(
+pub(crate) fn part_at<F: Fn(Global, &mut Cursor<'_>, usize, Part) -> Result<PartTree, ParseError>>(
     grammar: &Grammar<F>,
     tokens: &mut Cursor<'_>,
     part: Part,
