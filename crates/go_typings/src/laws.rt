@@ -1,0 +1,20 @@
+//! Laws of the definitions.
+ghost use Rattle.std.specs.Prelude.{◌≡◌, ℕ, Bool, true, None};
+ghost use Rattle.go_base.specs.Keys.{first_with};
+ghost use Rattle.go_model.specs.worlds.Worlds.{path_of};
+ghost use Rattle.go_typings.specs.ConstantKinds.{EntriesKept, ImportsKept};
+ghost use Rattle.go_typings.specs.PackageEnvironments.{Entries};
+ghost use Rattle.go_typings.specs.Sources.{PackageSource, Setting};
+ghost use Rattle.go_typings.specs.Typings.{IsTyping, Typing};
+
+/// A package has at most one typing, and two typings of some of its declarations agree on those that they share.
+pub fn one_typing()
+    ensures whole { (s : Setting) (u : PackageSource) (a b : Entries) → IsTyping s u a → IsTyping s u b → (n : ℕ) → a n ≡ b n }
+    ensures shared { (s : Setting) (u : PackageSource) (S T : ℕ → Bool) (a b : Entries) → Typing s u S a → Typing s u T b → (n : ℕ) → S n ≡ true → T n ≡ true → a n ≡ b n }
+{}
+
+/// The value of each constant of a typing is of its type or untyped kind, where those of the imports are and the
+/// package isn't one of them.
+pub fn kept_constants()
+    ensures { (s : Setting) (u : PackageSource) (S : ℕ → Bool) (a : Entries) → first_with path_of s.world.packages u.path ≡ None → ImportsKept s → Typing s u S a → EntriesKept s u a }
+{}
