@@ -6,3 +6,6 @@ pub mod OneEntry
 pub mod OneTyping
 pub mod KeptEntries
 pub mod ConstantKinds
+pub mod ReachedRegion
+pub mod LocalRules
+pub mod SameImports

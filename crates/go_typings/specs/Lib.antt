@@ -9,6 +9,7 @@ pub mod ConstantKinds
 pub mod DeclarationNodes
 pub mod DeclarationAsks
 pub mod References
+pub mod ReachedPackages
 pub mod Typings
 pub mod Redeclarations
 pub mod Refusals

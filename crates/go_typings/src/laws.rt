@@ -3,9 +3,12 @@ ghost use Rattle.std.specs.Prelude.{◌≡◌, ℕ, Bool, true, None};
 ghost use Rattle.go_base.specs.Keys.{first_with};
 ghost use Rattle.go_model.specs.worlds.Worlds.{path_of};
 ghost use Rattle.go_typings.specs.ConstantKinds.{EntriesKept, ImportsKept};
+ghost use Rattle.go_typings.specs.Assignments.{Below};
+ghost use Rattle.go_typings.specs.Declarations.{declarations};
 ghost use Rattle.go_typings.specs.PackageEnvironments.{Entries};
+ghost use Rattle.go_typings.specs.ReachedPackages.{ReachesSame};
 ghost use Rattle.go_typings.specs.Sources.{PackageSource, Setting};
-ghost use Rattle.go_typings.specs.Typings.{IsTyping, Typing};
+ghost use Rattle.go_typings.specs.Typings.{IsTyping, Typing, given};
 
 /// A package has at most one typing, and two typings of some of its declarations agree on those that they share.
 pub fn one_typing()
@@ -17,4 +20,9 @@ pub fn one_typing()
 /// package isn't one of them.
 pub fn kept_constants()
     ensures { (s : Setting) (u : PackageSource) (S : ℕ → Bool) (a : Entries) → first_with path_of s.world.packages u.path ≡ None → ImportsKept s → Typing s u S a → EntriesKept s u a }
+{}
+
+/// In two settings that are the same in all that a package reaches, the same entries are had of it.
+pub fn same_imports()
+    ensures had { (u : PackageSource) (s t : Setting) (S : ℕ → Bool) (a : Entries) → ReachesSame u s t → Below (given s u) (declarations u) S a → Below (given t u) (declarations u) S a }
 {}
