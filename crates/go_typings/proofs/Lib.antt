@@ -9,3 +9,4 @@ pub mod ConstantKinds
 pub mod ReachedRegion
 pub mod LocalRules
 pub mod SameImports
+pub mod SameReferences

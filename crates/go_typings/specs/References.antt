@@ -8,6 +8,7 @@ use Rattle.go_model.specs.declared.types.names.TypeName.{TypeName}
 use Rattle.go_model.specs.declared.types.term.Field.{Field}
 use Rattle.go_model.specs.declared.types.term.Signature.{Signature}
 use Rattle.go_model.specs.declared.types.term.Term.{Term, Term-F}
+use Rattle.go_model.specs.types.Selectors.{method as found_method}
 use Rattle.go_model.specs.types.Underlying.{under}
 use Rattle.go_references.specs.declared.references.Reference.{Reference}
 use Rattle.go_syntax.specs.declared.expression.Element.{Element, out-Element}
@@ -16,10 +17,10 @@ use Rattle.go_syntax.specs.declared.expression.Expr.{Expr, Expr-F, out-Expr}
 use Rattle.go_syntax.specs.declared.expression.Post.{Post, Post-F, out-Post}
 use Rattle.go_syntax.specs.declared.name.Name.{Name}
 use Rattle.go_syntax.specs.declared.types.«Type».{«Type» as Typ}
-use Rattle.go_rules.specs.Environments.{Env, HasMethod, selector_of}
+use Rattle.go_rules.specs.Environments.{Env, Found, selector_of}
 use Rattle.go_rules.specs.Expressions.{HasFieldKey, HasForm, OfType, array_of, chain}
 use Rattle.go_rules.specs.Nodes.{Node, Stands, expression}
-use Rattle.go_rules.specs.Operands.{IsTyped, is_variable, type_name}
+use Rattle.go_rules.specs.Operands.{IsTyped, ShapeWithin, type_name}
 use Rattle.go_rules.specs.declared.operand.Operand.{Operand}
 use Rattle.go_typings.specs.Assignments.{At}
 use Rattle.go_typings.specs.DeclarationNodes.{length_references, nodes, references, strong_references}
@@ -98,11 +99,12 @@ pub record Selects (E : Env) (at : Node) (o : Operand) (name : Name) : Type 0 wh
   pub is : out-Expr whole ≡ Expr-F.Primary operand (before ++ post ∷ after)
   pub selector : out-Post post ≡ Post-F.Selector name
   pub has : HasForm E (chain operand before) o
+  pub within : ShapeWithin o.shape
 
--- the selector finds a method of this type in the operand: a method value, or a method expression
+-- the selector finds a method of this type in the operand: as a method value, or as a method expression
 pub data FindsOf (E : Env) (o : Operand) (s : Sel) (owner : TypeName) : Type 0 where
-  finds_value : {t : Term} {g : Signature} → IsTyped o t → (m : HasMethod E (is_variable o.mode) t s g) → m.owner ≡ Some owner → FindsOf E o s owner
-  finds_expression : {t : Term} {g : Signature} → o ≡ type_name t → (m : HasMethod E false t s g) → m.owner ≡ Some owner → FindsOf E o s owner
+  finds_value : {t : Term} {through pointer : Bool} {g : Signature} → IsTyped o t → Found E s t (record { through = through; target = found_method (Some owner) pointer g }) → FindsOf E o s owner
+  finds_expression : {t : Term} {through pointer : Bool} {g : Signature} → o ≡ type_name t → Found E s t (record { through = through; target = found_method (Some owner) pointer g }) → FindsOf E o s owner
 
 -- a selector in the tree finds a method of this type
 pub record Finds (E : Env) (at : Node) (owner : TypeName) (s : Sel) : Type 0 where
