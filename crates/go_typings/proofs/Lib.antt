@@ -10,3 +10,4 @@ pub mod ReachedRegion
 pub mod LocalRules
 pub mod SameImports
 pub mod SameReferences
+pub mod SameTypings

@@ -120,7 +120,7 @@ module _ (R : Region) where
 
 -- ---- the environments
 
-own_path : (path : List ℕ) → bytes_eq path path ≡ true
+pub own_path : (path : List ℕ) → bytes_eq path path ≡ true
 own_path path = (bytes_eq-Decides path path).1 refl
 
 -- the signature of the method of `error`

@@ -1,14 +1,15 @@
 //! Laws of the definitions.
 ghost use Rattle.std.specs.Prelude.{◌≡◌, ℕ, Bool, true, None};
 ghost use Rattle.go_base.specs.Keys.{first_with};
+ghost use Rattle.go_model.specs.declared.types.package.Package.{Package};
 ghost use Rattle.go_model.specs.worlds.Worlds.{path_of};
 ghost use Rattle.go_typings.specs.ConstantKinds.{EntriesKept, ImportsKept};
-ghost use Rattle.go_typings.specs.Assignments.{Below};
-ghost use Rattle.go_typings.specs.Declarations.{declarations};
 ghost use Rattle.go_typings.specs.PackageEnvironments.{Entries};
 ghost use Rattle.go_typings.specs.ReachedPackages.{ReachesSame};
+ghost use Rattle.go_typings.specs.Refusals.{IsRefused, Refusal};
 ghost use Rattle.go_typings.specs.Sources.{PackageSource, Setting};
-ghost use Rattle.go_typings.specs.Typings.{IsTyping, Typing, given};
+ghost use Rattle.go_typings.specs.TypedPackages.{IsTypedAs};
+ghost use Rattle.go_typings.specs.Typings.{IsTyping, Typing};
 
 /// A package has at most one typing, and two typings of some of its declarations agree on those that they share.
 pub fn one_typing()
@@ -22,7 +23,11 @@ pub fn kept_constants()
     ensures { (s : Setting) (u : PackageSource) (S : ℕ → Bool) (a : Entries) → first_with path_of s.world.packages u.path ≡ None → ImportsKept s → Typing s u S a → EntriesKept s u a }
 {}
 
-/// In two settings that are the same in all that a package reaches, the same entries are had of it.
+/// In two settings that are the same in all that a package reaches, it has the same typings, is typed as the same
+/// packages, and is refused for the same cause.
 pub fn same_imports()
-    ensures had { (u : PackageSource) (s t : Setting) (S : ℕ → Bool) (a : Entries) → ReachesSame u s t → Below (given s u) (declarations u) S a → Below (given t u) (declarations u) S a }
+    ensures typing { (u : PackageSource) (s t : Setting) (S : ℕ → Bool) (a : Entries) → ReachesSame u s t → Typing s u S a → Typing t u S a }
+    ensures typed { (u : PackageSource) (s t : Setting) (p : Package) → ReachesSame u s t → IsTypedAs s u p → IsTypedAs t u p }
+    ensures refused { (u : PackageSource) (s t : Setting) (r : Refusal) → ReachesSame u s t → IsRefused s u r → IsRefused t u r }
+    ensures turned { (u : PackageSource) (s t : Setting) → ReachesSame u s t → ReachesSame u t s }
 {}
