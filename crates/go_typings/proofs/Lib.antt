@@ -11,3 +11,4 @@ pub mod LocalRules
 pub mod SameImports
 pub mod SameReferences
 pub mod SameTypings
+pub mod FoundImports

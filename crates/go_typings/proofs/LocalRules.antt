@@ -1,5 +1,5 @@
 -- What a declaration is given depends on a closed region alone, where the names of the region are all names, and is of it.
-use Rattle.std.proofs.Common.{◌≡◌, ℕ, zero, suc, Bool, true, List, [], ◌∷◌, Option, map, refl}
+use Rattle.std.proofs.Common.{◌≡◌, ℕ, zero, suc, true, List, [], ◌∷◌, Option, map}
 use Rattle.std.specs.Prelude.{replicate}
 use Rattle.go_base.specs.Lists.{Each}
 use Rattle.go_model.specs.declared.constants.value.Untyped.{Untyped}
@@ -9,13 +9,12 @@ use Rattle.go_model.specs.declared.constants.value.Value.{Value}
 use Rattle.go_model.specs.declared.types.package.ConstTerm.{ConstTerm}
 use Rattle.go_model.specs.declared.types.package.Entity.{Entity}
 use Rattle.go_model.specs.declared.types.package.Entity.TheVariants as entity
-use Rattle.go_model.specs.declared.types.term.Signature.{Signature}
 use Rattle.go_model.specs.declared.types.term.Term.{Term, Term-F}
 use Rattle.go_rules.specs.Environments.{Env}
-use Rattle.go_rules.specs.Expressions.{HasEach, each_none, each_more, OfSignature}
+use Rattle.go_rules.specs.Expressions.{HasEach, each_none, each_more}
 use Rattle.go_rules.specs.Nodes.{Node, expression, signature as at_signature, type}
 use Rattle.go_rules.specs.Operands.{default_type}
-use Rattle.go_rules.specs.Regions.{ConstIn, EntityIn, IsClosed, NameIn, RefersIn, Region, SignatureIn, TermIn, cut, node_names}
+use Rattle.go_rules.specs.Regions.{ConstIn, EntityIn, IsClosed, NameIn, RefersIn, Region, TermIn, cut, node_names}
 use Rattle.go_rules.specs.declared.operand.Operand.{Operand}
 use Rattle.go_rules.proofs.LocalAsks.{whole_signature_local}
 use Rattle.go_rules.proofs.LocalOperand.{has_local, type_local}
@@ -25,7 +24,6 @@ use Rattle.go_rules.proofs.LocalTerms.{close_in, form_in}
 use Rattle.go_rules.proofs.LocalTypes.{form_same}
 use Rattle.go_syntax.specs.declared.expression.Expr.{Expr}
 use Rattle.go_syntax.specs.declared.name.Name.{Name}
-use Rattle.go_syntax.specs.declared.types.Signature.{Signature as Sig, out-Signature as out-Sig}
 use Rattle.go_syntax.specs.declared.types.«Type».{«Type» as Typ}
 use Rattle.go_typings.specs.DeclarationRules.{AreConstants, constants_none, constants_more, Gives, gives_constants, gives_typed_variables, gives_variables, gives_alias, gives_definition, gives_function, gives_method, TypeOfConstant, own_kind, given_type}
 use Rattle.go_typings.specs.Declarations.{Declaration, Form}

@@ -1,5 +1,5 @@
 -- What a package reaches is a closed region of the environments of its declarations, where its entries are of it.
-use Rattle.std.proofs.Common.{◌≡◌, ℕ, zero, suc, Bool, true, false, ◌||◌, List, [], ◌∷◌, ◌++◌, Option, Some, None, refl, sym, ap, ◌∙◌, subst, ◌⊎◌, inl, inr}
+use Rattle.std.proofs.Common.{◌≡◌, ℕ, zero, suc, Bool, true, false, ◌||◌, List, [], ◌∷◌, ◌++◌, Option, Some, None, refl, sym, ◌∙◌, subst, ◌⊎◌, inl, inr}
 use Rattle.std.specs.Prelude.{if◌then◌else◌, slice_get, codes}
 use Rattle.std.specs.Option.{option_or}
 use Rattle.std.specs.Str.{bytes_eq}
@@ -24,9 +24,7 @@ use Rattle.go_model.specs.types.TypeNames.{names, signature_names}
 use Rattle.go_model.specs.types.Underlying.{entry}
 use Rattle.go_model.specs.worlds.PackageTypes.{defined_names, object_names, of_entity, package_names}
 use Rattle.go_model.specs.worlds.Worlds.{defined_in, name_of, object_in, object_name, path_of, table_of}
-use Rattle.go_rules.specs.Environments.{Env}
-use Rattle.go_rules.specs.Growth.{Grown, Grows}
-use Rattle.go_rules.specs.Regions.{EntityIn, IsClosed, Region, SeenIn, SignatureIn, TermIn, cut, error_name}
+use Rattle.go_rules.specs.Regions.{EntityIn, IsClosed, Region, SeenIn, SignatureIn, TermIn, error_name}
 use Rattle.go_rules.specs.Scopes.{as_import, entity_of, of_universe}
 use Rattle.go_rules.specs.Universe.{predeclared}
 use Rattle.go_rules.specs.declared.predeclared.Predeclared.{Predeclared}
@@ -35,10 +33,10 @@ use Rattle.go_rules.specs.declared.seen.Seen.TheVariants as seen
 use Rattle.go_rules.proofs.LocalTerms.{close_in, close_signature, each_passes, passes_left, passes_right}
 use Rattle.go_rules.proofs.LocalRelations.{basic_in}
 use Rattle.go_typings.specs.Declarations.{Form, constants, variables, alias, definition, function, method, Declaration, Declared, declarations, declared}
-use Rattle.go_typings.specs.PackageEnvironments.{Entries, Entry, objects, underlying, signed, as_object, defined_at, defined_by, defined_with, entity_by, environment, had, had_of, meaning_at, object_of, own_defined, own_type, path_in, signature_of, types_of, underlying_of}
-use Rattle.go_typings.specs.ReachedPackages.{AreReached, ReachesSame, is_reached}
+use Rattle.go_typings.specs.PackageEnvironments.{Entries, Entry, objects, underlying, signed, as_object, defined_at, defined_by, entity_by, environment, had, had_of, meaning_at, object_of, own_defined, own_type, path_in, signature_of, types_of, underlying_of}
+use Rattle.go_typings.specs.ReachedPackages.{AreReached, is_reached}
 use Rattle.go_typings.specs.Receivers.{DeclaredMethod, methods}
-use Rattle.go_typings.specs.Sources.{Import, PackageSource, Setting, import_name, imports_of}
+use Rattle.go_typings.specs.Sources.{AreFound, Import, PackageSource, Setting, import_name, imports_of}
 use Rattle.go_typings.proofs.Cells.{either, if_false, if_true, none_some, some_once}
 use Rattle.go_typings.proofs.GrowEnvironments.{object_back, signature_back, underlying_back, with_back}
 
@@ -137,7 +135,7 @@ error_in R = record {
   methods_in = λ m h. absurd h;
 }
 
-module _ (s : Setting) (u : PackageSource) (reached : List ℕ → Bool) (r : AreReached s.world u reached) where
+module _ (s : Setting) (u : PackageSource) (reached : List ℕ → Bool) (r : AreReached s.world u reached) (all : AreFound u) where
   abbrev R : Region
   R = region u reached
 
@@ -220,7 +218,7 @@ module _ (s : Setting) (u : PackageSource) (reached : List ℕ → Bool) (r : Ar
 
     pub closed_region : (d : Declaration) → IsClosed (environment s u b d) R
     closed_region d = record {
-      meaning = λ name m i e. meaning_in name (first_with import_name (imports_of u d.file) name) (declared (declarations u) name) m (λ j f. r.imports d.file j (first_has import_name (imports_of u d.file) name j f)) e;
+      meaning = λ name m i e. meaning_in name (first_with import_name (imports_of u d.file) name) (declared (declarations u) name) m (λ j f. r.imports d.file j (first_has import_name (imports_of u d.file) name j f) (all d.file j (first_has import_name (imports_of u d.file) name j f))) e;
       object = λ path name x i e. found_object R (first_with path_of s.world.packages path) name x (package_in path i) e;
       underlying = λ n d i e. (type_in n d i e).underlying_in;
       methods = λ n d m i e k. (type_in n d i e).methods_in m k;

@@ -1,24 +1,21 @@
 -- Under settings that are the same in all that a package reaches the same entries are had.
-use Rattle.std.proofs.Common.{◌≡◌, ℕ, zero, suc, ◌<◌, Bool, true, false, ◌||◌, List, Option, Some, None, refl, sym, ap, ◌∙◌, subst, inl, inr, arith}
-use Rattle.std.specs.Prelude.{if◌then◌else◌}
+use Rattle.std.proofs.Common.{◌≡◌, ℕ, zero, suc, ◌<◌, Bool, true, false, List, Some, None, refl, sym, ap, ◌∙◌, subst, inl, inr, arith}
 use Rattle.std.specs.Str.{bytes_eq}
-use Rattle.go_base.specs.Keys.{first_with}
 use Rattle.go_model.specs.declared.types.names.TypeName.{TypeName}
 use Rattle.go_model.specs.declared.types.package.Defined.{Defined}
 use Rattle.go_model.specs.declared.types.package.Entity.{Entity}
 use Rattle.go_model.specs.types.Terms.{error_type, is_error}
 use Rattle.go_model.specs.types.Underlying.{entry}
-use Rattle.go_model.specs.worlds.Worlds.{defined_in, object_in, path_of, table_of}
+use Rattle.go_model.specs.worlds.Worlds.{defined_in, object_in, table_of}
 use Rattle.go_rules.specs.Environments.{Env}
 use Rattle.go_rules.specs.Growth.{Grown, Grows}
 use Rattle.go_rules.specs.Regions.{cut}
 use Rattle.go_rules.specs.Scopes.{entity_of}
 use Rattle.go_typings.specs.Assignments.{Below, before}
-use Rattle.go_typings.specs.DeclarationRules.{Gives}
 use Rattle.go_typings.specs.Declarations.{Declaration, declarations}
 use Rattle.go_typings.specs.PackageEnvironments.{Entries, Entry, environment, own_defined, types_of}
 use Rattle.go_typings.specs.ReachedPackages.{ReachesSame, is_reached}
-use Rattle.go_typings.specs.Sources.{PackageSource, Setting}
+use Rattle.go_typings.specs.Sources.{AreFound, PackageSource, Setting}
 use Rattle.go_typings.specs.Typings.{given}
 use Rattle.go_typings.proofs.Agree.{held}
 use Rattle.go_typings.proofs.Cells.{before_has, either, if_false, if_true, none_some, some_once}
@@ -27,7 +24,7 @@ use Rattle.go_typings.proofs.LocalRules.{gives_local}
 use Rattle.go_typings.proofs.OneTyping.{grows, one}
 use Rattle.go_typings.proofs.ReachedRegion.{EntriesIn, EntryIn, closed_region, or_second, region}
 
-module _ (u : PackageSource) (s t : Setting) (m : ReachesSame u s t) where
+module _ (u : PackageSource) (s t : Setting) (m : ReachesSame u s t) (all : AreFound u) where
   module _ (b : Entries) (d : Declaration) where
     abbrev E : Env
     E = environment s u b d
@@ -79,7 +76,7 @@ module _ (u : PackageSource) (s t : Setting) (m : ReachesSame u s t) where
     }
 
     pub given_same : {x : Entry} → EntriesIn (region u m.reached) b → given s u b d x → given t u b d x × EntryIn (region u m.reached) x
-    given_same h a = let g = gives_local E (region u m.reached) (closed_region s u m.reached m.are b h d) (λ name. refl) a in (gives_more C F cut_grows g.0, g.1)
+    given_same h a = let g = gives_local E (region u m.reached) (closed_region s u m.reached m.are all b h d) (λ name. refl) a in (gives_more C F cut_grows g.0, g.1)
 
   -- entries that are had from below under the one setting are had under the other
   module _ (S : ℕ → Bool) (a : Entries) (T : Below (given s u) (declarations u) S a) where

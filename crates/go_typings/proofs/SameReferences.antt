@@ -1,6 +1,6 @@
 -- Under settings that are the same in all that a package reaches a declaration refers to the same others, and finds the same methods.
-use Rattle.std.proofs.Common.{◌≡◌, ℕ, Bool, true, List, [], ◌∷◌, ◌++◌, map, Some, refl, sym, ap, ◌∙◌, subst, ◌⊎◌, inl, inr}
-use Rattle.go_base.specs.Lists.{Each, Has}
+use Rattle.std.proofs.Common.{◌≡◌, ℕ, true, List, [], ◌∷◌, map, refl, sym, ap, ◌∙◌, subst}
+use Rattle.go_base.specs.Lists.{Each}
 use Rattle.go_model.specs.declared.types.names.Sel.{Sel}
 use Rattle.go_model.specs.declared.types.names.TypeName.{TypeName}
 use Rattle.go_model.specs.declared.types.term.Term.{Term, Term-F}
@@ -10,21 +10,21 @@ use Rattle.go_model.specs.types.Underlying.{under}
 use Rattle.go_references.specs.declared.references.Reference.{Reference}
 use Rattle.std.specs.Prelude.{if◌then◌else◌}
 use Rattle.go_rules.specs.Environments.{Env, Found, is_exported}
-use Rattle.go_rules.specs.Expressions.{HasForm, Has as Typed, has_operand, has_primary, has_imported, OfType, array_of, chain}
+use Rattle.go_rules.specs.Expressions.{HasForm, Has as Typed, has_operand, has_primary, has_imported, OfType, chain}
 use Rattle.go_rules.specs.Growth.{Grows}
 use Rattle.go_rules.specs.Nodes.{Node, expression, post, type}
-use Rattle.go_rules.specs.Operands.{ShapeWithin, type_name}
+use Rattle.go_rules.specs.Operands.{ShapeWithin}
 use Rattle.go_rules.specs.Regions.{IsClosed, RefersIn, Region, TermIn, cut}
 use Rattle.go_rules.specs.declared.operand.Operand.{Operand}
 use Rattle.go_rules.proofs.GrowOperand.{has_form_more, type_more}
-use Rattle.go_rules.proofs.GrowTypes.{form_more, found_more, joined, joined_is}
+use Rattle.go_rules.proofs.GrowTypes.{form_more, found_more, joined_is}
 use Rattle.go_rules.proofs.LocalOperand.{has_local, posts_local, type_local}
 use Rattle.go_rules.proofs.LocalRelations.{OperandIn, typed_in}
 use Rattle.go_rules.proofs.LocalResults.{imported_local}
 use Rattle.go_rules.proofs.LocalTerms.{close_in, form_in, passes_left, passes_right}
 use Rattle.go_rules.proofs.LocalTypes.{form_same, found_local}
 use Rattle.go_syntax.specs.declared.expression.Element.{Element}
-use Rattle.go_syntax.specs.declared.expression.Expr.{Expr, Expr-F, out-Expr}
+use Rattle.go_syntax.specs.declared.expression.Expr.{Expr, out-Expr}
 use Rattle.go_syntax.specs.declared.expression.Post.{Post}
 use Rattle.go_syntax.specs.declared.name.Name.{Name}
 use Rattle.go_syntax.specs.declared.types.«Type».{«Type» as Typ}

@@ -1,4 +1,4 @@
--- The packages that a package reaches: through its imports, and through the types of packages that it reaches.
+-- The packages that a package reaches: through its imports that are found, and through the types of packages that it reaches.
 -- Own: that a typing depends on these alone.
 use Rattle.std.specs.Prelude.{◌≡◌, ℕ, Bool, true, ◌||◌, List, Some}
 use Rattle.go_base.specs.Keys.{first_with}
@@ -14,9 +14,9 @@ use Rattle.go_typings.specs.Sources.{Import, PackageSource, Setting, imports_of}
 abbrev pub is_reached : (List ℕ → Bool) → TypeName → Bool
 is_reached reached n = is_error n || reached n.path
 
--- these are paths of the package's imports and of all packages whose types stand in types of packages among them
+-- among these paths are those of the package's imports that are found, and of all packages whose types stand in types of packages among them
 pub record AreReached (w : Packages) (u : PackageSource) (reached : List ℕ → Bool) : Type 0 where
-  pub imports : (file : ℕ) (i : Import) → Has (imports_of u file) i → reached i.path ≡ true
+  pub imports : (file : ℕ) (i : Import) → Has (imports_of u file) i → i.is_found ≡ true → reached i.path ≡ true
   pub closed : (path : List ℕ) (p : Package) → reached path ≡ true → first_with path_of w.packages path ≡ Some p → Passes (is_reached reached) (package_names p)
 
 -- two settings are the same in all that the package reaches

@@ -1,7 +1,7 @@
 -- Which declarations a declaration refers to, leads on to and has to come after.
 -- Public source: Go specification, "Declarations and scope", "Composite literals", "Selectors", "Method expressions",
 -- "Array types" and "Struct types". That a type refers to its methods, and what counts, is own.
-use Rattle.std.specs.Prelude.{◌≡◌, ◌⊎◌, ◌<◌, ℕ, Bool, true, false, List, ◌∷◌, ◌++◌, Some}
+use Rattle.std.specs.Prelude.{◌≡◌, ◌⊎◌, ◌<◌, ℕ, Bool, true, List, ◌∷◌, ◌++◌, Some}
 use Rattle.go_base.specs.Lists.{Has}
 use Rattle.go_model.specs.declared.types.names.Sel.{Sel}
 use Rattle.go_model.specs.declared.types.names.TypeName.{TypeName}

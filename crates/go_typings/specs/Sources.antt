@@ -1,7 +1,8 @@
 -- A package as it is written: its files in the order of their names, each with the imports that it uses and its declarations.
 -- Public source: Go specification, "Source file organization" and "Import declarations". That an import need not be found
 -- is own.
-use Rattle.std.specs.Prelude.{ℕ, Bool, List, [], Option, None, Some, slice_get}
+use Rattle.std.specs.Prelude.{◌≡◌, ℕ, Bool, true, List, [], Option, None, Some, slice_get}
+use Rattle.go_base.specs.Lists.{Has}
 use Rattle.go_model.specs.worlds.Worlds.{Packages}
 use Rattle.go_syntax.specs.declared.declaration.Decl.{Decl}
 
@@ -40,3 +41,7 @@ imports_in (Some f) = f.imports
 -- the imports of a file, by its number
 abbrev pub imports_of : PackageSource → ℕ → List Import
 imports_of u file = imports_in (slice_get u.files file)
+
+-- each import of the package is found
+abbrev pub AreFound : PackageSource → Type 0
+AreFound u = (file : ℕ) (i : Import) → Has (imports_of u file) i → i.is_found ≡ true

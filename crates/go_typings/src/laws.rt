@@ -7,7 +7,7 @@ ghost use Rattle.go_typings.specs.ConstantKinds.{EntriesKept, ImportsKept};
 ghost use Rattle.go_typings.specs.PackageEnvironments.{Entries};
 ghost use Rattle.go_typings.specs.ReachedPackages.{ReachesSame};
 ghost use Rattle.go_typings.specs.Refusals.{IsRefused, Refusal};
-ghost use Rattle.go_typings.specs.Sources.{PackageSource, Setting};
+ghost use Rattle.go_typings.specs.Sources.{AreFound, PackageSource, Setting};
 ghost use Rattle.go_typings.specs.TypedPackages.{IsTypedAs};
 ghost use Rattle.go_typings.specs.Typings.{IsTyping, Typing};
 
@@ -26,7 +26,7 @@ pub fn kept_constants()
 /// In two settings that are the same in all that a package reaches, it has the same typings, is typed as the same
 /// packages, and is refused for the same cause.
 pub fn same_imports()
-    ensures typing { (u : PackageSource) (s t : Setting) (S : ℕ → Bool) (a : Entries) → ReachesSame u s t → Typing s u S a → Typing t u S a }
+    ensures typing { (u : PackageSource) (s t : Setting) (S : ℕ → Bool) (a : Entries) → AreFound u → ReachesSame u s t → Typing s u S a → Typing t u S a }
     ensures typed { (u : PackageSource) (s t : Setting) (p : Package) → ReachesSame u s t → IsTypedAs s u p → IsTypedAs t u p }
     ensures refused { (u : PackageSource) (s t : Setting) (r : Refusal) → ReachesSame u s t → IsRefused s u r → IsRefused t u r }
     ensures turned { (u : PackageSource) (s t : Setting) → ReachesSame u s t → ReachesSame u t s }

@@ -2,7 +2,7 @@ use Rattle.go_typings.proofs.SameTypings.{refused_same, turned, typed_same, typi
 use Rattle.go_typings.proofs.laws.same_imports.Goals as goal
 
 pub returns-clause-typing : goal.returns-clause-typing
-returns-clause-typing c = λ u s t S a m k. typing_same u s t m S a k
+returns-clause-typing c = λ u s t S a f m k. typing_same u s t m f S a k
 
 pub returns-clause-typed : goal.returns-clause-typed
 returns-clause-typed c = λ u s t p m k. typed_same u s t m p k
