@@ -12,3 +12,5 @@ pub mod SameImports
 pub mod SameReferences
 pub mod SameTypings
 pub mod FoundImports
+pub mod SoundDeclarations
+pub mod OneRefusal

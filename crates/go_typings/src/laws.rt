@@ -1,15 +1,16 @@
 //! Laws of the definitions.
-ghost use Rattle.std.specs.Prelude.{◌≡◌, ℕ, Bool, true, None};
+ghost use Rattle.std.specs.Prelude.{◌≡◌, ◌<◌, ℕ, Bool, true, None, length};
 ghost use Rattle.go_base.specs.Keys.{first_with};
 ghost use Rattle.go_model.specs.declared.types.package.Package.{Package};
 ghost use Rattle.go_model.specs.worlds.Worlds.{path_of};
 ghost use Rattle.go_typings.specs.ConstantKinds.{EntriesKept, ImportsKept};
+ghost use Rattle.go_typings.specs.Declarations.{declarations};
 ghost use Rattle.go_typings.specs.PackageEnvironments.{Entries};
 ghost use Rattle.go_typings.specs.ReachedPackages.{ReachesSame};
 ghost use Rattle.go_typings.specs.Refusals.{IsRefused, Refusal};
 ghost use Rattle.go_typings.specs.Sources.{AreFound, PackageSource, Setting};
 ghost use Rattle.go_typings.specs.TypedPackages.{IsTypedAs};
-ghost use Rattle.go_typings.specs.Typings.{IsTyping, Typing};
+ghost use Rattle.go_typings.specs.Typings.{IsSound, IsTyping, Typing};
 
 /// A package has at most one typing, and two typings of some of its declarations agree on those that they share.
 pub fn one_typing()
@@ -30,4 +31,12 @@ pub fn same_imports()
     ensures typed { (u : PackageSource) (s t : Setting) (p : Package) → ReachesSame u s t → IsTypedAs s u p → IsTypedAs t u p }
     ensures refused { (u : PackageSource) (s t : Setting) (r : Refusal) → ReachesSame u s t → IsRefused s u r → IsRefused t u r }
     ensures turned { (u : PackageSource) (s t : Setting) → ReachesSame u s t → ReachesSame u t s }
+{}
+
+/// In a package that has a typing each declaration is sound; a package is refused for one cause, at one place, and
+/// isn't where it is typed.
+pub fn one_refusal()
+    ensures sound { (s : Setting) (u : PackageSource) (a : Entries) (n : ℕ) → IsTyping s u a → n < length (declarations u) → IsSound s u n }
+    ensures cause { (s : Setting) (u : PackageSource) (q r : Refusal) → IsRefused s u q → IsRefused s u r → q ≡ r }
+    ensures apart { (s : Setting) (u : PackageSource) (p : Package) (r : Refusal) → IsTypedAs s u p → IsRefused s u r → ⊥ }
 {}
