@@ -14,3 +14,4 @@ pub mod SameTypings
 pub mod FoundImports
 pub mod SoundDeclarations
 pub mod OneRefusal
+pub mod OnePackage

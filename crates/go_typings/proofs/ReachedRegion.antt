@@ -71,7 +71,7 @@ weaker p q h (x ∷ xs) k = (h x k.0, weaker p q h xs k.1)
 
 -- ---- what is found in a list
 
-first_has : {A : Type 0} (key : A → List ℕ) (xs : List A) (k : List ℕ) (x : A) → first_with key xs k ≡ Some x → Has xs x
+pub first_has : {A : Type 0} (key : A → List ℕ) (xs : List A) (k : List ℕ) (x : A) → first_with key xs k ≡ Some x → Has xs x
 first_has key [] k x e = none_some (first_with key [] k) x refl e
 first_has key (y ∷ ys) k x e = choose (bytes_eq (key y) k) (λ f. first_has key ys k x f) e
   where

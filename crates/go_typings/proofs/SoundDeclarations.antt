@@ -1,17 +1,17 @@
 -- In a package that has a typing each declaration is sound.
-use Rattle.std.proofs.Common.{◌≡◌, ℕ, zero, suc, ◌+◌, ◌<◌, ◌≤◌, Bool, true, false, ◌||◌, List, [], ◌∷◌, ◌++◌, Option, Some, None, length, refl, sym, ap, ◌∙◌, subst, ◌⊎◌, inl, inr, arith}
-use Rattle.std.specs.Prelude.{if◌then◌else◌, nat_lt, slice_get}
+use Rattle.std.proofs.Common.{◌≡◌, ℕ, suc, ◌+◌, ◌<◌, Bool, true, false, ◌||◌, List, [], ◌∷◌, Option, Some, None, length, refl, sym, ap, ◌⊎◌, inl, inr, arith}
+use Rattle.std.specs.Prelude.{if◌then◌else◌, nat_lt}
 use Rattle.std.specs.Option.{option_or}
 use Rattle.std.proofs.lemmas.Bool.Decides.{nat_tests}
 use Rattle.go_base.specs.Lists.{Has}
 use Rattle.go_base.proofs.Members.{has_split}
 use Rattle.go_rules.specs.Asks.{texts}
 use Rattle.go_rules.specs.Expressions.{is_blank}
-use Rattle.go_typings.specs.Assignments.{At, all_of}
+use Rattle.go_typings.specs.Assignments.{all_of}
 use Rattle.go_typings.specs.Declarations.{Form, constants, variables, alias, definition, function, method, Declaration, Declared, declarations, declared, declared_by, declared_from, is_init, names_of, place_from}
 use Rattle.go_typings.specs.PackageEnvironments.{Entries}
-use Rattle.go_typings.specs.Receivers.{DeclaredMethod, base, declared_methods, is_named, method_by, methods_from}
-use Rattle.go_typings.specs.References.{HasMethods, Names, RefersTo, by_name, to_method}
+use Rattle.go_typings.specs.Receivers.{DeclaredMethod, base, is_named, method_by, methods_from}
+use Rattle.go_typings.specs.References.{HasMethods, RefersTo, by_name, to_method}
 use Rattle.go_typings.specs.Sources.{PackageSource, Setting}
 use Rattle.go_typings.specs.Typings.{IsClosed, IsSound, IsTyping}
 use Rattle.go_typings.proofs.Cells.{none_some, some_once}

@@ -40,3 +40,8 @@ pub fn one_refusal()
     ensures cause { (s : Setting) (u : PackageSource) (q r : Refusal) → IsRefused s u q → IsRefused s u r → q ≡ r }
     ensures apart { (s : Setting) (u : PackageSource) (p : Package) (r : Refusal) → IsTypedAs s u p → IsRefused s u r → ⊥ }
 {}
+
+/// A package is typed as at most one package.
+pub fn one_package()
+    ensures { (s : Setting) (u : PackageSource) (p q : Package) → IsTypedAs s u p → IsTypedAs s u q → p ≡ q }
+{}
