@@ -15,3 +15,4 @@ pub mod FoundImports
 pub mod SoundDeclarations
 pub mod OneRefusal
 pub mod OnePackage
+pub mod JoinedEntries

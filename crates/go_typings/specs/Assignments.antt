@@ -1,5 +1,6 @@
 -- What declarations are given, one by one, and assignments that are had from below, whatever the rules are.
 -- Own: that a package's types and values are had in an order in which each is given by those before it alone.
+use Rattle.std.specs.Option.{option_or}
 use Rattle.std.specs.Prelude.{◌≡◌, ℕ, Bool, true, false, if◌then◌else◌, nat_lt, List, length, Option, Some, None, slice_get}
 
 -- an entry for a declaration, by its number
@@ -27,3 +28,7 @@ all_of ds n = nat_lt n (length ds)
 -- the second has each entry of the first
 abbrev pub Within : {Entry : Type 0} → Assignment Entry → Assignment Entry → Type 0
 Within {Entry = Entry} a b = (n : ℕ) (x : Entry) → a n ≡ Some x → b n ≡ Some x
+
+-- the first assignment, and where it has nothing the second
+abbrev pub joined : {Entry : Type 0} → Assignment Entry → Assignment Entry → Assignment Entry
+joined a b n = option_or (a n) (b n)

@@ -1,8 +1,9 @@
 //! Laws of the definitions.
-ghost use Rattle.std.specs.Prelude.{◌≡◌, ◌<◌, ℕ, Bool, true, None, length};
+ghost use Rattle.std.specs.Prelude.{◌≡◌, ◌<◌, ◌||◌, ℕ, Bool, true, None, length};
 ghost use Rattle.go_base.specs.Keys.{first_with};
 ghost use Rattle.go_model.specs.declared.types.package.Package.{Package};
 ghost use Rattle.go_model.specs.worlds.Worlds.{path_of};
+ghost use Rattle.go_typings.specs.Assignments.{Below, joined};
 ghost use Rattle.go_typings.specs.ConstantKinds.{EntriesKept, ImportsKept};
 ghost use Rattle.go_typings.specs.Declarations.{declarations};
 ghost use Rattle.go_typings.specs.PackageEnvironments.{Entries};
@@ -10,7 +11,7 @@ ghost use Rattle.go_typings.specs.ReachedPackages.{ReachesSame};
 ghost use Rattle.go_typings.specs.Refusals.{IsRefused, Refusal};
 ghost use Rattle.go_typings.specs.Sources.{AreFound, PackageSource, Setting};
 ghost use Rattle.go_typings.specs.TypedPackages.{IsTypedAs};
-ghost use Rattle.go_typings.specs.Typings.{IsSound, IsTyping, Typing};
+ghost use Rattle.go_typings.specs.Typings.{IsSound, IsTyping, Typing, given};
 
 /// A package has at most one typing, and two typings of some of its declarations agree on those that they share.
 pub fn one_typing()
@@ -44,4 +45,9 @@ pub fn one_refusal()
 /// A package is typed as at most one package.
 pub fn one_package()
     ensures { (s : Setting) (u : PackageSource) (p q : Package) → IsTypedAs s u p → IsTypedAs s u q → p ≡ q }
+{}
+
+/// Entries that are had from below of two sets of declarations are had of both together.
+pub fn joined_entries()
+    ensures { (s : Setting) (u : PackageSource) (S T : ℕ → Bool) (a b : Entries) → Below (given s u) (declarations u) S a → Below (given s u) (declarations u) T b → Below (given s u) (declarations u) (λ n. S n || T n) (joined a b) }
 {}
