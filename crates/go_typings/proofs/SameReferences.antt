@@ -29,7 +29,7 @@ use Rattle.go_syntax.specs.declared.expression.Post.{Post}
 use Rattle.go_syntax.specs.declared.name.Name.{Name}
 use Rattle.go_syntax.specs.declared.types.«Type».{«Type» as Typ}
 use Rattle.go_typings.specs.Declarations.{Form}
-use Rattle.go_typings.specs.References.{Finds, FindsMethod, FindsOf, finds_value, finds_expression, HasLiteral, literal, literal_array, literal_within, HoldsLiterals, holds_item, holds_slice_item, holds_key, holds_map_item, holds_address, IsFieldKey, Refers, Selects}
+use Rattle.go_typings.specs.References.{Finds, FindsMethod, FindsOf, finds_value, finds_expression, HasLiteral, literal, literal_array, literal_key, literal_value, HoldsValues, holds_item, holds_slice_item, holds_map_item, IsOmitted, omitted_itself, omitted_base, IsFieldKey, Refers, Selects}
 use Rattle.go_typings.specs.Sources.{PackageSource}
 use Rattle.go_typings.proofs.LocalRules.{refers}
 
@@ -59,17 +59,20 @@ module _ (E F : Env) (R : Region) (w : IsClosed E R) (every : (name : List ℕ) 
       let h = form_in E R w t (Term-F.Map k e) i p in
       (form_more C F m t (Term-F.Map k e) refl (form_same E R w t (Term-F.Map k e) i p), passes_left R.types (names k) (names e) h, passes_right R.types (names k) (names e) h)
 
-  holds_same : {t u : Term} → HoldsLiterals E t u → TermIn R t → HoldsLiterals F t u × TermIn R u
+  holds_same : {t u : Term} → HoldsValues E t u → TermIn R t → HoldsValues F t u × TermIn R u
   holds_same {t = t} (holds_item {e = e} {n = n} p) i = let f = array_under t e n i p in (holds_item f.0, f.1)
   holds_same {t = t} (holds_slice_item {e = e} p) i = let f = slice_under t e i p in (holds_slice_item f.0, f.1)
-  holds_same {t = t} (holds_key {k = k} {e = e} p) i = let f = map_under t k e i p in (holds_key f.0, f.1)
   holds_same {t = t} (holds_map_item {k = k} {e = e} p) i = let f = map_under t k e i p in (holds_map_item f.0, f.2)
-  holds_same {t = t} (holds_address {e = e} {base = b} h p) i = let f = holds_same h i in let g = pointer_under e b f.1 p in (holds_address f.0 g.0, g.1)
+
+  omitted_same : {t u : Term} → IsOmitted E t u → TermIn R t → IsOmitted F t u × TermIn R u
+  omitted_same omitted_itself i = (omitted_itself, i)
+  omitted_same {t = t} (omitted_base {base = b} p) i = let f = pointer_under t b i p in (omitted_base f.0, f.1)
 
   literal_same : {at : Node} {t : Term} {xs : List Element} → HasLiteral E at t xs → HasLiteral F at t xs × TermIn R t
   literal_same (literal s e a) = let f = of_type_same a in (literal s e f.0, f.1)
   literal_same (literal_array {u = u} n s e a) = let f = of_type_same a in (literal_array n s e f.0, close_in R (Term-F.Array n u) f.1)
-  literal_same (literal_within x h i p e k) = let f = literal_same h in let g = holds_same k f.1 in (literal_within x f.0 i p e g.0, g.1)
+  literal_same (literal_key {t = t} {k = k} {e = e} x h i q p m o) = let f = literal_same h in let g = map_under t k e f.1 m in let j = omitted_same o g.1 in (literal_key x f.0 i q p g.0 j.0, j.1)
+  literal_same (literal_value x h i p v o) = let f = literal_same h in let g = holds_same v f.1 in let j = omitted_same o g.1 in (literal_value x f.0 i p g.0 j.0, j.1)
 
   pub key_same : {at : Node} {name : Name} → IsFieldKey E at name → IsFieldKey F at name
   key_same k =

@@ -1,7 +1,7 @@
 -- Which declarations a declaration refers to, leads on to and has to come after.
 -- Public source: Go specification, "Declarations and scope", "Composite literals", "Selectors", "Method expressions",
 -- "Array types" and "Struct types". That a type refers to its methods, and what counts, is own.
-use Rattle.std.specs.Prelude.{◌≡◌, ◌⊎◌, ◌<◌, ℕ, Bool, true, List, ◌∷◌, ◌++◌, Some}
+use Rattle.std.specs.Prelude.{◌≡◌, ◌<◌, ℕ, Bool, true, List, ◌∷◌, ◌++◌, Some}
 use Rattle.go_base.specs.Lists.{Has}
 use Rattle.go_model.specs.declared.types.names.Sel.{Sel}
 use Rattle.go_model.specs.declared.types.names.TypeName.{TypeName}
@@ -50,23 +50,23 @@ pub data RefersTo (u : PackageSource) (f : Form) (n : ℕ) : Type 0 where
 
 -- ---- keys of struct literals
 
--- an element of an array, a slice or a map that has no type of its own is of this type, or an address of one
-pub data HoldsLiterals (E : Env) : Term → Term → Type 0 where
-  holds_item : {t e : Term} {n : ℕ} → under E.table t ≡ Term-F.Array n e → HoldsLiterals E t e
-  holds_slice_item : {t e : Term} → under E.table t ≡ Term-F.Slice e → HoldsLiterals E t e
-  holds_key : {t k e : Term} → under E.table t ≡ Term-F.Map k e → HoldsLiterals E t k
-  holds_map_item : {t k e : Term} → under E.table t ≡ Term-F.Map k e → HoldsLiterals E t e
-  holds_address : {t e base : Term} → HoldsLiterals E t e → under E.table e ≡ Term-F.Pointer base → HoldsLiterals E t base
+-- the type of the values of a composite literal of an array, a slice or a map
+pub data HoldsValues (E : Env) : Term → Term → Type 0 where
+  holds_item : {t e : Term} {n : ℕ} → under E.table t ≡ Term-F.Array n e → HoldsValues E t e
+  holds_slice_item : {t e : Term} → under E.table t ≡ Term-F.Slice e → HoldsValues E t e
+  holds_map_item : {t k e : Term} → under E.table t ≡ Term-F.Map k e → HoldsValues E t e
 
--- a key or a value of an element
-abbrev pub IsPart : Element → ElementValue → Type 0
-IsPart x v = ((out-Element x).key ≡ Some v) ⊎ ((out-Element x).value ≡ v)
+-- where a value of the first type is wanted, a literal without a type is of this type: the same, or the base of a pointer type
+pub data IsOmitted (E : Env) : Term → Term → Type 0 where
+  omitted_itself : {t : Term} → IsOmitted E t t
+  omitted_base : {t base : Term} → under E.table t ≡ Term-F.Pointer base → IsOmitted E t base
 
 -- a composite literal of this type with these elements stands in the tree
 pub data HasLiteral (E : Env) (at : Node) : Term → List Element → Type 0 where
   literal : {e : Expr} {t : Typ} {xs : List Element} {u : Term} → Stands at (expression e) → out-Expr e ≡ Expr-F.Composite t xs → OfType E t u → HasLiteral E at u xs
   literal_array : {e : Expr} {t : Typ} {xs : List Element} {u : Term} (n : ℕ) → Stands at (expression e) → out-Expr e ≡ Expr-F.CompositeArray t xs → OfType E t u → HasLiteral E at (array_of n u) xs
-  literal_within : {t u : Term} {xs ys : List Element} {v : ElementValue} (x : Element) → HasLiteral E at t xs → Has xs x → IsPart x v → out-ElementValue v ≡ ElementValue-F.«ElementValue::Literal» ys → HoldsLiterals E t u → HasLiteral E at u ys
+  literal_key : {t k e u : Term} {xs ys : List Element} {v : ElementValue} (x : Element) → HasLiteral E at t xs → Has xs x → (out-Element x).key ≡ Some v → out-ElementValue v ≡ ElementValue-F.«ElementValue::Literal» ys → under E.table t ≡ Term-F.Map k e → IsOmitted E k u → HasLiteral E at u ys
+  literal_value : {t e u : Term} {xs ys : List Element} (x : Element) → HasLiteral E at t xs → Has xs x → out-ElementValue (out-Element x).value ≡ ElementValue-F.«ElementValue::Literal» ys → HoldsValues E t e → IsOmitted E e u → HasLiteral E at u ys
 
 -- the name is a key of a struct's literal in the tree: that of a field
 pub record IsFieldKey (E : Env) (at : Node) (name : Name) : Type 0 where
