@@ -1,0 +1,158 @@
+-- Under settings that are the same in all that a package reaches it has the same typing and the same refusal.
+use Rattle.std.proofs.Common.{◌≡◌, ℕ, Bool, true, List, [], ◌∷◌, Option, Some, None, length, refl, sym, ◌∙◌, subst}
+use Rattle.std.specs.Str.{bytes_eq}
+use Rattle.go_base.specs.Lists.{Each}
+use Rattle.go_model.specs.declared.types.package.Package.{Package}
+use Rattle.go_model.specs.declared.types.term.Term.{Term}
+use Rattle.go_model.specs.worlds.Worlds.{table_of}
+use Rattle.go_rules.specs.Asks.{Meets}
+use Rattle.go_rules.specs.Environments.{Env}
+use Rattle.go_rules.specs.Expressions.{OfType}
+use Rattle.go_rules.specs.Nodes.{Node, type}
+use Rattle.go_rules.specs.Regions.{IsClosed, Region, cut}
+use Rattle.go_rules.specs.Usability.{UsableAs}
+use Rattle.go_rules.specs.declared.operand.Operand.{Operand}
+use Rattle.go_rules.proofs.GrowAsks.{meets_more}
+use Rattle.go_rules.proofs.GrowOperand.{type_more}
+use Rattle.go_rules.proofs.GrowRelations.{usable_more}
+use Rattle.go_rules.proofs.GrowResults.{each_of}
+use Rattle.go_rules.proofs.GrowTypes.{joined_is}
+use Rattle.go_rules.proofs.LocalAsks.{meets_local}
+use Rattle.go_rules.proofs.LocalOperand.{type_local}
+use Rattle.go_rules.proofs.LocalResults.{each_usable}
+use Rattle.go_syntax.specs.declared.declaration.Func.{Func}
+use Rattle.go_syntax.specs.declared.expression.Expr.{Expr}
+use Rattle.go_syntax.specs.declared.types.ParameterDecl.{ParameterDecl}
+use Rattle.go_syntax.specs.declared.types.«Type».{«Type» as Typ}
+use Rattle.go_typings.specs.Assignments.{At}
+use Rattle.go_typings.specs.DeclarationAsks.{AreUsable, Asks, FormAsks, IsMethod, ValuesFit}
+use Rattle.go_typings.specs.DeclarationNodes.{length_references, nodes, references, strong_references}
+use Rattle.go_typings.specs.Declarations.{Form, constants, variables, alias, definition, function, method, Declaration, declarations}
+use Rattle.go_typings.specs.Initializers.{Initialize}
+use Rattle.go_typings.specs.PackageEnvironments.{Entries, environment, own_defined}
+use Rattle.go_typings.specs.ReachedPackages.{ReachesSame}
+use Rattle.go_typings.specs.References.{LeadsTo, leads_here, leads_by_name, leads_by_method, Refers}
+use Rattle.go_typings.specs.Refusals.{IsRefused, Refusal, redeclared, missing_import, unsound}
+use Rattle.go_typings.specs.Sources.{AreFound, PackageSource, Setting}
+use Rattle.go_typings.specs.TypedPackages.{IsTypedAs}
+use Rattle.go_typings.specs.Typings.{IsFirstUnsound, IsSound, Typing}
+use Rattle.go_typings.proofs.Cells.{if_true}
+use Rattle.go_typings.proofs.FoundImports.{are_found}
+use Rattle.go_typings.proofs.GrowRules.{initialize_more}
+use Rattle.go_typings.proofs.LocalRules.{initialize_local, refers}
+use Rattle.go_typings.proofs.ReachedRegion.{EntriesIn, closed_region, own_path, region}
+use Rattle.go_typings.proofs.SameImports.{cut_grows, entries_in, had_same}
+use Rattle.go_typings.proofs.SameReferences.{finds_method_same, refers_back}
+
+-- the same the other way round
+abbrev pub turned : (u : PackageSource) (s t : Setting) → ReachesSame u s t → ReachesSame u t s
+turned u s t m = record {
+  reached = m.reached;
+  are = record { imports = m.are.imports; closed = λ path p i e. m.are.closed path p i (m.same path i ∙ e) };
+  same = λ path i. sym (m.same path i);
+  bits = sym m.bits;
+  profile = sym m.profile;
+}
+
+module _ (u : PackageSource) (s t : Setting) (m : ReachesSame u s t) (all : AreFound u) (a : Entries) (h : EntriesIn (region u m.reached) a) where
+  module _ (d : Declaration) where
+    abbrev E : Env
+    E = environment s u a d
+
+    abbrev F : Env
+    F = environment t u a d
+
+    abbrev R : Region
+    R = region u m.reached
+
+    abbrev C : Env
+    C = cut R E
+
+    closed : IsClosed E R
+    closed = closed_region s u m.reached m.are all a h d
+
+    every : (name : List ℕ) → R.names name ≡ true
+    every name = refl
+
+    meets_same : (at : Node) → Meets E at → Meets F at
+    meets_same at k = subst (λ z. Meets z at) (joined_is C F (cut_grows u s t m all a d)) (meets_more C F (cut_grows u s t m all a d) (meets_local E R closed at (refers E R closed every at) k))
+
+    usable_same : (x : Typ) (n : ℕ) (es : List Expr) → AreUsable E x n es → AreUsable F x n es
+    usable_same x n [] k = tt
+    usable_same x n (e ∷ es) (v, os, k, i, g) =
+        let q = type_local E R closed k (refers E R closed every (type x)) in
+        let p = initialize_local E R closed every i in
+        let b = each_usable E R closed v os q.1 p.1 g in
+        subst (λ z. (v : Term) × (os : List Operand) × OfType z x v × Initialize z n (e ∷ es) os × Each (λ o. UsableAs z o v) os) (joined_is C F (cut_grows u s t m all a d))
+        (v, os, type_more C F (cut_grows u s t m all a d) q.0, initialize_more C F (cut_grows u s t m all a d) p.0, each_of os (λ o j. usable_more C F (cut_grows u s t m all a d) j) b)
+
+    fit_same : (x : Option Typ) (n : ℕ) (es : List Expr) → ValuesFit E x n es → ValuesFit F x n es
+    fit_same None n es k = tt
+    fit_same (Some x) n es k = usable_same x n es k
+
+    method_same : (n : ℕ) (receiver : ParameterDecl) (f : Func) → IsMethod E u n receiver f → IsMethod F u n receiver f
+    method_same n receiver f k = record {
+      type = k.type;
+      of = k.of;
+      defined = k.defined;
+      stored = if_true (bytes_eq u.path u.path) (own_defined u a k.type) (table_of t.world.packages (record { path = u.path; name = k.type })) (own_path u.path)
+          ∙ sym (if_true (bytes_eq u.path u.path) (own_defined u a k.type) (table_of s.world.packages (record { path = u.path; name = k.type })) (own_path u.path)) ∙ k.stored;
+      bears = k.bears;
+      only = k.only;
+      apart = k.apart;
+      distinct = k.distinct;
+    }
+
+    form_asks_same : (n : ℕ) (f : Form) → FormAsks E u n f → FormAsks F u n f
+    form_asks_same n (constants c place) k = k
+    form_asks_same n (variables v) k = (k.0, fit_same v.type_ (length v.names) v.values k.1)
+    form_asks_same n (alias c) k = k
+    form_asks_same n (definition c) k = k
+    form_asks_same n (function f) k = k
+    form_asks_same n (method r f) k = method_same n r f k
+
+    pub asks_same : (n : ℕ) (f : Form) → Asks E u n f → Asks F u n f
+    asks_same n f k = record { form = form_asks_same n f k.form; meets = each_of (nodes f) (λ at j. meets_same at j) k.meets }
+
+    pub refers_same : (f : Form) (rs : _) (n : ℕ) → Refers F u f rs n → Refers E u f rs n
+    refers_same f rs n k = refers_back E F R closed every (cut_grows u s t m all a d) u f rs n k
+
+-- a typing under the one setting is one under the other
+module _ (u : PackageSource) (s t : Setting) (m : ReachesSame u s t) (all : AreFound u) where
+  at_of : {P Q : Declaration → Type 0} (ds : List Declaration) (n : ℕ) → ((d : Declaration) → P d → Q d) → At ds n P → At ds n Q
+  at_of ds n f k = (k.0, k.1, f k.0 k.2)
+
+  module _ (S : ℕ → Bool) (a : Entries) (T : Typing s u S a) where
+    inside : EntriesIn (region u m.reached) a
+    inside = entries_in u s t m all S a T.had
+
+    -- what leads on under the second setting does under the first
+    leads_back : {j k : ℕ} → LeadsTo t u a j k → LeadsTo s u a j k
+    leads_back leads_here = leads_here
+    leads_back (leads_by_name {k = k} n i r) = leads_by_name n (at_of (declarations u) k (λ d. refers_same u s t m all a inside d d.form (references d.form) n) i) (leads_back r)
+    leads_back (leads_by_method {k = k} n i r) = leads_by_method n (at_of (declarations u) k (λ d.
+        finds_method_same (environment t u a d) (environment s u a d) (region u m.reached) (closed_region t u m.reached (turned u s t m).are all a inside d) (λ name. refl) (cut_grows u t s (turned u s t m) all a d) u d.form n) i) (leads_back r)
+
+    pub typing_same : Typing t u S a
+    typing_same = record {
+      had = had_same u s t m all S a T.had;
+      asks = λ n i. at_of (declarations u) n (λ d. asks_same u s t m all a inside d n d.form) (T.asks n i);
+      rank = T.rank;
+      falls = λ n k i r. T.falls n k i (at_of (declarations u) n (λ d. refers_same u s t m all a inside d d.form (strong_references d.form) k) r);
+      lengths = λ n k i r l. T.lengths n k i (at_of (declarations u) n (λ d. refers_same u s t m all a inside d d.form (length_references d.form) k) r) (leads_back l);
+    }
+
+  pub sound_same : (n : ℕ) → IsSound s u n → IsSound t u n
+  sound_same n k = record { within = k.within; entries = k.entries; holds = k.holds; closed = k.closed; typing = typing_same k.within k.entries k.typing }
+
+module _ (u : PackageSource) (s t : Setting) (m : ReachesSame u s t) where
+  unsound_same : AreFound u → (n : ℕ) → IsFirstUnsound s u n → IsFirstUnsound t u n
+  unsound_same all n k = record { is = k.is; unsound = λ j. k.unsound (sound_same u t s (turned u s t m) all n j); first = λ j l. sound_same u s t m all j (k.first j l) }
+
+  pub refused_same : (r : Refusal) → IsRefused s u r → IsRefused t u r
+  refused_same (redeclared p) k = k
+  refused_same (missing_import p) k = k
+  refused_same (unsound p) k = (k.0, k.1, (k.2.0, unsound_same (are_found u k.1) k.2.0 k.2.1, k.2.2))
+
+  pub typed_same : (p : Package) → IsTypedAs s u p → IsTypedAs t u p
+  typed_same p k = record { once = k.once; found = k.found; entries = k.entries; typing = typing_same u s t m (are_found u k.found) _ k.entries k.typing; «package» = k.«package» }

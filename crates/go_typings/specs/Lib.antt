@@ -1,0 +1,16 @@
+pub mod Sources
+pub mod Declarations
+pub mod Receivers
+pub mod Assignments
+pub mod PackageEnvironments
+pub mod Initializers
+pub mod DeclarationRules
+pub mod ConstantKinds
+pub mod DeclarationNodes
+pub mod DeclarationAsks
+pub mod References
+pub mod ReachedPackages
+pub mod Typings
+pub mod Redeclarations
+pub mod Refusals
+pub mod TypedPackages

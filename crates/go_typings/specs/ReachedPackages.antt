@@ -1,0 +1,28 @@
+-- The packages that a package reaches: through its imports that are found, and through the types of packages that it reaches.
+-- Own: that a typing depends on these alone.
+use Rattle.std.specs.Prelude.{◌≡◌, ℕ, Bool, true, ◌||◌, List, Some}
+use Rattle.go_base.specs.Keys.{first_with}
+use Rattle.go_base.specs.Lists.{Has, Passes}
+use Rattle.go_model.specs.declared.types.names.TypeName.{TypeName}
+use Rattle.go_model.specs.declared.types.package.Package.{Package}
+use Rattle.go_model.specs.types.Terms.{is_error}
+use Rattle.go_model.specs.worlds.PackageTypes.{package_names}
+use Rattle.go_model.specs.worlds.Worlds.{Packages, path_of}
+use Rattle.go_typings.specs.Sources.{Import, PackageSource, Setting, imports_of}
+
+-- a name of a type of one of the packages with these paths, or of the predeclared `error`
+abbrev pub is_reached : (List ℕ → Bool) → TypeName → Bool
+is_reached reached n = is_error n || reached n.path
+
+-- among these paths are those of the package's imports that are found, and of all packages whose types stand in types of packages among them
+pub record AreReached (w : Packages) (u : PackageSource) (reached : List ℕ → Bool) : Type 0 where
+  pub imports : (file : ℕ) (i : Import) → Has (imports_of u file) i → i.is_found ≡ true → reached i.path ≡ true
+  pub closed : (path : List ℕ) (p : Package) → reached path ≡ true → first_with path_of w.packages path ≡ Some p → Passes (is_reached reached) (package_names p)
+
+-- two settings are the same in all that the package reaches
+pub record ReachesSame (u : PackageSource) (s t : Setting) : Type 0 where
+  pub reached : List ℕ → Bool
+  pub are : AreReached s.world u reached
+  pub same : (path : List ℕ) → reached path ≡ true → first_with path_of s.world.packages path ≡ first_with path_of t.world.packages path
+  pub bits : s.bits ≡ t.bits
+  pub profile : s.profile ≡ t.profile

@@ -1,0 +1,53 @@
+//! Laws of the definitions.
+ghost use Rattle.std.specs.Prelude.{◌≡◌, ◌<◌, ◌||◌, ℕ, Bool, true, None, length};
+ghost use Rattle.go_base.specs.Keys.{first_with};
+ghost use Rattle.go_model.specs.declared.types.package.Package.{Package};
+ghost use Rattle.go_model.specs.worlds.Worlds.{path_of};
+ghost use Rattle.go_typings.specs.Assignments.{Below, joined};
+ghost use Rattle.go_typings.specs.ConstantKinds.{EntriesKept, ImportsKept};
+ghost use Rattle.go_typings.specs.Declarations.{declarations};
+ghost use Rattle.go_typings.specs.PackageEnvironments.{Entries};
+ghost use Rattle.go_typings.specs.ReachedPackages.{ReachesSame};
+ghost use Rattle.go_typings.specs.Refusals.{IsRefused, Refusal};
+ghost use Rattle.go_typings.specs.Sources.{AreFound, PackageSource, Setting};
+ghost use Rattle.go_typings.specs.TypedPackages.{IsTypedAs};
+ghost use Rattle.go_typings.specs.Typings.{IsSound, IsTyping, Typing, given};
+
+/// A package has at most one typing, and two typings of some of its declarations agree on those that they share.
+pub fn one_typing()
+    ensures whole { (s : Setting) (u : PackageSource) (a b : Entries) → IsTyping s u a → IsTyping s u b → (n : ℕ) → a n ≡ b n }
+    ensures shared { (s : Setting) (u : PackageSource) (S T : ℕ → Bool) (a b : Entries) → Typing s u S a → Typing s u T b → (n : ℕ) → S n ≡ true → T n ≡ true → a n ≡ b n }
+{}
+
+/// The value of each constant of a typing is of its type or untyped kind, where those of the imports are and the
+/// package isn't one of them.
+pub fn kept_constants()
+    ensures { (s : Setting) (u : PackageSource) (S : ℕ → Bool) (a : Entries) → first_with path_of s.world.packages u.path ≡ None → ImportsKept s → Typing s u S a → EntriesKept s u a }
+{}
+
+/// In two settings that are the same in all that a package reaches, it has the same typings, is typed as the same
+/// packages, and is refused for the same cause.
+pub fn same_imports()
+    ensures typing { (u : PackageSource) (s t : Setting) (S : ℕ → Bool) (a : Entries) → AreFound u → ReachesSame u s t → Typing s u S a → Typing t u S a }
+    ensures typed { (u : PackageSource) (s t : Setting) (p : Package) → ReachesSame u s t → IsTypedAs s u p → IsTypedAs t u p }
+    ensures refused { (u : PackageSource) (s t : Setting) (r : Refusal) → ReachesSame u s t → IsRefused s u r → IsRefused t u r }
+    ensures turned { (u : PackageSource) (s t : Setting) → ReachesSame u s t → ReachesSame u t s }
+{}
+
+/// In a package that has a typing each declaration is sound; a package is refused for one cause, at one place, and
+/// isn't where it is typed.
+pub fn one_refusal()
+    ensures sound { (s : Setting) (u : PackageSource) (a : Entries) (n : ℕ) → IsTyping s u a → n < length (declarations u) → IsSound s u n }
+    ensures cause { (s : Setting) (u : PackageSource) (q r : Refusal) → IsRefused s u q → IsRefused s u r → q ≡ r }
+    ensures apart { (s : Setting) (u : PackageSource) (p : Package) (r : Refusal) → IsTypedAs s u p → IsRefused s u r → ⊥ }
+{}
+
+/// A package is typed as at most one package.
+pub fn one_package()
+    ensures { (s : Setting) (u : PackageSource) (p q : Package) → IsTypedAs s u p → IsTypedAs s u q → p ≡ q }
+{}
+
+/// Entries that are had from below of two sets of declarations are had of both together.
+pub fn joined_entries()
+    ensures { (s : Setting) (u : PackageSource) (S T : ℕ → Bool) (a b : Entries) → Below (given s u) (declarations u) S a → Below (given s u) (declarations u) T b → Below (given s u) (declarations u) (λ n. S n || T n) (joined a b) }
+{}
