@@ -1,7 +1,9 @@
 -- Indices: what they are, and where there are none.
-use Rattle.std.proofs.Common.{◌≡◌, ℕ, Bool, true, false, Option, Some, None, refl, sym, ap, ◌∙◌, subst, List, ◌<◌, ◌≤◌, ◌^◌, ◌⊎◌, inl, inr, ◌&&◌, omega, arith}
-use Rattle.std.specs.Prelude.{ℤ, pos, MatchOption}
-use Rattle.go_model.specs.constants.Constants.{is_representable}
+use Rattle.std.proofs.Common.{◌≡◌, ℕ, Bool, true, false, Option, Some, None, refl, sym, ap, ◌∙◌, subst, List, ◌<◌, ◌≤◌, ◌-◌, ◌^◌, ◌⊎◌, inl, inr, ◌&&◌, arith}
+use Rattle.std.specs.Prelude.{ℤ, pos, neg_ℤ, int_le, nat_le, MatchOption}
+use Rattle.std.proofs.lemmas.Bool.{leb-true}
+use Rattle.go_model.specs.constants.Constants.{is_number_of, is_representable, lies_between}
+use Rattle.go_model.specs.declared.constants.class.Integer.TheVariants as integer
 use Rattle.go_model.specs.declared.constants.value.Basic.TheVariants as basic
 use Rattle.go_model.specs.declared.constants.value.Untyped.{Untyped}
 use Rattle.go_model.specs.declared.constants.value.Value.{Value}
@@ -135,10 +137,24 @@ module _ (E : Env) where
 
 -- ---- whole numbers
 
+right_holds : (a b : Bool) → (a && b) ≡ true → b ≡ true
+right_holds true b e = e
+right_holds false b e = absurd (false_true e)
+
+no_greater : (low : ℤ) (n k : ℕ) → lies_between low (pos k) (pos n) ≡ true → n ≤ k
+no_greater low n k e = leb-true n k (right_holds (int_le low (pos n)) (nat_le n k) e)
+
+abbrev IsSigned : ℕ → ℕ → Type 0
+IsSigned n m = is_number_of (integer.Signed m) (pos n) ≡ true
+
+signed_small : (n m : ℕ) → (m ≡ 32) ⊎ (m ≡ 64) → IsSigned n m → n < 2 ^ 64
+signed_small n m (inl w) e = let h = no_greater (neg_ℤ (pos (2 ^ 31))) n (2 ^ 31 - 1) (subst (IsSigned n) w e) in omega (arith, h)
+signed_small n m (inr w) e = let h = no_greater (neg_ℤ (pos (2 ^ 63))) n (2 ^ 63 - 1) (subst (IsSigned n) w e) in omega (arith, h)
+
 -- what is representable in int fits into 64 bits
 representable_small : (n m : ℕ) → (m ≡ 32) ⊎ (m ≡ 64) → is_representable (value.Int (pos n)) basic.Int m ≡ true → n < 2 ^ 64
 unfolding is_representable
-representable_small n m w e = ?
+representable_small n m w e = signed_small n m w e
 
 int_of_number : (E : Env) (v : Value) (x : ℤ) (n : ℕ) → v ≡ value.Int x → x ≡ pos n → Fits E v → IsInt E v n
 int_of_number E v x n e f r = record { number = e ∙ ap value.Int f; within = r }

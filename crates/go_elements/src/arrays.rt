@@ -4,17 +4,28 @@ ghost use Rattle.go_model.specs.declared.types.term.Term.{Term, out-Term};
 ghost use Rattle.go_rules.specs.Expressions.{IsArray};
 ghost use Rattle.go_rules.specs.Scopes.{env_of};
 ghost use Rattle.go_usability.specs.Answers.{Gives};
-ghost use Rattle.go_elements.specs.inner.Arrays.{LayerLength};
+ghost use Rattle.go_elements.specs.inner.Arrays.{BaseLength, LengthAt};
 
 use go_model::types::term::Term;
 use go_usability::context::Context;
 
 // The length of an array type.
-fn length_in(under: &Term) -> Option<u64>
-    ensures { Gives (LayerLength (out-Term under.now)) result }
+fn base_length(under: &Term) -> Option<u64>
+    ensures { Gives (BaseLength (out-Term under.now)) result }
 {
     match under {
         Term::Array(length, _) => Some(*length),
+        _ => None,
+    }
+}
+
+// The length of an array type, or of the array under a pointer type.
+fn length_at(context: &Context<'_>, under: &Term) -> Option<u64>
+    ensures { Gives (LengthAt (env_of context.now.env.now) (out-Term under.now)) result }
+{
+    match under {
+        Term::Array(length, _) => Some(*length),
+        Term::Pointer(base) => base_length(context.under(base.value())),
         _ => None,
     }
 }
@@ -24,16 +35,5 @@ fn length_in(under: &Term) -> Option<u64>
 pub fn array_length(context: &Context<'_>, term: &Term) -> Option<u64>
     ensures { Gives (λ n. (pointer : Bool) × (e : Term) × IsArray (env_of context.now.env.now) term.now pointer n e) result }
 {
-    match context.under(term) {
-        Term::Array(length, _) => Some(*length),
-        Term::Pointer(base) => length_in(context.under(base.value())),
-        Term::Plain(_) => None,
-        Term::Named(_) => None,
-        Term::Slice(_) => None,
-        Term::Map(_, _) => None,
-        Term::Chan(_, _) => None,
-        Term::Func(_) => None,
-        Term::Struct(_) => None,
-        Term::Interface(_) => None,
-    }
+    length_at(context, context.under(term))
 }
