@@ -18,14 +18,16 @@ use Rattle.go_elements.specs.Indexes.{Indexes, indexes_array, indexes_array_poin
 use Rattle.go_elements.specs.inner.Elements.{IsIndexBelow, index_below, ElementOfBase, ElementAt, ByteAt}
 
 -- what stands where a fact holds, and then alone
-pub where_holds : (Q : Type 0) (b : Bool) (x : Operand) → Decides Q b → Gives (λ r. Q × (r ≡ x)) (if b then Some x else None)
+where_holds : (Q : Type 0) (b : Bool) (x : Operand) → Decides Q b → Gives (λ r. Q × (r ≡ x)) (if b then Some x else None)
 where_holds Q true x d = (d, refl)
 where_holds Q false x d = λ r p. d p.0
 
--- the same of an answer and of a mode that are others
-pub answer_where : (Q : Type 0) (b : Bool) (m n : Mode) (e : Term) (a : Option Operand) → m ≡ n → a ≡ (if b then Some (value_of m e) else None) → Decides Q b → Gives (λ r. Q × (r ≡ value_of n e)) a
-answer_where Q b m n e a s f d =
-    subst (Gives (λ r. Q × (r ≡ value_of n e))) (sym (f ∙ ap (λ (k : Mode). if b then Some (value_of k e) else None) s)) (where_holds Q b (value_of n e) d)
+pub answered_where : (Q : Type 0) (b : Bool) (x : Operand) (a : Option Operand) → a ≡ (if b then Some x else None) → Decides Q b → Gives (λ r. Q × (r ≡ x)) a
+answered_where Q b x a e d = subst (Gives (λ r. Q × (r ≡ x))) (sym e) (where_holds Q b x d)
+
+-- a value by its mode, which is another one
+pub same_mode : (Q : Type 0) (m n : Mode) (e : Term) (a : Option Operand) → m ≡ n → Gives (λ r. Q × (r ≡ value_of m e)) a → Gives (λ r. Q × (r ≡ value_of n e)) a
+same_mode Q m n e a s g = subst (λ (k : Mode). Gives (λ r. Q × (r ≡ value_of k e)) a) s g
 
 array_string : {n : ℕ} {e : Term} {b : Basic} → ◌≡◌ {A = Layer} (Term-F.Array n e) (Term-F.Plain b) → ⊥
 array_string e = absurd (cc)

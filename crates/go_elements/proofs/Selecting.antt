@@ -14,7 +14,8 @@ use Rattle.go_rules.specs.Expressions.{is_blank, reached, with_receiver}
 use Rattle.go_rules.specs.Operands.{IsTyped, function_of, is_variable, plain, type_name, value_of}
 use Rattle.go_rules.specs.declared.operand.Operand.{Operand}
 use Rattle.go_rules.proofs.OneFound.{field_or_method, one_found}
-use Rattle.go_rules.proofs.OneKind.{one_type}
+use Rattle.go_rules.proofs.OneForm.{typed_no_type}
+use Rattle.go_rules.proofs.OneKind.{no_truth, one_type}
 use Rattle.go_usability.specs.Answers.{FindsIn, FindsNone, Gives}
 use Rattle.go_elements.specs.Selections.{Selects, selects_field, selects_method, selects_function}
 use Rattle.go_elements.specs.inner.Selected.{SelectsFunction, selects_expression, SelectsMethod, selects_value, SelectsIn, in_field, in_method}
@@ -40,7 +41,7 @@ module _ (E : Env) (s : Sel) where
   method_some a t g m = selects_value m
 
   pub in_some_field : (a : Bool) (t : Term) (f : FieldFound) (o : Option Find) → o ≡ Some (find.FieldAt f) → FindsIn E s t o → SelectsIn E s a t (value_of (reached (if f.through_pointer then true else a)) f.term)
-  in_some_field a t f o e d = in_field (subst (FindsIn E s t) e d)
+  in_some_field a t f o e d = in_field (subst (FindsIn E s t) e d).0
 
   not_field : {a : Bool} {t : Term} {r : Operand} {through pointer : Bool} {owner : Option TypeName} {g : Signature} → Found E s t (record { through = through; target = method owner pointer g }) → SelectsIn E s a t r → SelectsMethod E s a t r
   not_field f (in_field h) = absurd (field_or_method (one_found h f))
@@ -81,8 +82,8 @@ module _ (E : Env) (name : List ℕ) where
   of_function b (selects_expression m) = selects_function b m
 
   to_function : {t : Term} {r : Operand} → Selects E name (type_name t) r → SelectsFunction E (selector_of E name) t r
-  to_function (selects_field b h f) = elim h [ ]
-  to_function (selects_method b h m) = elim h [ ]
+  to_function (selects_field b h f) = absurd (no_truth (typed_no_type h))
+  to_function (selects_method b h m) = absurd (no_truth (typed_no_type h))
   to_function (selects_function b m) = selects_expression m
 
   type_gives : (t : Term) (r : Option Operand) → is_blank name ≡ false → Gives (SelectsFunction E (selector_of E name) t) r → Gives (Selects E name (type_name t)) r
@@ -105,7 +106,7 @@ module _ (E : Env) (name : List ℕ) where
   to_in : {o r : Operand} {t : Term} → IsTyped o t → Selects E name o r → SelectsIn E (selector_of E name) (is_variable o.mode) t r
   to_in h (selects_field b g f) = at_type h g (in_field f)
   to_in h (selects_method b g m) = at_type h g (in_method (selects_value m))
-  to_in h (selects_function b m) = elim h [ ]
+  to_in h (selects_function b m) = absurd (no_truth (typed_no_type h))
 
   value_gives : (o : Operand) (t : Term) (r : Option Operand) → is_blank name ≡ false → IsTyped o t → Gives (SelectsIn E (selector_of E name) (is_variable o.mode) t) r → Gives (Selects E name o) r
   value_gives o t (Some r) b h g = of_in b h g

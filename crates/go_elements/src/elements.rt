@@ -3,9 +3,9 @@ ghost use Rattle.std.specs.Prelude.{◌≡◌, IfOk, None, Some, if◌then◌els
 ghost use Rattle.go_model.specs.declared.constants.value.Basic.TheVariants as basic;
 ghost use Rattle.go_model.specs.declared.types.term.Term.{Term-F, out-Term};
 ghost use Rattle.go_rules.specs.Expressions.{reached};
-ghost use Rattle.go_rules.specs.Operands.{basic_term, plain};
+ghost use Rattle.go_rules.specs.Operands.{basic_term, plain, value_of};
 ghost use Rattle.go_rules.specs.Scopes.{env_of};
-ghost use Rattle.go_rules.specs.declared.operand.Mode.{Mode};
+ghost use Rattle.go_rules.specs.Usability.{UsableAs};
 ghost use Rattle.go_selectors.specs.Answers.{Decides};
 ghost use Rattle.go_usability.specs.Answers.{Gives};
 ghost use Rattle.go_elements.specs.Indexes.{Indexes};
@@ -40,6 +40,37 @@ pub(crate) fn reached(through: bool) -> Mode
     if through { Mode::Variable } else { Mode::Plain }
 }
 
+// The element at an index below the length, where that is known.
+fn at_index(
+    context: &Context<'_>,
+    alloc: Global,
+    mode: Mode,
+    element: &Term,
+    index: &Operand,
+    length: Option<u64>,
+) -> Result<Option<Operand>, NoMemory>
+    ensures { IfOk result (Gives (λ r. IsIndexBelow (env_of context.now.env.now) index.now length × (r ≡ value_of mode element.now))) }
+{
+    let below = is_index_below(context, index, length);
+    let answer = value_where(alloc, below, mode, element)?;
+    Ok(answer)
+}
+
+// The element at a key.
+fn at_key(
+    context: &Context<'_>,
+    alloc: Global,
+    key: &Term,
+    element: &Term,
+    index: &Operand,
+) -> Result<Option<Operand>, NoMemory>
+    ensures { IfOk result (Gives (λ r. UsableAs (env_of context.now.env.now) index.now key.now × (r ≡ value_of Mode.MapElement element.now))) }
+{
+    let may = usable(context, alloc, index, key)?;
+    let answer = value_where(alloc, may, Mode::MapElement, element)?;
+    Ok(answer)
+}
+
 // An element of the array that a pointer points to, by what is underneath its base.
 fn element_of_base(
     context: &Context<'_>,
@@ -51,22 +82,21 @@ fn element_of_base(
 {
     match under {
         Term::Array(length, element) => {
-            let below = is_index_below(context, index, Some(*length));
-            let answer = value_where(alloc, below, Mode::Variable, element.value())?;
+            let answer = at_index(
+                context,
+                alloc,
+                Mode::Variable,
+                element.value(),
+                index,
+                Some(*length),
+            )?;
             Ok(answer)
         }
-        Term::Plain(_) => Ok(None),
-        Term::Named(_) => Ok(None),
-        Term::Pointer(_) => Ok(None),
-        Term::Slice(_) => Ok(None),
-        Term::Map(_, _) => Ok(None),
-        Term::Chan(_, _) => Ok(None),
-        Term::Func(_) => Ok(None),
-        Term::Struct(_) => Ok(None),
-        Term::Interface(_) => Ok(None),
+        _ => Ok(None),
     }
 }
 
+// An element of an array.
 fn element_of_array(
     context: &Context<'_>,
     alloc: Global,
@@ -77,35 +107,8 @@ fn element_of_array(
 ) -> Result<Option<Operand>, NoMemory>
     ensures { IfOk result (Gives (ElementAt (env_of context.now.env.now) mode index.now (Term-F.Array length element.now))) }
 {
-    let below = is_index_below(context, index, Some(length));
-    let answer = value_where(alloc, below, reached(is_variable(mode)), element)?;
-    Ok(answer)
-}
-
-fn element_of_slice(
-    context: &Context<'_>,
-    alloc: Global,
-    element: &Term,
-    index: &Operand,
-) -> Result<Option<Operand>, NoMemory>
-    ensures { IfOk result (λ answer. (m : Mode) → Gives (ElementAt (env_of context.now.env.now) m index.now (Term-F.Slice element.now)) answer) }
-{
-    let below = is_index_below(context, index, None);
-    let answer = value_where(alloc, below, Mode::Variable, element)?;
-    Ok(answer)
-}
-
-fn element_of_map(
-    context: &Context<'_>,
-    alloc: Global,
-    key: &Term,
-    element: &Term,
-    index: &Operand,
-) -> Result<Option<Operand>, NoMemory>
-    ensures { IfOk result (λ answer. (m : Mode) → Gives (ElementAt (env_of context.now.env.now) m index.now (Term-F.Map key.now element.now)) answer) }
-{
-    let may = usable(context, alloc, index, key)?;
-    let answer = value_where(alloc, may, Mode::MapElement, element)?;
+    let by = reached(is_variable(mode));
+    let answer = at_index(context, alloc, by, element, index, Some(length))?;
     Ok(answer)
 }
 
@@ -121,28 +124,22 @@ fn element_at(
 {
     match under {
         Term::Array(length, element) => {
-            let answer = element_of_array(context, alloc, mode, *length, element.value(), index)?;
-            Ok(answer)
+            let array = element_of_array(context, alloc, mode, *length, element.value(), index)?;
+            Ok(array)
         }
         Term::Pointer(base) => {
-            let under = context.under(base.value());
-            let answer = element_of_base(context, alloc, under, index)?;
-            Ok(answer)
+            let pointer = element_of_base(context, alloc, context.under(base.value()), index)?;
+            Ok(pointer)
         }
         Term::Slice(element) => {
-            let answer = element_of_slice(context, alloc, element.value(), index)?;
-            Ok(answer)
+            let slice = at_index(context, alloc, Mode::Variable, element.value(), index, None)?;
+            Ok(slice)
         }
         Term::Map(key, element) => {
-            let answer = element_of_map(context, alloc, key.value(), element.value(), index)?;
-            Ok(answer)
+            let map = at_key(context, alloc, key.value(), element.value(), index)?;
+            Ok(map)
         }
-        Term::Plain(_) => Ok(None),
-        Term::Named(_) => Ok(None),
-        Term::Chan(_, _) => Ok(None),
-        Term::Func(_) => Ok(None),
-        Term::Struct(_) => Ok(None),
-        Term::Interface(_) => Ok(None),
+        _ => Ok(None),
     }
 }
 

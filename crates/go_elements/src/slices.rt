@@ -1,9 +1,8 @@
 //! Slice expressions.
-ghost use Rattle.std.specs.Prelude.{◌≡◌, ◌∷◌, [], IfOk, Some};
+ghost use Rattle.std.specs.Prelude.{◌≡◌, ◌∷◌, [], IfOk, true};
 ghost use Rattle.go_base.specs.Keys.{item_of};
-ghost use Rattle.go_model.specs.declared.constants.value.Basic.{Basic};
-ghost use Rattle.go_model.specs.declared.types.term.Term.{Term-F, out-Term};
-ghost use Rattle.go_rules.specs.Expressions.{Ascend, Slices, UpTo, slice_of};
+ghost use Rattle.go_model.specs.declared.types.term.Term.{out-Term};
+ghost use Rattle.go_rules.specs.Expressions.{Ascend, IsString, Slices, UpTo, slice_of};
 ghost use Rattle.go_rules.specs.Operands.{plain};
 ghost use Rattle.go_rules.specs.Scopes.{env_of};
 ghost use Rattle.go_selectors.specs.Answers.{Decides};
@@ -61,16 +60,12 @@ fn slice_untyped(simple: bool, operand: &Operand) -> Option<(Option<u64>, Operan
     }
 }
 
-// A slice of an array.
-fn slice_array(
-    alloc: Global,
-    length: u64,
-    element: &Term,
-) -> Result<Option<(Option<u64>, Operand)>, NoMemory>
-    ensures { IfOk result (λ answer. answer ≡ Some (record { 0 = Some length; 1 = plain (slice_of element.now) })) }
+// A value of the slice type of an equal element.
+fn slice_value(alloc: Global, element: &Term) -> Result<Operand, NoMemory>
+    ensures { IfOk result (λ slice. slice ≡ plain (slice_of element.now)) }
 {
     let slice = slice_of(alloc, element)?;
-    Ok(Some((Some(length), plain(slice))))
+    Ok(plain(slice))
 }
 
 // A slice of the array that a pointer to this underlying type points to.
@@ -79,22 +74,14 @@ fn slice_base(alloc: Global, under: &Term) -> Result<Option<(Option<u64>, Operan
 {
     match under {
         Term::Array(length, element) => {
-            let answer = slice_array(alloc, *length, element.value())?;
-            Ok(answer)
+            let slice = slice_value(alloc, element.value())?;
+            Ok(Some((Some(*length), slice)))
         }
-        Term::Plain(_) => Ok(None),
-        Term::Named(_) => Ok(None),
-        Term::Pointer(_) => Ok(None),
-        Term::Slice(_) => Ok(None),
-        Term::Map(_, _) => Ok(None),
-        Term::Chan(_, _) => Ok(None),
-        Term::Func(_) => Ok(None),
-        Term::Struct(_) => Ok(None),
-        Term::Interface(_) => Ok(None),
+        _ => Ok(None),
     }
 }
 
-// A slice of a string of a type.
+// A slice of a string of a type, by two indices.
 fn slice_string(
     context: &Context<'_>,
     alloc: Global,
@@ -102,7 +89,7 @@ fn slice_string(
     operand: &Operand,
     term: &Term,
 ) -> Result<Option<(Option<u64>, Operand)>, NoMemory>
-    ensures { IfOk result (λ answer. (b : Basic) → Gives (λ p. SlicesAt (env_of context.now.env.now) simple operand.now term.now (Term-F.Plain b) p.0 p.1) answer) }
+    ensures { IfOk result (Gives (λ p. (simple ≡ true) × IsString (env_of context.now.env.now) operand.now p.0 × (p.1 ≡ plain term.now))) }
 {
     if !simple {
         return Ok(None);
@@ -129,30 +116,25 @@ fn slice_at(
 {
     match under {
         Term::Plain(_) => {
-            let answer = slice_string(context, alloc, simple, operand, term)?;
-            Ok(answer)
+            let string = slice_string(context, alloc, simple, operand, term)?;
+            Ok(string)
         }
         Term::Array(length, element) => {
             if !is_variable(operand.mode) {
                 return Ok(None);
             }
-            let array = slice_array(alloc, *length, element.value())?;
-            Ok(array)
+            let array = slice_value(alloc, element.value())?;
+            Ok(Some((Some(*length), array)))
         }
         Term::Pointer(base) => {
-            let answer = slice_base(alloc, context.under(base.value()))?;
-            Ok(answer)
+            let pointer = slice_base(alloc, context.under(base.value()))?;
+            Ok(pointer)
         }
         Term::Slice(_) => {
             let slice = plain_like(alloc, term)?;
             Ok(Some((None, slice)))
         }
-        Term::Named(_) => Ok(None),
-        Term::Map(_, _) => Ok(None),
-        Term::Chan(_, _) => Ok(None),
-        Term::Func(_) => Ok(None),
-        Term::Struct(_) => Ok(None),
-        Term::Interface(_) => Ok(None),
+        _ => Ok(None),
     }
 }
 
