@@ -7,13 +7,13 @@ use Rattle.go_rules.proofs.OneResult.{one_index, one_limit, one_sliced}
 use Rattle.go_selectors.specs.Answers.{Decides}
 use Rattle.go_usability.specs.Answers.{Gives}
 use Rattle.go_elements.specs.SliceExpressions.{IsOptionalIndex, SlicesSimply, slices_simply, SlicesFully, slices_fully}
-use Rattle.go_elements.proofs.Indices.{one_optional}
+use Rattle.go_elements.proofs.IndexValues.{one_optional}
 use Rattle.go_elements.proofs.Slicing.{Pair}
 
-abbrev Ascends : Option ℕ → Option ℕ → Option ℕ → Type 0
+abbrev pub Ascends : Option ℕ → Option ℕ → Option ℕ → Type 0
 Ascends i j n = Ascend (i ∷ j ∷ []) n
 
-abbrev AscendThrough : Option ℕ → Option ℕ → Option ℕ → Option ℕ → Type 0
+abbrev pub AscendThrough : Option ℕ → Option ℕ → Option ℕ → Option ℕ → Type 0
 AscendThrough i j k n = Ascend (i ∷ j ∷ k ∷ []) n
 
 ascends_so : {h i j k m n : Option ℕ} → h ≡ i → j ≡ k → m ≡ n → Ascends h j m → Ascends i k n

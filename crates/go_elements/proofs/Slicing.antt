@@ -60,16 +60,16 @@ module _ (E : Env) (simple : Bool) where
   of_layer (Term-F.Slice e) {o = o} {r = r} h u x = subst (λ (y : Option ℕ). Slices E simple o y r) (sym x.0) (subst (Slices E simple o None) (sym x.1) (slices_slice h u))
   of_layer l h u x = absurd x
 
-  at_layer : {o r : Operand} {t u : Term} {n : Option ℕ} {k : Layer} → IsTyped o t → IsTyped o u → under E.table u ≡ k → SlicesAt E simple o u k n r → SlicesAt E simple o t (under E.table t) n r
-  at_layer {o = o} {r = r} {u = u} {n = n} h g f x =
+  at_layer : (r : Operand) (n : Option ℕ) {o : Operand} {t u : Term} {k : Layer} → IsTyped o t → IsTyped o u → under E.table u ≡ k → SlicesAt E simple o u k n r → SlicesAt E simple o t (under E.table t) n r
+  at_layer r n {o = o} {u = u} h g f x =
       subst (λ (y : Term). SlicesAt E simple o y (under E.table y) n r) (one_type g h) (subst (λ (y : Layer). SlicesAt E simple o u y n r) (sym f) x)
 
   to_layer : {o r : Operand} {t : Term} {n : Option ℕ} → IsTyped o t → Slices E simple o n r → SlicesAt E simple o t (under E.table t) n r
-  to_layer h (slices_string s g i) = at_layer h g (string_under i g) (s, i, refl)
+  to_layer h (slices_string s g i) = at_layer _ _ h g (string_under i g) (s, i, refl)
   to_layer h (slices_untyped s) = absurd (typed_or_untyped h untyped_constant)
-  to_layer h (slices_array f) = at_layer h (typed_value refl) f (refl, refl, refl)
-  to_layer {r = r} h (slices_array_pointer {base = base} {n = m} g f p) = at_layer {k = Term-F.Pointer base} h g f (subst (λ (y : Layer). SlicesBase y (Some m) r) (sym p) (refl, refl))
-  to_layer h (slices_slice g f) = at_layer h g f (refl, refl)
+  to_layer h (slices_array f) = at_layer _ _ h (typed_value refl) f (refl, refl, refl)
+  to_layer {r = r} h (slices_array_pointer {base = base} {n = m} g f p) = at_layer r (Some m) {k = Term-F.Pointer base} h g f (subst (λ (y : Layer). SlicesBase y (Some m) r) (sym p) (refl, refl))
+  to_layer h (slices_slice g f) = at_layer _ _ h g f (refl, refl)
 
   pub slice_gives : (o : Operand) (t : Term) (l : Layer) (p : Option Pair) → IsTyped o t → l ≡ under E.table t → Gives (λ q. SlicesAt E simple o t l q.0 q.1) p → Gives (λ q. Slices E simple o q.0 q.1) p
   slice_gives o t l (Some p) h e g = of_layer l h (sym e) g

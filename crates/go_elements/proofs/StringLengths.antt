@@ -10,11 +10,11 @@ use Rattle.go_model.specs.declared.types.term.Term.{Term, Term-F}
 use Rattle.go_model.specs.types.Underlying.{under}
 use Rattle.go_rules.specs.Environments.{Env}
 use Rattle.go_rules.specs.Expressions.{IsString, string_value, string_typed, string_untyped}
-use Rattle.go_rules.specs.Operands.{constant_of, variable}
+use Rattle.go_rules.specs.Operands.{constant_of}
 use Rattle.go_rules.specs.declared.operand.Operand.{Operand}
 use Rattle.go_rules.proofs.OneKind.{no_truth}
 use Rattle.go_selectors.specs.Answers.{Decides}
-use Rattle.go_elements.specs.inner.Indices.{IsStringKind}
+use Rattle.go_elements.specs.inner.Strings.{IsStringKind}
 use Rattle.go_operators.specs.inner.Values.{IsStringValue}
 
 module _ (E : Env) where
@@ -34,8 +34,8 @@ module _ (E : Env) where
   at_text (constant.OfTerm t) s i = string_typed i
   at_text (constant.OfKind k) s i = string_untyped
 
-  pub constant_length_text : (c : ConstTerm) (v : Value) (s : List ℕ) → IsStringKind E c → v ≡ value.Str s → IsString E (constant_of c v) (Some (length s))
-  constant_length_text c v s i e = subst (λ (x : Value). IsString E (constant_of c x) (Some (length s))) (sym e) (at_text c s i)
+  pub constant_length_text : (c : ConstTerm) (v : Value) (s b : List ℕ) → IsStringKind E c → v ≡ value.Str s → b ≡ s → IsString E (constant_of c v) (Some (length b))
+  constant_length_text c v s b i e f = subst (λ (x : List ℕ). IsString E (constant_of c v) (Some (length x))) (sym f) (subst (λ (x : Value). IsString E (constant_of c x) (Some (length s))) (sym e) (at_text c s i))
 
   pub string_decides : (c : ConstTerm) (t : Term) (b : Bool) → c ≡ constant.OfTerm t → Decides (under E.table t ≡ Term-F.Plain basic.Str) b → Decides (IsStringKind E c) b
   string_decides c t b e d = subst (λ (x : ConstTerm). Decides (IsStringKind E x) b) (sym e) d
@@ -74,4 +74,4 @@ module _ (E : Env) where
   string_is_value none string_untyped = absurd (none _ _ refl)
 
   pub string_of_nothing : (o : Operand) → ((c : ConstTerm) (v : Value) → o ≡ constant_of c v → ⊥) → (IsStringValue E o → ⊥) → (n : Option ℕ) → IsString E o n → ⊥
-  string_of_nothing o none no n x = no (string_is_value none x)
+  string_of_nothing o none other n x = other (string_is_value none x)
