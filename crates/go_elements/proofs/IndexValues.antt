@@ -100,7 +100,6 @@ module _ (E : Env) where
   pub index_of_nothing : (o : Operand) → ((c : ConstTerm) (v : Value) → o ≡ constant_of c v → ⊥) → (IsIntegerValue E o → ⊥) → (n : Option ℕ) → IsIndex E o n → ⊥
   index_of_nothing o none other n x = other (index_integer_value none x)
 
-
   -- ---- below a length
 
   is_below_one : {i : Operand} {c limit : Option ℕ} → IsIndex E i c → IsIndexBelow E i limit → Below c limit

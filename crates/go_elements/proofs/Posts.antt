@@ -2,7 +2,7 @@
 use Rattle.std.proofs.Common.{ℕ, true, false, Option, Some, None, [], ◌∷◌}
 use Rattle.go_model.specs.declared.types.term.Term.{Term}
 use Rattle.go_rules.specs.Environments.{Env}
-use Rattle.go_rules.specs.Expressions.{Ascend, Below, Has, HasOptional, optional_none, optional_some, HasPost, post_field, post_method, post_method_expression, post_assertion, post_array, post_array_pointer, post_slice_index, post_string, post_map, post_slice, post_full_slice, post_conversion, post_call, post_builtin, IsIndex, OfType, Slices}
+use Rattle.go_rules.specs.Expressions.{Ascend, Has, HasOptional, optional_none, optional_some, HasPost, post_field, post_method, post_method_expression, post_assertion, post_array, post_array_pointer, post_slice_index, post_string, post_map, post_slice, post_full_slice, post_conversion, post_call, post_builtin, IsIndex, OfType, Slices}
 use Rattle.go_rules.specs.declared.operand.Operand.{Operand}
 use Rattle.go_syntax.specs.declared.expression.Expr.{Expr}
 use Rattle.go_syntax.specs.declared.expression.Post.{Post-F}

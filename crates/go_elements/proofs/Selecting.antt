@@ -3,12 +3,10 @@ use Rattle.std.proofs.Common.{◌≡◌, ℕ, Bool, true, false, Option, Some, N
 use Rattle.go_model.specs.declared.types.found.FieldFound.{FieldFound}
 use Rattle.go_model.specs.declared.types.found.Found.{Found as Find}
 use Rattle.go_model.specs.declared.types.found.Found.TheVariants as find
-use Rattle.go_model.specs.declared.types.found.MethodFound.{MethodFound}
 use Rattle.go_model.specs.declared.types.names.Sel.{Sel}
-use Rattle.go_model.specs.declared.types.names.TypeName.{TypeName}
 use Rattle.go_model.specs.declared.types.term.Signature.{Signature}
 use Rattle.go_model.specs.declared.types.term.Term.{Term}
-use Rattle.go_model.specs.types.Selectors.{field, method}
+use Rattle.go_model.specs.types.Selectors.{field}
 use Rattle.go_rules.specs.Environments.{Env, Found, HasMethod, selector_of}
 use Rattle.go_rules.specs.Expressions.{is_blank, reached, with_receiver}
 use Rattle.go_rules.specs.Operands.{IsTyped, function_of, is_variable, plain, type_name, value_of}
@@ -16,10 +14,9 @@ use Rattle.go_rules.specs.declared.operand.Operand.{Operand}
 use Rattle.go_rules.proofs.OneFound.{field_or_method, one_found}
 use Rattle.go_rules.proofs.OneForm.{typed_no_type}
 use Rattle.go_rules.proofs.OneKind.{no_truth, one_type}
-use Rattle.go_usability.specs.Answers.{FindsIn, FindsNone, Gives}
+use Rattle.go_usability.specs.Answers.{FindsIn, Gives}
 use Rattle.go_elements.specs.Selections.{Selects, selects_field, selects_method, selects_function}
 use Rattle.go_elements.specs.inner.Selected.{SelectsFunction, selects_expression, SelectsMethod, selects_value, SelectsIn, in_field, in_method}
-use Rattle.go_operators.proofs.Answers.{false_true}
 
 module _ (E : Env) (s : Sel) where
   function_in : {t : Term} {r : Operand} → SelectsFunction E s t r → (g : Signature) × HasMethod E false t s g
@@ -61,14 +58,6 @@ module _ (E : Env) (s : Sel) where
 -- ---- the result
 
 module _ (E : Env) (name : List ℕ) where
-  not_blank : {o r : Operand} → Selects E name o r → is_blank name ≡ false
-  not_blank (selects_field b h f) = b
-  not_blank (selects_method b h m) = b
-  not_blank (selects_function b m) = b
-
-  pub select_blank : (o : Operand) → is_blank name ≡ true → (r : Operand) → Selects E name o r → ⊥
-  select_blank o e r x = false_true (sym (not_blank x) ∙ e)
-
   of_function : {t : Term} {r : Operand} → is_blank name ≡ false → SelectsFunction E (selector_of E name) t r → Selects E name (type_name t) r
   of_function b (selects_expression m) = selects_function b m
 

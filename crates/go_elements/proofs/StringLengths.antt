@@ -18,10 +18,6 @@ use Rattle.go_elements.specs.inner.Strings.{IsStringKind}
 use Rattle.go_operators.specs.inner.Values.{IsStringValue}
 
 module _ (E : Env) where
-  string_type : {t : Term} {v : Value} {n : Option ℕ} → IsString E (constant_of (constant.OfTerm t) v) n → under E.table t ≡ Term-F.Plain basic.Str
-  string_type (string_value n h e) = absurd (no_truth n)
-  string_type (string_typed e) = e
-
   string_kind : {c : ConstTerm} {v : Value} {n : Option ℕ} → IsString E (constant_of c v) n → IsStringKind E c
   string_kind (string_value n h e) = absurd (no_truth n)
   string_kind (string_typed e) = e
@@ -42,14 +38,6 @@ module _ (E : Env) where
 
   pub string_of_kind : (c : ConstTerm) (k : Untyped) → c ≡ constant.OfKind k → IsStringKind E c
   string_of_kind c k e = subst (IsStringKind E) (sym e) tt
-
-  string_text : {c : ConstTerm} {v : Value} {n : Option ℕ} → IsString E (constant_of c v) n → (s : List ℕ) × (v ≡ value.Str s)
-  string_text (string_value n h e) = absurd (no_truth n)
-  string_text (string_typed e) = (_, refl)
-  string_text string_untyped = (_, refl)
-
-  pub constant_length_no_text : (c : ConstTerm) (v : Value) → ((s : List ℕ) → v ≡ value.Str s → ⊥) → (n : ℕ) → IsString E (constant_of c v) (Some n) → ⊥
-  constant_length_no_text c v none n x = none _ (string_text x).1
 
   string_constant : {c : ConstTerm} {v : Value} {n : Option ℕ} → IsString E (constant_of c v) n → (m : ℕ) × (n ≡ Some m)
   string_constant (string_value n h e) = absurd (no_truth n)

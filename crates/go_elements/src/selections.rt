@@ -114,11 +114,7 @@ fn field_in(found: &Option<Found>) -> Option<&FieldFound>
 }
 
 // A field of this type that was found through a pointer or not.
-fn field_value(
-    alloc: Global,
-    addressable: bool,
-    field: &FieldFound,
-) -> Result<Operand, NoMemory>
+fn field_value(alloc: Global, addressable: bool, field: &FieldFound) -> Result<Operand, NoMemory>
     ensures { IfOk result (λ value. value ≡ value_of (reached (if field.now.through_pointer then true else addressable)) field.now.term) }
 {
     let mode = reached(field.through_pointer || addressable);
