@@ -1,0 +1,9 @@
+pub mod ArrayLengths
+pub mod Asserting
+pub mod Bounds
+pub mod IndexValues
+pub mod Indexing
+pub mod Posts
+pub mod Selecting
+pub mod Slicing
+pub mod StringLengths
