@@ -13,6 +13,7 @@ pub mod Pigeonholes
 pub mod ReachedFolders
 pub mod Results
 pub mod Sorted
+pub mod StuckOrders
 pub mod TextKeys
 pub mod UnitOrdering
 pub mod Uses
