@@ -86,7 +86,7 @@ module _ {P Q : ℕ → Type 0} (to : (m : ℕ) → Q m → P m) where
   finds_here n f q = (q, λ m k. f.1 m (to m k))
 
   pub finds_no : (n : ℕ) → FindsOne P (Some n) → (Q n → ⊥) → FindsOne Q None
-  finds_no n f no m k = no (subst Q (f.1 m (to m k)) k)
+  finds_no n f never m k = never (subst Q (f.1 m (to m k)) k)
 
   pub finds_none : FindsOne P None → FindsOne Q None
   finds_none f m k = f m (to m k)

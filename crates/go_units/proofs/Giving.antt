@@ -95,13 +95,13 @@ module _ {A B : Type 0} (R : A → Option B → Type 0) where
       omega (arith, length-append ys (optional r), length-append xs (x ∷ []))
 
   optional_one : (x : A) (r : Option B) → (R x None → ⊥) → R x r → length (optional r) ≡ 1
-  optional_one x None no k = absurd (no k)
-  optional_one x (Some y) no k = refl
+  optional_one x None never k = absurd (never k)
+  optional_one x (Some y) never k = refl
 
   -- where each item gives one, the lists are of one length
   pub gives_as_many : {xs : List A} {ys : List B} → ((x : A) → R x None → ⊥) → Gives R xs ys → length ys ≡ length xs
-  gives_as_many no none = refl
-  gives_as_many no (next {xs = xs} {ys = ys} x r g k) =
-      let s = optional_one x r (no x) k in
-      let l = gives_as_many no g in
+  gives_as_many never none = refl
+  gives_as_many never (next {xs = xs} {ys = ys} x r g k) =
+      let s = optional_one x r (never x) k in
+      let l = gives_as_many never g in
       omega (arith, length-append ys (optional r), length-append xs (x ∷ []))

@@ -3,6 +3,7 @@ pub mod Files
 pub mod FolderLookups
 pub mod Giving
 pub mod GrowingSets
+pub mod Internals
 pub mod Members
 pub mod NeedRows
 pub mod NeededPaths

@@ -61,7 +61,7 @@ module _ (module_path : List ℕ) (folders : List Folder) (slots : Slots) where
   }
 
   none_old : (P : ℕ → Type 0) (new : List ℕ) → Grows P [] new → (x : ℕ) → Has new x → P x
-  none_old P new g x h = elim (g.sound x h) [ inl no ↦ absurd no | inr p ↦ p ]
+  none_old P new g x h = elim (g.sound x h) [ inl never ↦ absurd never | inr p ↦ p ]
 
   pub rows_whole : (at : ℕ) (graph : List (List ℕ)) → at ≡ length folders → length slots ≡ length folders → Rows at graph → AreNeeds module_path folders slots graph
   rows_whole at graph e rows r = record {

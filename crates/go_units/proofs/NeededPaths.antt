@@ -44,7 +44,7 @@ files_grow paths (f ∷ fs) =
     }
 
 none_old : (P : List ℕ → Type 0) (new : List (List ℕ)) → Grows P [] new → (x : List ℕ) → Has new x → P x
-none_old P new g x h = elim (g.sound x h) [ inl no ↦ absurd no | inr p ↦ p ]
+none_old P new g x h = elim (g.sound x h) [ inl never ↦ absurd never | inr p ↦ p ]
 
 -- a path is needed exactly where a file has a found import with it
 pub needed_found : (fs : List UnitFile) (path : List ℕ) → Has (needed_by fs) path → (f : UnitFile) × Has fs f × IsNeededIn f path

@@ -28,7 +28,7 @@ take_front zero xs ys h = refl
 take_front (suc k) [] ys h = absurd (omega (arith, h))
 take_front (suc k) (x ∷ xs) ys h = ap (λ (zs : List ℕ). x ∷ zs) (take_front k xs ys (omega (arith, h)))
 
-take_none : (k : ℕ) → take k ([] {A = ℕ}) ≡ []
+take_none : (k : ℕ) → ◌≡◌ {A = List ℕ} (take k []) []
 take_none zero = refl
 take_none (suc k) = refl
 
@@ -62,12 +62,12 @@ module _ (graph : List (List ℕ)) where
   pub order_short : {xs : List ℕ} → IsOrder graph xs → length xs ≤ length graph
   order_short {xs = xs} o = short (length graph) xs (order_once o) (order_below o)
 
-  front_has : {xs : List ℕ} → (k n : ℕ) → Has (take k xs) n → Has xs n
-  front_has {xs = []} zero n h = absurd h
-  front_has {xs = []} (suc k) n h = absurd h
-  front_has {xs = x ∷ xs} zero n h = absurd h
-  front_has {xs = x ∷ xs} (suc k) n (inl e) = inl e
-  front_has {xs = x ∷ xs} (suc k) n (inr h) = inr (front_has {xs = xs} k n h)
+  front_has : (xs : List ℕ) (k n : ℕ) → Has (take k xs) n → Has xs n
+  front_has [] zero n h = h
+  front_has [] (suc k) n h = h
+  front_has (x ∷ xs) zero n h = absurd h
+  front_has (x ∷ xs) (suc k) n (inl e) = inl e
+  front_has (x ∷ xs) (suc k) n (inr h) = inr (front_has xs k n h)
 
   pub front_below : (order : List ℕ) (at n : ℕ) → IsOrder graph order → Has (take at order) n → n < length graph
-  front_below order at n o h = order_below o n (front_has {xs = order} at n h)
+  front_below order at n o h = order_below o n (front_has order at n h)

@@ -162,7 +162,7 @@ module _ (module_path : List ℕ) (folders : List Folder) where
           first = λ m w f. elim w.why [
             | inl own ↦ absurd (all m w.within own f)
             | inr asked ↦
-              inr (asked_std slots n here.0 ∙ sym (asked_std slots m asked), elim (r.cover m asked f) [ inl h ↦ elim h [ inl e ↦ omega (arith, e) | inr k ↦ (let l = above m k in omega (arith, l)) ] | inr no ↦ absurd no ])
+              inr (asked_std slots n here.0 ∙ sym (asked_std slots m asked), elim (r.cover m asked f) [ inl h ↦ elim h [ inl e ↦ omega (arith, e) | inr k ↦ (let l = above m k in omega (arith, l)) ] | inr never ↦ absurd never ])
           ];
         }
 
@@ -174,7 +174,7 @@ module _ (module_path : List ℕ) (folders : List Folder) where
       walked = r.walked;
       rows = r.rows;
       sound = λ m h. r.sound m (inr h);
-      cover = λ m asked f. elim (r.cover m asked f) [ inl h ↦ elim h [ inl e ↦ inr (sym e) | inr k ↦ inl k ] | inr no ↦ absurd no ];
+      cover = λ m asked f. elim (r.cover m asked f) [ inl h ↦ elim h [ inl e ↦ inr (sym e) | inr k ↦ inl k ] | inr never ↦ absurd never ];
     }
 
     -- a folder of the module isn't pending
@@ -186,7 +186,7 @@ module _ (module_path : List ℕ) (folders : List Folder) where
       walked = r.walked;
       all = λ m w f. elim w.why [
         | inl own ↦ all m w.within own f
-        | inr asked ↦ elim (r.cover m asked f) [ inl h ↦ absurd (subst (λ (p : List ℕ). Has p m) e h) | inr no ↦ absurd no ]
+        | inr asked ↦ elim (r.cover m asked f) [ inl h ↦ absurd (subst (λ (p : List ℕ). Has p m) e h) | inr never ↦ absurd never ]
       ];
     }
 

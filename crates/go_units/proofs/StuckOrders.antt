@@ -10,7 +10,7 @@ has_or : (xs : List ℕ) (n : ℕ) → Has xs n ⊎ (Has xs n → ⊥)
 has_or [] n = inr (λ h. h)
 has_or (x ∷ xs) n = elim (same_or x n) [
   | inl e ↦ inl (inl e)
-  | inr d ↦ elim (has_or xs n) [ inl h ↦ inl (inr h) | inr no ↦ inr (λ h. elim h [ inl e ↦ d e | inr k ↦ no k ]) ]
+  | inr d ↦ elim (has_or xs n) [ inl h ↦ inl (inr h) | inr never ↦ inr (λ h. elim h [ inl e ↦ d e | inr k ↦ never k ]) ]
 ]
 
 module _ (graph : List (List ℕ)) (standing : List ℕ) where
@@ -18,7 +18,7 @@ module _ (graph : List (List ℕ)) (standing : List ℕ) where
   lacking_or : (ns : List ℕ) → ((m : ℕ) × Has ns m × (Has standing m → ⊥)) ⊎ ((m : ℕ) → Has ns m → Has standing m)
   lacking_or [] = inr (λ m h. absurd h)
   lacking_or (n ∷ ns) = elim (has_or standing n) [
-    | inr no ↦ inl (n, inl refl, no)
+    | inr never ↦ inl (n, inl refl, never)
     | inl here ↦ elim (lacking_or ns) [
       | inl p ↦ inl (p.0, inr p.1, p.2)
       | inr all ↦ inr (λ m h. elim h [ inl e ↦ subst (Has standing) e here | inr k ↦ all m k ])

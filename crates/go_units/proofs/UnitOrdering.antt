@@ -67,9 +67,9 @@ module _ (module_path : List ℕ) (folders : List Folder) (ordered : AreOrdered 
       let std = is_std folders n in
       let same : need.0 ≡ k.members = (let e : ◌≡◌ {A = Option (List PackageFile)} (Some need.0) (Some k.members) = sym need.1 ∙ k.are in cc) in
       elim (gives_all (GivesUnitFile module_path folders packages std) k.given need.2.0 (subst (λ (fs : List PackageFile). Has fs need.2.0) same need.2.1)) [
-        | inl no ↦ absurd no
+        | inl never ↦ absurd never
         | inr p ↦ elim (gives_all (GivesUse module_path folders packages std) p.2.given need.2.2.0 need.2.2.1) [
-          | inl no ↦ absurd no
+          | inl never ↦ absurd never
           | inr q ↦
             subst (λ (ps : List (List ℕ)). Has ps (folder_of folders m).path) (sym u.needed)
               (found_needed u.files (folder_of folders m).path (p.0, p.1, (q.0, q.1, (q.2.is_found.1 (m, need.2.2.2), q.2.leads ∙ sym need.2.2.2.names.same))))
@@ -80,7 +80,7 @@ module _ (module_path : List ℕ) (folders : List Folder) (ordered : AreOrdered 
     module _ (at : ℕ) (units : List PackageUnit) (made : Gives (GivesUnit module_path folders slots) (take at order) units) where
       -- a unit stands where its folder is before this place
       stands_at : (m : ℕ) → Has (take at order) m → HoldsPackage slots m → Stands units (folder_of folders m).path
-      stands_at m h holds = elim (gives_all (GivesUnit module_path folders slots) made m h) [ inl no ↦ absurd (no holds) | inr p ↦ (p.0, p.1, p.2.stands) ]
+      stands_at m h holds = elim (gives_all (GivesUnit module_path folders slots) made m h) [ inl never ↦ absurd (never holds) | inr p ↦ (p.0, p.1, p.2.stands) ]
 
       at_stands : (m : ℕ) → m < length folders → Stands units (folder_of folders m).path → Has (take at order) m
       at_stands m h s =
@@ -146,7 +146,7 @@ module _ (module_path : List ℕ) (folders : List Folder) (ordered : AreOrdered 
               kept = still_kept;
               rows = ap (λ (w : Slots). length w) taken ∙ length-set left n None ∙ m.rows;
               made = gives_more (GivesUnit module_path folders slots) order at n (Some p.2) units units2 within is k p.4 m.made;
-              placed = subst (InOrder (IsSomeUnit module_path folders slots)) (sym p.4) (next_unit m.placed (unit_next at units m.made n next_folder p.2 k));
+              placed = subst (InOrder (IsSomeUnit module_path folders slots)) (sym p.4) (next_unit m.placed (unit_next n next_folder p.2 k));
             }
 
         -- each folder of the order is there, and what it holds is as it was read
@@ -172,7 +172,7 @@ module _ (module_path : List ℕ) (folders : List Folder) (ordered : AreOrdered 
           are = record {
             sound = sound;
             complete = λ n holds. elim (gives_all (GivesUnit module_path folders slots) made n (canonical.all n (let b = holds_within slots n holds in omega (arith, b, rows, needs.rows)))) [
-              | inl no ↦ absurd (no holds)
+              | inl never ↦ absurd (never holds)
               | inr p ↦ p
             ];
           };

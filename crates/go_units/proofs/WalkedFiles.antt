@@ -1,6 +1,7 @@
 -- What is known of the files of packages that are read.
 use Rattle.std.proofs.Common.{◌≡◌, ◌≢◌, ◌⊎◌, ℕ, zero, suc, ◌<◌, ◌≤◌, Bool, true, Option, Some, None, List, [], ◌∷◌, length, get_or, set, map, nat_lt, refl, sym, ap, ◌∙◌, subst, inl, inr, arith}
 use mathlib.Core.Bool.{true≢false}
+use Rattle.std.specs.Prelude.{IfSome}
 use Rattle.std.proofs.Math.ListN.{get_or-map}
 use Rattle.std.proofs.lemmas.Bool.Decides.{nat_tests}
 use Rattle.std.proofs.lemmas.List.{length-set}
@@ -86,3 +87,7 @@ module _ (module_path : List ℕ) (folders : List Folder) (gives : ℕ → Readi
       let many = few n r.0 r.1 in
       let fewer = gives_fewer (GivesFile module_path folders (is_std folders n) r.2.given.names) r.2.given.given in
       (omega (arith, many, fewer), alike n files r)
+
+pub readable_some : (slots : Slots) → AreReadable slots → (n : ℕ) (held : Option (List PackageFile)) → slot slots n ≡ held → IfSome held (λ (files : List PackageFile). (length files < 4294967296) × AreAlike files)
+readable_some slots r n None e = tt
+readable_some slots r n (Some files) e = r n files e
