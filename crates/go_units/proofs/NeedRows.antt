@@ -40,30 +40,30 @@ module _ (module_path : List ℕ) (folders : List Folder) (slots : Slots) where
   IsRow n row = Grows (NeedsBy module_path folders packages slots n) [] row
 
   -- the rows of the folders before a number
-  pub record Rows (at : ℕ) (graph : List (List ℕ)) : Type 0 where
+  pub record RowsTo (at : ℕ) (graph : List (List ℕ)) : Type 0 where
     pub size : length graph ≡ at
     pub row : (n : ℕ) → n < at → IsRow n (needs_of graph n)
 
-  pub rows_first : (graph : List (List ℕ)) → graph ≡ [] → Rows 0 graph
+  pub rows_first : (graph : List (List ℕ)) → graph ≡ [] → RowsTo 0 graph
   rows_first graph e = record { size = ap length e; row = λ n h. absurd (omega (arith, h)) }
 
-  pub rows_next : (at : ℕ) (graph graph2 : List (List ℕ)) (row : List ℕ) → IsRow at row → graph2 ≡ graph ++ row ∷ [] → Rows at graph → Rows (at + 1) graph2
+  pub rows_next : (at : ℕ) (graph graph2 : List (List ℕ)) (row : List ℕ) → IsRow at row → graph2 ≡ graph ++ row ∷ [] → RowsTo at graph → RowsTo (at + 1) graph2
   rows_next at graph graph2 row k e r = record {
     size = ap length e ∙ length-append graph (row ∷ []) ∙ (let l : length graph + length (row ∷ []) ≡ at + 1 = omega (arith, r.size) in l);
     row = λ n h. subst (λ (g : List (List ℕ)). IsRow n (needs_of g n)) (sym e) (elim (below_or n at) [
       | inl less ↦ subst (IsRow n) (sym (row_left graph row n (omega (arith, less, r.size)))) (r.row n less)
       | inr more ↦ (
-        let same : n ≡ length graph = omega (arith, h, more, r.size) in
-        let here : n ≡ at = omega (arith, h, more) in
-        subst (λ (m : ℕ). IsRow m (needs_of (graph ++ row ∷ []) m)) (sym same) (subst (IsRow (length graph)) (sym (row_last graph row)) (subst (λ (m : ℕ). IsRow m row) (sym here ∙ same) k))
-      )
+          let same : n ≡ length graph = omega (arith, h, more, r.size) in
+          let here : n ≡ at = omega (arith, h, more) in
+          subst (λ (m : ℕ). IsRow m (needs_of (graph ++ row ∷ []) m)) (sym same) (subst (IsRow (length graph)) (sym (row_last graph row)) (subst (λ (m : ℕ). IsRow m row) (sym here ∙ same) k))
+          )
     ]);
   }
 
   none_old : (P : ℕ → Type 0) (new : List ℕ) → Grows P [] new → (x : ℕ) → Has new x → P x
   none_old P new g x h = elim (g.sound x h) [ inl never ↦ absurd never | inr p ↦ p ]
 
-  pub rows_whole : (at : ℕ) (graph : List (List ℕ)) → at ≡ length folders → length slots ≡ length folders → Rows at graph → AreNeeds module_path folders slots graph
+  pub rows_whole : (at : ℕ) (graph : List (List ℕ)) → at ≡ length folders → length slots ≡ length folders → RowsTo at graph → AreNeeds module_path folders slots graph
   rows_whole at graph e rows r = record {
     rows = r.size ∙ e;
     sound = λ n m h. elim (below_or n at) [

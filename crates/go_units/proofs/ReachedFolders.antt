@@ -133,7 +133,7 @@ module _ (module_path : List ℕ) (folders : List Folder) where
       asked_before : (m : ℕ) → IsAsked module_path folders new m → IsAsked module_path folders slots m ⊎ FilesAsk module_path folders (is_std folders n) files m
       asked_before m p = elim (same_or p.0 n) [
         | inl e ↦
-          inr (subst (λ (q : ℕ × List PackageFile). FilesAsk module_path folders (is_std folders q.0) q.1 m)
+            inr (subst (λ (q : ℕ × List PackageFile). FilesAsk module_path folders (is_std folders q.0) q.1 m)
             (λ i. (e i, some_same p.1 files (sym p.2 ∙ ap (slot new) e ∙ filled_here slots n files within) i)) p.3)
         | inr d ↦ inl (p.0, p.1, sym (filled_other slots n files p.0 d) ∙ p.2, p.3)
       ]
@@ -162,7 +162,7 @@ module _ (module_path : List ℕ) (folders : List Folder) where
           first = λ m w f. elim w.why [
             | inl own ↦ absurd (all m w.within own f)
             | inr asked ↦
-              inr (asked_std slots n here.0 ∙ sym (asked_std slots m asked), elim (r.cover m asked f) [ inl h ↦ elim h [ inl e ↦ omega (arith, e) | inr k ↦ (let l = above m k in omega (arith, l)) ] | inr never ↦ absurd never ])
+                inr (asked_std slots n here.0 ∙ sym (asked_std slots m asked), elim (r.cover m asked f) [ inl h ↦ elim h [ inl e ↦ omega (arith, e) | inr k ↦ (let l = above m k in omega (arith, l)) ] | inr never ↦ absurd never ])
           ];
         }
 

@@ -37,11 +37,11 @@ module _ (graph : List (List ℕ)) (standing : List ℕ) where
     chase (suc fuel) seen n once below leads h fresh long acyclic = elim (has_or seen n) [
       | inl back ↦ acyclic n (leads n back)
       | inr new ↦ (
-        let p = lacks n h fresh in
-        chase fuel (n ∷ seen) p.0 (new, once) (λ x k. elim k [ inl e ↦ subst (λ (w : ℕ). w < length graph) e h | inr k ↦ below x k ])
-        (λ x k. elim k [ inl e ↦ subst (λ (w : ℕ). LeadsTo graph w p.0) e (directly p.1) | inr k ↦ leads_one graph (leads x k) p.1 ])
-        (is_graph n p.0 p.1) p.2 (omega (arith, long)) acyclic
-      )
+          let p = lacks n h fresh in
+          chase fuel (n ∷ seen) p.0 (new, once) (λ x k. elim k [ inl e ↦ subst (λ (w : ℕ). w < length graph) e h | inr k ↦ below x k ])
+          (λ x k. elim k [ inl e ↦ subst (λ (w : ℕ). LeadsTo graph w p.0) e (directly p.1) | inr k ↦ leads_one graph (leads x k) p.1 ])
+          (is_graph n p.0 p.1) p.2 (omega (arith, long)) acyclic
+          )
     ]
 
     pub stuck_on_cycle : (n : ℕ) → n < length graph → (Has standing n → ⊥) → ((m : ℕ) → IsOnCycle graph m → ⊥) → ⊥

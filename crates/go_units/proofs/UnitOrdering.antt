@@ -71,7 +71,7 @@ module _ (module_path : List ℕ) (folders : List Folder) (ordered : AreOrdered 
         | inr p ↦ elim (gives_all (GivesUse module_path folders packages std) p.2.given need.2.2.0 need.2.2.1) [
           | inl never ↦ absurd never
           | inr q ↦
-            subst (λ (ps : List (List ℕ)). Has ps (folder_of folders m).path) (sym u.needed)
+              subst (λ (ps : List (List ℕ)). Has ps (folder_of folders m).path) (sym u.needed)
               (found_needed u.files (folder_of folders m).path (p.0, p.1, (q.0, q.1, (q.2.is_found.1 (m, need.2.2.2), q.2.leads ∙ sym need.2.2.2.names.same))))
         ]
       ]
@@ -93,23 +93,23 @@ module _ (module_path : List ℕ) (folders : List Folder) (ordered : AreOrdered 
         unit_next = record {
           fresh = λ s. is_next.ready.fresh (at_stands n (unit_below n u k) (subst (Stands units) k.stands s));
           met = λ path h. (
-            let p = need_of n u k path h in
-            subst (Stands units) p.3 (stands_at p.0 (is_next.ready.met p.0 (needs.complete n p.0 p.1)) p.2)
-          );
-          least = λ v some free met before. (
-            let m = some.0 in
-            let w = some.1 in
-            let below = unit_below m v w in
-            let ready : IsReady graph (take at order) m = record {
-              is = omega (arith, below, needs.rows);
-              fresh = λ h. free (subst (Stands units) (sym w.stands) (stands_at m h (unit_holds m v w)));
-              met = λ j h. (
-                let need = needs.sound m j h in
-                at_stands j need.2.2.2.names.within (met (folder_of folders j).path (path_needed m j v w need))
+              let p = need_of n u k path h in
+              subst (Stands units) p.3 (stands_at p.0 (is_next.ready.met p.0 (needs.complete n p.0 p.1)) p.2)
               );
-            } in
-            not_before folders n m ordered (is_next.least m ready) below (subst (λ (q : List ℕ × List ℕ). Before q.0 q.1) (λ i. (w.stands i, k.stands i)) before)
-          );
+          least = λ v some free met before. (
+              let m = some.0 in
+              let w = some.1 in
+              let below = unit_below m v w in
+              let ready : IsReady graph (take at order) m = record {
+                is = omega (arith, below, needs.rows);
+                fresh = λ h. free (subst (Stands units) (sym w.stands) (stands_at m h (unit_holds m v w)));
+                met = λ j h. (
+                    let need = needs.sound m j h in
+                    at_stands j need.2.2.2.names.within (met (folder_of folders j).path (path_needed m j v w need))
+                    );
+              } in
+              not_before folders n m ordered (is_next.least m ready) below (subst (λ (q : List ℕ × List ℕ). Before q.0 q.1) (λ i. (w.stands i, k.stands i)) before)
+              );
         }
 
       module _ (left left2 : Slots) (m : Making module_path folders slots order at left units) (n : ℕ) (within : at < length order) (is : n ≡ get_or order at n) (taken : left2 ≡ set left n None) where

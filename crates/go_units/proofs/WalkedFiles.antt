@@ -64,9 +64,9 @@ module _ (module_path : List ℕ) (folders : List Folder) (gives : ℕ → Readi
   walked_read (start {slots = slots} rows fresh) m held e = absurd (none_some held (sym (fresh m) ∙ e))
   walked_read (next {slots = slots} {n = n} {sources = sources} {files = files} w is g s) m held e = elim (same_or m n) [
     | inl same ↦
-      let within : n < length slots = omega (arith, walked_rows w, is.wanted.within) in
-      let files_same : files ≡ held = some_same files held (sym (filled_here slots n files within) ∙ ap (slot (set slots n (Some files))) (sym same) ∙ e) in
-      subst (λ (q : ℕ × List PackageFile). IsRead q.0 q.1) (λ i. (sym same i, files_same i)) (sources, g, s)
+        let within : n < length slots = omega (arith, walked_rows w, is.wanted.within) in
+        let files_same : files ≡ held = some_same files held (sym (filled_here slots n files within) ∙ ap (slot (set slots n (Some files))) (sym same) ∙ e) in
+        subst (λ (q : ℕ × List PackageFile). IsRead q.0 q.1) (λ i. (sym same i, files_same i)) (sources, g, s)
     | inr other ↦ walked_read w m held (sym (filled_other slots n files m other) ∙ e)
   ]
 

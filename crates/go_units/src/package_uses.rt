@@ -105,7 +105,13 @@ fn uses_in(
     requires { AreOrdered folders.now }
     ensures { IfOk result (UsesIn module_path.now folders.now from_std declared.now.keys outline.now) }
 {
-    let imports = imports_of(alloc, module_path, folders, from_std, outline.imports.items())?;
+    let imports = imports_of(
+        alloc,
+        module_path,
+        folders,
+        from_std,
+        outline.imports.items(),
+    )?;
     let names = qualifiers(alloc, declared, outline.decls.items())?;
     used_imports(alloc, imports.items(), &names)
 }

@@ -173,10 +173,7 @@ fn advance<R: FolderReader>(
     Ok(())
 }
 
-fn empty_slots(
-    alloc: Global,
-    count: usize,
-) -> Result<Vec<Option<List<PackageFile>>>, NoMemory>
+fn empty_slots(alloc: Global, count: usize) -> Result<Vec<Option<List<PackageFile>>>, NoMemory>
     ensures length { IfOk result (λ slots. length slots.items ≡ count) }
     ensures empty { IfOk result (λ slots. (n : ℕ) → IsFresh slots.items n) }
 {
@@ -227,15 +224,7 @@ fn read_module<R: FolderReader>(
     ensures cause { IfErr result (ReachCause module_path.now folders.now (R.gives reader.now)) }
 {
     for number in 0..folders.len() {
-        if let Err(error) = read_own(
-            alloc,
-            reader,
-            module_path,
-            folders,
-            slots,
-            pending,
-            number,
-        ) {
+        if let Err(error) = read_own(alloc, reader, module_path, folders, slots, pending, number) {
             return Err(error);
         }
     }

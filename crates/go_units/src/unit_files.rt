@@ -55,14 +55,7 @@ fn used_imports(
 {
     let mut imports = List::new(alloc);
     for import in uses {
-        imports.push(used_import(
-            alloc,
-            module_path,
-            folders,
-            packages,
-            from_std,
-            import,
-        )?)?;
+        imports.push(used_import(alloc, module_path, folders, packages, from_std, import)?)?;
     }
     Ok(imports)
 }

@@ -136,14 +136,7 @@ pub(crate) fn needs(
 {
     let mut graph = Vec::new(alloc);
     for number in 0..folders.len() {
-        graph.push(needs_at(
-            alloc,
-            module_path,
-            folders,
-            packages,
-            slots,
-            number,
-        )?)?;
+        graph.push(needs_at(alloc, module_path, folders, packages, slots, number)?)?;
     }
     Ok(graph)
 }

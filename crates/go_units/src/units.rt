@@ -30,10 +30,7 @@ fn cycle(alloc: Global, folder: &Folder) -> UnitError
     }
 }
 
-fn take(
-    slots: &mut Vec<Option<List<PackageFile>>>,
-    number: usize,
-) -> Option<List<PackageFile>>
+fn take(slots: &mut Vec<Option<List<PackageFile>>>, number: usize) -> Option<List<PackageFile>>
     requires { number < length slots.old.items }
     ensures taken { result ≡ slot slots.old.items number }
     ensures left { slots.new.items ≡ slice_set slots.old.items number None }
@@ -138,14 +135,7 @@ fn ordered(
     match canonical_order(alloc, &graph) {
         Err(OrderError::NoMemory) => Err(UnitError::NoMemory),
         Err(OrderError::Cycle(number)) => Err(cycle(alloc, folder_at(folders, number))),
-        Ok(order) => Ok(units_of(
-            alloc,
-            module_path,
-            folders,
-            &packages,
-            slots,
-            order.items(),
-        )?),
+        Ok(order) => Ok(units_of(alloc, module_path, folders, &packages, slots, order.items())?),
     }
 }
 

@@ -11,6 +11,6 @@ pub returns : goal.returns
 returns c =
     on_ok_as (Grows (IsDeclaredIn c.items.result.now) c.args.declared.now.keys c.add_declared.new.declared.keys) (Grows (IsDeclaredByFile c.args.source.now) c.args.declared.now.keys c.add_declared.new.declared.keys)
     (grows_as (IsDeclaredIn c.items.result.now) (IsDeclaredByFile c.args.source.now) c.args.declared.now.keys c.add_declared.new.declared.keys
-      (λ text d. (c.imports_c.ensures.1 c.if-imports_c.false, subst (λ (ds : List Decl). IsDeclaredIn ds text) c.items.ensures d))
-      (λ text p. subst (λ (ds : List Decl). IsDeclaredIn ds text) (sym c.items.ensures) p.1))
+    (λ text d. (c.imports_c.ensures.1 c.if-imports_c.false, subst (λ (ds : List Decl). IsDeclaredIn ds text) c.items.ensures d))
+    (λ text p. subst (λ (ds : List Decl). IsDeclaredIn ds text) (sym c.items.ensures) p.1))
     c.add_declared.result c.add_declared.ensures

@@ -23,6 +23,6 @@ pub returns-in-Err-clause-cause : goal.returns-in-Err-clause-cause
 returns-in-Err-clause-cause g c =
     first_refused c.args.module_path.now c.args.folders.now (g.R.FolderReader.gives c.args.reader.now) c.loop.slots.items c.in-Some.number c.in-Err.error c.loop.invariant.reaching.walked
     (asked_next c.args.module_path.now c.args.folders.now (g.R.FolderReader.gives c.args.reader.now) c.loop.slots.items c.in-Some.number c.pop_first.new.self.keys c.loop.invariant.all
-      (above_least c.in-Some.number c.pop_first.new.self.keys c.in-Some.ensures.all_above)
-      (subst (λ (ks : List ℕ). Reaching c.args.module_path.now c.args.folders.now (g.R.FolderReader.gives c.args.reader.now) c.loop.slots.items ks (λ m. ⊥)) c.in-Some.ensures.removal c.loop.invariant.reaching))
+    (above_least c.in-Some.number c.pop_first.new.self.keys c.in-Some.ensures.all_above)
+    (subst (λ (ks : List ℕ). Reaching c.args.module_path.now c.args.folders.now (g.R.FolderReader.gives c.args.reader.now) c.loop.slots.items ks (λ m. ⊥)) c.in-Some.ensures.removal c.loop.invariant.reaching))
     c.in-Err.ensures.cause

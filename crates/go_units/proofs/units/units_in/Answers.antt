@@ -13,8 +13,8 @@ pub take-files-requires : goal.take-files-requires
 take-files-requires c =
     let n = get_or c.args.order.now c.loop-number.number-index 0 in
     let there =
-        folder_there c.args.module_path.now c.args.folders.now c.requires.ordered c.args.slots.items c.requires.rows c.requires.order.0 c.requires.order.1 c.args.order.now c.requires.order.2 c.loop-number.number-index c.loop-number.units
-        c.loop-number.invariant.made c.loop-number.left.items (set c.loop-number.left.items n None) c.loop-number.invariant n c.loop-number-test.true (get_or_same c.args.order.now c.loop-number.number-index 0 n c.loop-number-test.true) refl in
+    folder_there c.args.module_path.now c.args.folders.now c.requires.ordered c.args.slots.items c.requires.rows c.requires.order.0 c.requires.order.1 c.args.order.now c.requires.order.2 c.loop-number.number-index c.loop-number.units
+    c.loop-number.invariant.made c.loop-number.left.items (set c.loop-number.left.items n None) c.loop-number.invariant n c.loop-number-test.true (get_or_same c.args.order.now c.loop-number.number-index 0 n c.loop-number-test.true) refl in
     omega (arith, there, c.loop-number.invariant.rows, c.requires.rows)
 
 pub add_unit-requires-clause-within : goal.add_unit-requires-clause-within
@@ -28,8 +28,8 @@ add_unit-requires-clause-readable c =
     let n = get_or c.args.order.now c.loop-number.number-index 0 in
     readable_some c.args.slots.items c.requires.readable n c.take-files.result
     (held_read c.args.module_path.now c.args.folders.now c.requires.ordered c.args.slots.items c.requires.rows c.requires.order.0 c.requires.order.1 c.args.order.now c.requires.order.2 c.loop-number.number-index c.loop-number.units
-      c.loop-number.invariant.made c.loop-number.left.items (set c.loop-number.left.items n None) c.loop-number.invariant n c.loop-number-test.true (get_or_same c.args.order.now c.loop-number.number-index 0 n c.loop-number-test.true) refl
-      c.take-files.result c.take-files.ensures.taken)
+    c.loop-number.invariant.made c.loop-number.left.items (set c.loop-number.left.items n None) c.loop-number.invariant n c.loop-number-test.true (get_or_same c.args.order.now c.loop-number.number-index 0 n c.loop-number-test.true) refl
+    c.take-files.result c.take-files.ensures.taken)
 
 pub loop-number-preserved : goal.loop-number-preserved
 loop-number-preserved c =
