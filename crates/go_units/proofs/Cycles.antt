@@ -26,7 +26,7 @@ on_level levels level [] n h l = absurd h
 on_level levels level (x ∷ xs) n h l = level_by levels level x xs (at_level levels level xs) n (nat_eq (get_or levels x 0) level) refl l (λ k. on_level levels level xs n k l) h
 
 module _ (graph : List (List ℕ)) where
-  leads_one : {k m n : ℕ} → LeadsTo graph k m → Has (needs_of graph m) n → LeadsTo graph k n
+  pub leads_one : {k m n : ℕ} → LeadsTo graph k m → Has (needs_of graph m) n → LeadsTo graph k n
   leads_one (directly g) h = through g (directly h)
   leads_one (through g k) h = through g (leads_one k h)
 

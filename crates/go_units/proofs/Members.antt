@@ -106,3 +106,8 @@ pub above_least : (k : ℕ) (rest : List ℕ) → All (λ x. nat_cmp k x ≡ Les
 above_least k [] h m q = absurd q
 above_least k (y ∷ ys) h m (inl e) = subst (λ (w : ℕ). k < w) e (greater_of k y (h 0 y (omega arith)))
 above_least k (y ∷ ys) h m (inr q) = above_least k ys (λ i d l. h (suc i) d (omega arith)) m q
+
+-- a list that isn't longer than nothing is empty
+pub no_items : (xs : List ℕ) → (0 < length xs → ⊥) → xs ≡ []
+no_items [] h = refl
+no_items (x ∷ xs) h = absurd (h (omega arith))

@@ -186,3 +186,15 @@ empty_more (r ∷ rows) row e empty (suc n) = empty_more rows row e (λ m. empty
 -- all that are at a place or later are there or later still
 pub later : (i k : ℕ) → i ≤ k → (i + 1 ≤ k) ⊎ (k ≡ i)
 later i k h = elim (below_or i k) [ inl less ↦ inl (omega arith) | inr more ↦ inr (omega arith) ]
+
+ready_by : (graph : List (List ℕ)) {standing ready : List ℕ} {waits : List (List Wait)} → ready ≡ [] → Sorting graph standing ready waits (λ k. ⊥) → (n : ℕ) → IsReady graph standing n → Placed standing ready waits (λ k. ⊥) n → ⊥
+ready_by graph e s n r (stands h) = r.fresh h
+ready_by graph e s n r (is_ready h) = subst (λ (ks : List ℕ). Has ks n) e h
+ready_by graph e s n r (waiting on wait w h lacks) =
+    let held = s.held on wait h in
+    lacks (r.met on (subst (λ (k : ℕ). Has (needs_of graph k) on) w (subst (Has (needs_of graph wait.node)) held.1 (has_at (needs_of graph wait.node) wait.at 0 held.0.within))))
+ready_by graph e s n r (is_left l) = l
+
+-- where nothing is left to bring into order, no package is ready
+pub none_ready : (graph : List (List ℕ)) {standing ready : List ℕ} {waits : List (List Wait)} → ready ≡ [] → Sorting graph standing ready waits (λ k. ⊥) → (n : ℕ) → IsReady graph standing n → ⊥
+none_ready graph e s n r = ready_by graph e s n r (s.cover n r.is)

@@ -1,9 +1,9 @@
 //! The canonical order of packages that need each other.
-ghost use Rattle.std.specs.Prelude.{◌≡◌, ◌<◌, ◌≤◌, ◌∷◌, ◌++◌, ℕ, List, [], length, get_or, true, IsTrue, ◌↔◌, IfOk, IfErr, OnOk};
+ghost use Rattle.std.specs.Prelude.{◌≡◌, ◌<◌, ◌≤◌, ◌∷◌, ◌++◌, ℕ, List, [], length, get_or, true, false, IsTrue, ◌↔◌, IfOk, IfErr, OnOk};
 ghost use Rattle.go_units.specs.declared.order.Wait.{Wait};
 ghost use Rattle.go_base.specs.Growing.{Grows};
 ghost use Rattle.go_base.specs.Lists.{Has};
-ghost use Rattle.go_units.specs.Orders.{IsGraph, IsCanonical, IsOrder, needs_of};
+ghost use Rattle.go_units.specs.Orders.{IsGraph, IsCanonical, IsOrder, IsReady, needs_of};
 ghost use Rattle.go_units.specs.inner.OrderCauses.{OrderCause};
 ghost use Rattle.go_units.specs.inner.Sorting.{row_of, Waited, Emptied, StandBefore, IsWait, Settles, Sorting, IsWokenBy};
 
@@ -202,7 +202,8 @@ fn empty_rows(alloc: Global, count: usize) -> Result<Vec<List<Wait>>, NoMemory>
 // As many packages in canonical order as there are.
 fn stand_all(alloc: Global, graph: &[List<usize>]) -> Result<IndexSet<usize>, NoMemory>
     requires { IsGraph graph.now }
-    ensures { IfOk result (λ standing. IsOrder graph.now standing.keys) }
+    ensures ordered { IfOk result (λ standing. IsOrder graph.now standing.keys) }
+    ensures stuck { IfOk result (λ standing. (n : ℕ) → IsReady graph.now standing.keys n → ⊥) }
 {
     let mut standing = IndexSet::new(alloc);
     let mut ready = BTreeSet::new(alloc);
@@ -218,7 +219,8 @@ fn stand_all(alloc: Global, graph: &[List<usize>]) -> Result<IndexSet<usize>, No
 }
 
 fn all_stand(standing: &IndexSet<usize>, count: usize) -> bool
-    ensures { result ≡ true → (n : ℕ) → n < count → Has standing.now.keys n }
+    ensures yes { result ≡ true → (n : ℕ) → n < count → Has standing.now.keys n }
+    ensures no { result ≡ false → (n : ℕ) × (n < count) × (Has standing.now.keys n → ⊥) }
 {
     for node in 0..count {
         if !stands(standing, node) {
@@ -256,6 +258,6 @@ pub fn canonical_order(alloc: Global, graph: &[List<usize>]) -> Result<List<usiz
     }
     match least_on_cycle(alloc, graph)? {
         Some(node) => Err(OrderError::Cycle(node)),
-        None => Err(OrderError::NoMemory),
+        None => unreachable!(),
     }
 }

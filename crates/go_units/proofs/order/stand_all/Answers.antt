@@ -1,7 +1,8 @@
 use Rattle.std.proofs.Common.{◌≤◌, ℕ, List, subst, sym, length, arith}
+use mathlib.Core.Bool.{true≢false}
 use Rattle.go_units.specs.inner.Sorting.{Sorting}
-use Rattle.go_units.proofs.Members.{above_least}
-use Rattle.go_units.proofs.Sorted.{sorting_first, sorting_as}
+use Rattle.go_units.proofs.Members.{above_least, no_items}
+use Rattle.go_units.proofs.Sorted.{sorting_first, sorting_as, none_ready}
 use Rattle.go_units.proofs.order.stand_all.Goals as goal
 
 pub settle_all-requires-clause-sorting : goal.settle_all-requires-clause-sorting
@@ -17,3 +18,6 @@ stand-requires-clause-least c = above_least c.in-Some.node c.pop_first.new.self.
 
 pub stand-requires-clause-sorting : goal.stand-requires-clause-sorting
 stand-requires-clause-sorting c = subst (λ (ks : List ℕ). Sorting c.args.graph.now c.loop.standing.keys ks c.loop.waits.items (λ n. ⊥)) c.in-Some.ensures.removal c.loop.invariant
+
+pub returns-in-None-clause-stuck : goal.returns-in-None-clause-stuck
+returns-in-None-clause-stuck c = none_ready c.args.graph.now (no_items c.loop.ready.keys (λ h. true≢false (sym (c.in-None.ensures.variant.1 h)))) c.loop.invariant

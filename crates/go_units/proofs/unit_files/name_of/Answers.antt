@@ -1,0 +1,13 @@
+use Rattle.std.proofs.Common.{◌≡◌, ◌∙◌, List, ℕ, sym, subst, ap}
+use Rattle.go_base.specs.Lists.{Has}
+use Rattle.go_units.specs.declared.package_uses.PackageFile.{PackageFile}
+use Rattle.go_units.specs.inner.UnitMaking.{AreCalled}
+use Rattle.go_units.proofs.Files.{has_item}
+use Rattle.go_units.proofs.Results.{if_ok_as}
+use Rattle.go_units.proofs.unit_files.name_of.Goals as goal
+
+pub returns : goal.returns
+returns c =
+    if_ok_as (λ (text : List ℕ). text ≡ c.bytes.result.now) (AreCalled c.args.files.now)
+    (λ text e f h. c.requires.alike f c.index-files-0.result h (has_item c.args.files.now 0 c.index-files-0.result c.requires.some c.index-files-0.is) ∙ ap (λ (g : PackageFile). g.outline.«package».text) c.index-files-0.is ∙ sym c.bytes.ensures ∙ sym e)
+    c.of.result c.of.ensures
