@@ -1,5 +1,5 @@
 -- `append` and `copy`: what they make, and where they make nothing.
-use Rattle.std.proofs.Common.{◌≡◌, ℕ, Bool, true, false, Option, Some, None, refl, sym, ap, ◌∙◌, subst, if◌then◌else◌, List, [], ◌∷◌}
+use Rattle.std.proofs.Common.{◌≡◌, ℕ, Bool, true, false, Option, Some, None, refl, sym, ap, ◌∙◌, subst, if◌then◌else◌, List, [], ◌∷◌, length, IsTrue, ◌↔◌, arith}
 use Rattle.go_base.specs.Lists.{Each}
 use Rattle.go_model.specs.declared.constants.value.Basic.TheVariants as basic
 use Rattle.go_model.specs.declared.types.term.Term.{Term, Term-F}
@@ -17,6 +17,10 @@ use Rattle.go_calls.specs.Builtins.{Appends, appends_elements, appends_slice, ap
 use Rattle.go_calls.specs.inner.Appended.{IsBytesFrom, MayAppend, append_bytes, append_same, MayAppendAll, append_each, append_last, MayCopy, copy_bytes, copy_same}
 use Rattle.go_operators.proofs.Answers.{given, false_true}
 use Rattle.go_calls.proofs.LevelParts.{same_element}
+
+pub decide : (P : Type 0) (b : Bool) → (IsTrue b ↔ P) → Decides P b
+decide P true i = i.0 refl
+decide P false i = λ p. false_true (i.1 p)
 
 head_same : {A : Type 0} {x y : A} → x ∷ [] ≡ y ∷ [] → x ≡ y
 head_same e = cc
@@ -46,6 +50,15 @@ module _ (E : Env) where
 
   pub last_none : (e : Term) (os : List Operand) → ((o : Operand) → os ≡ o ∷ [] → ⊥) → MayAppendAll E e os true → ⊥
   last_none e os none x = none _ (last_of x).1
+
+  pub dots_none : (e : Term) (os : List Operand) (dots : Bool) (b : Bool) → dots ≡ false → Decides (Each (λ o. UsableAs E o e) os) b → Decides (MayAppendAll E e os dots) b
+  dots_none e os dots b f d = subst (λ (x : Bool). Decides (MayAppendAll E e os x) b) (sym f) (all_decides e os b d)
+
+  pub dots_last : (e : Term) (os : List Operand) (dots : Bool) (o : Operand) (b : Bool) → dots ≡ true → os ≡ o ∷ [] → Decides (MayAppend E e o) b → Decides (MayAppendAll E e os dots) b
+  dots_last e os dots o b f p d = subst (λ (x : Bool). Decides (MayAppendAll E e os x) b) (sym f) (last_decides e os o b p d)
+
+  pub dots_no_last : (e : Term) (os : List Operand) (dots : Bool) → dots ≡ true → ((o : Operand) → os ≡ o ∷ [] → ⊥) → MayAppendAll E e os dots → ⊥
+  dots_no_last e os dots f none x = last_none e os none (subst (MayAppendAll E e os) f x)
 
   -- ---- append
 
@@ -79,8 +92,9 @@ module _ (E : Env) where
   none_appended : {dots : Bool} {r : Operand} → Appends E [] dots r → ⊥
   none_appended x = elim x [ ]
 
-  pub append_nothing : (os : List Operand) (dots : Bool) → os ≡ [] → (r : Operand) → Appends E os dots r → ⊥
-  append_nothing os dots e r x = none_appended (subst (λ (y : List Operand). Appends E y dots r) e x)
+  pub append_nothing : (os : List Operand) (dots : Bool) → length os ≡ 0 → (r : Operand) → Appends E os dots r → ⊥
+  append_nothing [] dots e r x = none_appended x
+  append_nothing (o ∷ os) dots e r x = absurd (omega arith)
 
   pub append_rest : (os : List Operand) (o : Operand) (qs : List Operand) (dots : Bool) (r : Option Operand) → os ≡ o ∷ qs → Gives (Appends E (o ∷ qs) dots) r → Gives (Appends E os dots) r
   append_rest os o qs dots r e g = subst (λ (y : List Operand). Gives (Appends E y dots) r) (sym e) g

@@ -1,5 +1,5 @@
 -- Calls of the other builtin functions: what they make, and where they make nothing.
-use Rattle.std.proofs.Common.{◌≡◌, ℕ, Bool, true, false, Option, Some, None, refl, sym, ap, ◌∙◌, subst, if◌then◌else◌, List, [], ◌∷◌}
+use Rattle.std.proofs.Common.{◌≡◌, ℕ, Bool, true, false, Option, Some, None, refl, sym, ap, ◌∙◌, subst, if◌then◌else◌, List, [], ◌∷◌, length, arith}
 use Rattle.go_base.specs.Lists.{Each}
 use Rattle.go_model.specs.declared.constants.value.Untyped.{Untyped}
 use Rattle.go_model.specs.declared.constants.value.Value.{Value}
@@ -31,10 +31,13 @@ module _ (E : Env) where
   pub close_no_channel : (o : Operand) (t : Term) → IsTyped o t → ((d : Direction) (u : Term) → under E.table t ≡ Term-F.Chan d u → ⊥) → (r : Operand) → Closes E o r → ⊥
   close_no_channel o t h none r x = none _ _ (ap (under E.table) (one_type h (closed x).3) ∙ (closed x).4)
 
-  pub close_gives : (o : Operand) (t u : Term) (d : Direction) → IsTyped o t → under E.table t ≡ Term-F.Chan d u → Gives (Closes E o) (if sends d then Some no_value else None)
-  close_gives o t u d h e =
+  close_sends : (o : Operand) (t u : Term) (d : Direction) → IsTyped o t → under E.table t ≡ Term-F.Chan d u → Gives (Closes E o) (if sends d then Some no_value else None)
+  close_sends o t u d h e =
       given_test (Closes E o) (sends d) no_value (λ s. closes h e s)
       (λ r x. ap sends (same_direction (sym e ∙ ap (under E.table) (one_type h (closed x).3) ∙ (closed x).4)) ∙ (closed x).5)
+
+  pub close_gives : (o : Operand) (t u : Term) (d : Direction) (b : Bool) → IsTyped o t → under E.table t ≡ Term-F.Chan d u → b ≡ sends d → Gives (Closes E o) (if b then Some no_value else None)
+  close_gives o t u d b h e f = subst (λ (x : Bool). Gives (Closes E o) (if x then Some no_value else None)) (sym f) (close_sends o t u d h e)
 
   deleted : {o q r : Operand} → Deletes E o q r → (t : Term) × (k : Term) × (u : Term) × IsTyped o t × (under E.table t ≡ Term-F.Map k u) × UsableAs E q k
   deleted (deletes h e p) = (_, _, _, h, e, p)
@@ -129,8 +132,9 @@ more_dots P (o ∷ os) r x = x
 pub more_nothing : (P : Operand → List Operand → Operand → Type 0) (os : List Operand) (dots : Bool) → dots ≡ true → (r : Operand) → OfMore P os dots r → ⊥
 more_nothing P os dots e r x = more_dots P os r (subst (λ (b : Bool). OfMore P os b r) e x)
 
-pub more_empty : (P : Operand → List Operand → Operand → Type 0) (os : List Operand) (dots : Bool) → os ≡ [] → (r : Operand) → OfMore P os dots r → ⊥
-more_empty P os dots e r x = subst (λ (y : List Operand). OfMore P y dots r) e x
+pub more_empty : (P : Operand → List Operand → Operand → Type 0) (os : List Operand) (dots : Bool) → length os ≡ 0 → (r : Operand) → OfMore P os dots r → ⊥
+more_empty P [] dots e r x = x
+more_empty P (o ∷ os) dots e r x = absurd (omega arith)
 
 pub any_nothing : (P : List Operand → Operand → Type 0) (os : List Operand) (dots : Bool) → dots ≡ true → (r : Operand) → OfAny P os dots r → ⊥
 any_nothing P os dots e r x = subst (λ (b : Bool). OfAny P os b r) e x

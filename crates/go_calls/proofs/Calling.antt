@@ -54,6 +54,12 @@ module _ (E : Env) where
   fixed_decides ts os true d = each_fits os ts d
   fixed_decides ts os false d = λ x. d (fits_each x)
 
+  pub no_dots_fixed : (variadic dots : Bool) (ts : List Term) (os : List Operand) → variadic ≡ false → dots ≡ true → ArgumentsFit E variadic dots ts os → ⊥
+  no_dots_fixed variadic dots ts os e f x = fixed_dots ts os (subst (λ (b : Bool). ArgumentsFit E false b ts os) f (subst (λ (b : Bool). ArgumentsFit E b dots ts os) e x))
+
+  pub fixed_each : (variadic dots : Bool) (ts : List Term) (os : List Operand) (b : Bool) → variadic ≡ false → dots ≡ false → Decides (UsableEach E os ts) b → Decides (ArgumentsFit E variadic dots ts os) b
+  fixed_each variadic dots ts os b e f d = subst (λ (v : Bool). Decides (ArgumentsFit E v dots ts os) b) (sym e) (subst (λ (v : Bool). Decides (ArgumentsFit E false v ts os) b) (sym f) (fixed_decides ts os b d))
+
   -- of a variadic one
 
   rest_fit : {dots : Bool} {t : Term} {os : List Operand} → RestFits E dots t os → ArgumentsFit E true dots (t ∷ []) os
@@ -65,6 +71,10 @@ module _ (E : Env) where
 
   pub variadic_none : (dots : Bool) (os : List Operand) → ArgumentsFit E true dots [] os → ⊥
   variadic_none dots os x = no_param x
+
+  pub variadic_no_params : (variadic dots : Bool) (ts : List Term) (os : List Operand) → variadic ≡ true → length ts ≡ 0 → ArgumentsFit E variadic dots ts os → ⊥
+  variadic_no_params variadic dots [] os e f x = no_param (subst (λ (b : Bool). ArgumentsFit E b dots [] os) e x)
+  variadic_no_params variadic dots (t ∷ ts) os e f x = absurd (omega arith)
 
   fit_rest : {dots : Bool} {t : Term} {os : List Operand} → ArgumentsFit E true dots (t ∷ []) os → RestFits E dots t os
   fit_rest (fits_more u f) = absurd (no_param f)

@@ -116,8 +116,11 @@ module _ (E : Env) where
   at_text (constant.OfTerm t) s i = string_typed i
   at_text (constant.OfKind k) s i = string_untyped
 
-  pub constant_length_text : (c : ConstTerm) (v : Value) (s : List ℕ) → IsStringKind E c → v ≡ value.Str s → IsString E (constant_of c v) (Some (length s))
+  constant_length_text : (c : ConstTerm) (v : Value) (s : List ℕ) → IsStringKind E c → v ≡ value.Str s → IsString E (constant_of c v) (Some (length s))
   constant_length_text c v s i e = subst (λ (x : Value). IsString E (constant_of c x) (Some (length s))) (sym e) (at_text c s i)
+
+  pub text_length : (c : ConstTerm) (v : Value) (s bytes : List ℕ) (n : ℕ) → IsStringKind E c → v ≡ value.Str s → bytes ≡ s → n ≡ length bytes → IsString E (constant_of c v) (Some n)
+  text_length c v s bytes n i e f g = subst (λ (k : ℕ). IsString E (constant_of c v) (Some k)) (sym (g ∙ ap length f)) (constant_length_text c v s i e)
 
   pub string_decides : (c : ConstTerm) (t : Term) (b : Bool) → c ≡ constant.OfTerm t → Decides (under E.table t ≡ Term-F.Plain basic.Str) b → Decides (IsStringKind E c) b
   string_decides c t b e d = subst (λ (x : ConstTerm). Decides (IsStringKind E x) b) (sym e) d

@@ -95,6 +95,13 @@ module _ (E : Env) where
   pub make_gives : (o : Operand) (os : List Operand) (t : Term) (b : Bool) → o ≡ type_name t → Makes (under E.table t) (length os) → Decides (FitSizes E os) b → Gives (MakesOf E o os) (if b then Some (plain t) else None)
   make_gives o os t b e m d = given (MakesOf E o os) (FitSizes E os) b (plain t) d (λ f. makes e m f) (λ r x. (made x).3)
 
+  -- by what is underneath, and how many there are
+  pub make_not_taken : (o : Operand) (os : List Operand) (t : Term) (l : Layer) (n : ℕ) → o ≡ type_name t → l ≡ under E.table t → n ≡ length os → (Makes l n → ⊥) → (r : Operand) → MakesOf E o os r → ⊥
+  make_not_taken o os t l n e f g none r x = make_not_sizes o os t e (λ m. none (subst (λ (k : ℕ). Makes l k) (sym g) (subst (λ (y : Layer). Makes y (length os)) (sym f) m))) r x
+
+  pub make_like : (o : Operand) (os : List Operand) (t : Term) (l : Layer) (n : ℕ) (b : Bool) → o ≡ type_name t → l ≡ under E.table t → n ≡ length os → Makes l n → Decides (FitSizes E os) b → Gives (MakesOf E o os) (if b then Some (plain t) else None)
+  make_like o os t l n b e f g m d = make_gives o os t b e (subst (λ (y : Layer). Makes y (length os)) f (subst (λ (k : ℕ). Makes l k) g m)) d
+
 -- ---- new
 
 newed : {o r : Operand} → News o r → (t : Term) × (o ≡ type_name t)
@@ -103,5 +110,8 @@ newed news = (_, refl)
 pub new_nothing : (o : Operand) → ((t : Term) → o ≡ type_name t → ⊥) → (r : Operand) → News o r → ⊥
 new_nothing o none r x = none _ (newed x).1
 
-pub new_gives : (o : Operand) (t : Term) → o ≡ type_name t → News o (plain (pointer_to t))
+new_gives : (o : Operand) (t : Term) → o ≡ type_name t → News o (plain (pointer_to t))
 new_gives o t e = subst (λ (x : Operand). News x (plain (pointer_to t))) (sym e) news
+
+pub new_like : (o : Operand) (t u : Term) (r : Operand) → o ≡ type_name t → u ≡ pointer_to t → r ≡ plain u → News o r
+new_like o t u r e f g = subst (News o) (sym (g ∙ ap plain f)) (new_gives o t e)

@@ -36,12 +36,15 @@ module _ (E : Env) where
   constant_in : {n : ℕ} {r : Operand} → MeasuresArray E false n r → IntWithin E n r
   constant_in (quiet_array x) = x
 
-  pub array_calls : (n : ℕ) → MeasuresArray E true n int_value
-  array_calls n = loud_array
-
-  pub array_gives : (n : ℕ) (r : Option Operand) → Gives (IntWithin E n) r → Gives (MeasuresArray E false n) r
+  array_gives : (n : ℕ) (r : Option Operand) → Gives (IntWithin E n) r → Gives (MeasuresArray E false n) r
   array_gives n (Some r) g = quiet_array g
   array_gives n None g = λ r x. g r (constant_in x)
+
+  pub loud_gives : (loud : Bool) (n : ℕ) (r : Operand) → loud ≡ true → r ≡ int_value → MeasuresArray E loud n r
+  loud_gives loud n r e f = subst (λ (b : Bool). MeasuresArray E b n r) (sym e) (subst (MeasuresArray E true n) (sym f) loud_array)
+
+  pub quiet_gives : (loud : Bool) (n : ℕ) (r : Option Operand) → loud ≡ false → Gives (IntWithin E n) r → Gives (MeasuresArray E loud n) r
+  quiet_gives loud n r e g = subst (λ (b : Bool). Gives (MeasuresArray E b n) r) (sym e) (array_gives n r g)
 
   -- ---- what is no array
 
@@ -108,12 +111,18 @@ module _ (E : Env) where
   same_some : {m n : ℕ} → Some m ≡ Some n → m ≡ n
   same_some e = cc
 
-  pub string_length_gives : (f : Predeclared) (o : Operand) (n : ℕ) (r : Option Operand) → f ≡ p.Len → IsString E o (Some n) → Gives (IntWithin E n) r → Gives (MeasuresString E f o) r
+  string_length_gives : (f : Predeclared) (o : Operand) (n : ℕ) (r : Option Operand) → f ≡ p.Len → IsString E o (Some n) → Gives (IntWithin E n) r → Gives (MeasuresString E f o) r
   string_length_gives f o n (Some r) e s g = constant_string e s g
   string_length_gives f o n None e s g = λ r x. g r (subst (λ (k : ℕ). IntWithin E k r) (same_some (one_string (string_number x).1 s)) (string_number x).2)
 
-  pub string_variable : (f : Predeclared) (o : Operand) → IsString E o None → (r : Operand) → MeasuresString E f o r → ⊥
+  string_variable : (f : Predeclared) (o : Operand) → IsString E o None → (r : Operand) → MeasuresString E f o r → ⊥
   string_variable f o s r x = none_some (one_string s (string_number x).1)
+
+  pub string_known : (f : Predeclared) (o : Operand) (l : Option ℕ) (n : ℕ) (r : Option Operand) → l ≡ Some n → f ≡ p.Len → IsString E o l → Gives (IntWithin E n) r → Gives (MeasuresString E f o) r
+  string_known f o l n r k e s g = string_length_gives f o n r e (subst (IsString E o) k s) g
+
+  pub string_unknown : (f : Predeclared) (o : Operand) (l : Option ℕ) → l ≡ None → IsString E o l → (r : Operand) → MeasuresString E f o r → ⊥
+  string_unknown f o l k s r x = string_variable f o (subst (IsString E o) k s) r x
 
   pub string_no_string : (f : Predeclared) (o : Operand) → ((n : Option ℕ) → IsString E o n → ⊥) → (r : Operand) → MeasuresString E f o r → ⊥
   string_no_string f o none r x = none _ (string_number x).1

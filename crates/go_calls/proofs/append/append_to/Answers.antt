@@ -12,4 +12,4 @@ pub returns-in-None-slice_under : goal.returns-in-None-slice_under
 returns-in-None-slice_under c = append_no_slice (env_of c.args.context.now.env.now) c.args.operand.now c.args.operands.now c.args.dots _ c.in-Some.ensures c.in-None-slice_under.ensures
 
 pub returns : goal.returns
-returns c = ?
+returns c = same_answer (Appends (env_of c.args.context.now.env.now) (c.args.operand.now ∷ c.args.operands.now) c.args.dots) _ _ c.in_ok-answer.ensures (append_gives (env_of c.args.context.now.env.now) c.args.operand.now c.args.operands.now c.args.dots _ _ c.in_ok-may.may c.in-Some.ensures c.in-Some-slice_under.ensures c.in_ok-may.ensures)

@@ -7,7 +7,7 @@ pub returns-then-dots : goal.returns-then-dots
 returns-then-dots c = more_nothing (MakesOf (env_of c.args.context.now.env.now)) c.args.operands.now c.args.dots c.if-dots.true
 
 pub returns-in_ok-answer-in-Some : goal.returns-in_ok-answer-in-Some
-returns-in_ok-answer-in-Some c = ?
+returns-in_ok-answer-in-Some c = more_gives (MakesOf (env_of c.args.context.now.env.now)) c.args.operands.now c.args.dots _ _ c.in_ok-answer-in-Some.answer c.in-Some.ensures.cases.0 c.if-dots.false c.in_ok-answer-in-Some.ensures
 
 pub returns-in-None : goal.returns-in-None
-returns-in-None c = ?
+returns-in-None c = more_empty (MakesOf (env_of c.args.context.now.env.now)) c.args.operands.now c.args.dots c.in-None.ensures.cases

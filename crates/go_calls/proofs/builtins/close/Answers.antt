@@ -11,4 +11,4 @@ pub returns-in-None-channel_under : goal.returns-in-None-channel_under
 returns-in-None-channel_under c = close_no_channel (env_of c.args.context.now.env.now) c.args.operand.now _ c.in-Some.ensures c.in-None-channel_under.ensures
 
 pub returns-in-Some-channel_under : goal.returns-in-Some-channel_under
-returns-in-Some-channel_under c = ?
+returns-in-Some-channel_under c = same_answer (Closes (env_of c.args.context.now.env.now) c.args.operand.now) _ _ c.nothing_where.ensures (close_gives (env_of c.args.context.now.env.now) c.args.operand.now _ _ _ c.sends.result c.in-Some.ensures c.in-Some-channel_under.ensures c.sends.ensures)

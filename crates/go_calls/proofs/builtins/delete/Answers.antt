@@ -11,4 +11,4 @@ pub returns-in-None-map_under : goal.returns-in-None-map_under
 returns-in-None-map_under c = delete_no_map (env_of c.args.context.now.env.now) c.args.operand.now c.args.key.now _ c.in-Some.ensures c.in-None-map_under.ensures
 
 pub returns-in_ok-may-in-Some-map_under : goal.returns-in_ok-may-in-Some-map_under
-returns-in_ok-may-in-Some-map_under c = ?
+returns-in_ok-may-in-Some-map_under c = same_answer (Deletes (env_of c.args.context.now.env.now) c.args.operand.now c.args.key.now) _ _ c.nothing_where.ensures (delete_gives (env_of c.args.context.now.env.now) c.args.operand.now c.args.key.now _ _ _ c.in_ok-may-in-Some-map_under.may c.in-Some.ensures c.in-Some-map_under.ensures c.in_ok-may-in-Some-map_under.ensures)

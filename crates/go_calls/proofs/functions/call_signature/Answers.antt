@@ -5,7 +5,7 @@ use Rattle.go_calls.proofs.Calling.{call_not_fit, call_fits}
 use Rattle.go_calls.proofs.functions.call_signature.Goals as goal
 
 pub returns-then-not-fits : goal.returns-then-not-fits
-returns-then-not-fits c = ?
+returns-then-not-fits c = call_not_fit (env_of c.args.context.now.env.now) c.args.dots c.args.signature.now c.args.operands.now (decided_false _ _ c.if-not-fits.true c.in_ok-fits.ensures)
 
 pub returns : goal.returns
-returns c = ?
+returns c = call_fits (env_of c.args.context.now.env.now) c.args.dots c.args.signature.now c.args.operands.now _ (decided_true _ _ c.if-not-fits.false c.in_ok-fits.ensures) c.in_ok-results.ensures

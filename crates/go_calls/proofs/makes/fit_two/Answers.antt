@@ -3,7 +3,7 @@ use Rattle.go_calls.proofs.Making.{fit_no_index, fit_no_second, fit_decides}
 use Rattle.go_calls.proofs.makes.fit_two.Goals as goal
 
 pub returns-in-None : goal.returns-in-None
-returns-in-None c = ?
+returns-in-None c = fit_no_index (env_of c.args.context.now.env.now) c.args.size.now _ c.in-None.ensures
 
 pub returns-in-None-index_of : goal.returns-in-None-index_of
 returns-in-None-index_of c = fit_no_second (env_of c.args.context.now.env.now) c.args.size.now c.args.capacity.now c.in-None-index_of.ensures

@@ -6,4 +6,4 @@ pub returns-in-Some : goal.returns-in-Some
 returns-in-Some c = fit_one (env_of c.args.context.now.env.now) c.args.size.now _ c.in-Some.ensures
 
 pub returns-in-None : goal.returns-in-None
-returns-in-None c = ?
+returns-in-None c = fit_no_index (env_of c.args.context.now.env.now) c.args.size.now _ c.in-None.ensures
