@@ -12,7 +12,7 @@ use Rattle.go_model.specs.types.Underlying.{under}
 use Rattle.go_rules.specs.Environments.{Env}
 use Rattle.go_rules.specs.Expressions.{Has, HasArguments, arguments_each, arguments_tuple, HasBuiltin, append_elements, append_slice, append_string, len_string, array_constant, array_value, measure, close, copy_slice, copy_string, delete, make, new, panic, print, recover, HasEach, each_none, each_more, HasPost, post_conversion, post_call, post_builtin, HasSizes, sizes_none, sizes_more, HoldsNone, HoldsOne, IsArray, IsCall, call, call_receive_type, int_constant, measures, measures_arrays, prints, ArgumentsFit, results_of}
 use Rattle.go_rules.specs.Nodes.{PostLayer}
-use Rattle.go_rules.specs.Operands.{IsTyped, any_term, basic_term, builtin, plain}
+use Rattle.go_rules.specs.Operands.{IsTyped, any_term, builtin, no_value, plain, type_name}
 use Rattle.go_rules.specs.declared.operand.Operand.{Operand}
 use Rattle.go_rules.specs.declared.predeclared.Predeclared.{Predeclared}
 use Rattle.go_rules.specs.declared.predeclared.Predeclared.TheVariants as p
@@ -58,6 +58,24 @@ measured_is : (f : Predeclared) (l : Layer) → measures f l ≡ true → measur
 measured_is p.Len l h = refl
 measured_is p.Cap l h = refl
 measured_is f l h = absurd (no_truth (sym h))
+
+-- ---- what a call of expressions has
+
+-- what is told of the one argument of a builtin function
+abbrev Tells : Env → Predeclared → List Expr → Bool → Type 0
+Tells E f es loud = (e : Expr) → measures_arrays f ≡ true → es ≡ e ∷ [] → IsLoud E e loud
+
+-- typed arguments of a builtin function, and what it makes of their operands
+record Typed (E : Env) (f : Predeclared) (es : List Expr) (dots : Bool) (r : Operand) : Type 0 where
+  operands : List Operand
+  each : HasEach E es operands
+  makes : (loud : Bool) → Tells E f es loud → CallsBuiltin E loud f operands dots r
+
+-- typed arguments of a call, and what it makes of their operands
+record TypedCall (E : Env) (o : Operand) (es : List Expr) (dots : Bool) (r : Operand) : Type 0 where
+  operands : List Operand
+  each : HasEach E es operands
+  makes : (loud : Bool) → IsTold E o es loud → Calls E loud o operands dots r
 
 module _ (E : Env) where
   measured_calls : (f : Predeclared) (loud : Bool) (o r : Operand) → measures_arrays f ≡ true → Measures E f loud o r → CallsBuiltin E loud f (o ∷ []) false r
@@ -170,11 +188,7 @@ module _ (E : Env) where
       let a = of_none (λ (s : Operand). s ≡ plain any_term) os dots r x in
       subst (λ (d : Bool). Builtin p.Recover es d r) (sym a.1) (subst (λ (ds : List Expr). Builtin p.Recover ds false r) (sym (nothing (subst (HasEach E es) a.0 h))) (recovers r a.2))
 
-  -- what is told of the one argument
-  abbrev Tells : Predeclared → List Expr → Bool → Type 0
-  Tells f es loud = (e : Expr) → measures_arrays f ≡ true → es ≡ e ∷ [] → IsLoud E e loud
-
-  rule_of_builtin : (f : Predeclared) (es : List Expr) (os : List Operand) (loud dots : Bool) (r : Operand) → HasEach E es os → Tells f es loud → CallsBuiltin E loud f os dots r → Builtin f es dots r
+  rule_of_builtin : (f : Predeclared) (es : List Expr) (os : List Operand) (loud dots : Bool) (r : Operand) → HasEach E es os → Tells E f es loud → CallsBuiltin E loud f os dots r → Builtin f es dots r
   rule_of_builtin p.Append es os loud dots r h t x = rule_of_append es os dots r h x
   rule_of_builtin p.Cap es os loud dots r h t x = rule_of_one p.Cap (Measures E p.Cap loud) es os dots r (λ e o s a y. measures_one refl (t e refl s) a y) h x
   rule_of_builtin p.Close es os loud dots r h t x = rule_of_one p.Close (Closes E) es os dots r (λ e o s a y. closes_one a y) h x
@@ -199,13 +213,7 @@ module _ (E : Env) where
   measures_loudly true l n h y = measures_array h y
   measures_loudly false l n h y = absurd (quiet_or_loud E l n)
 
-  -- what a call of a builtin function has: typed arguments, and what it makes of their operands
-  record Typed (f : Predeclared) (es : List Expr) (dots : Bool) (r : Operand) : Type 0 where
-    operands : List Operand
-    each : HasEach E es operands
-    makes : (loud : Bool) → Tells f es loud → CallsBuiltin E loud f operands dots r
-
-  of_builtin : {f : Predeclared} {es : List Expr} {dots : Bool} {r : Operand} → HasBuiltin E f es dots r → Typed f es dots r
+  of_builtin : {f : Predeclared} {es : List Expr} {dots : Bool} {r : Operand} → HasBuiltin E f es dots r → Typed E f es dots r
   of_builtin (append_elements {o = o} {os = os} a h e b u) = record { operands = o ∷ os; each = each_more a b; makes = λ loud t. appends_elements h e u }
   of_builtin (append_slice {o = o} {q = q} a h e b u) = record { operands = o ∷ q ∷ []; each = typed_two a b; makes = λ loud t. appends_slice h e u }
   of_builtin (append_string {o = o} {q = q} a h e b s) = record { operands = o ∷ q ∷ []; each = typed_two a b; makes = λ loud t. appends_string h e s }
@@ -217,10 +225,10 @@ module _ (E : Env) where
   of_builtin (copy_slice {o = o} {q = q} a h e b g d) = record { operands = o ∷ q ∷ []; each = typed_two a b; makes = λ loud t. copies_slice h e g d }
   of_builtin (copy_string {o = o} {q = q} a h e b s) = record { operands = o ∷ q ∷ []; each = typed_two a b; makes = λ loud t. copies_string h e s }
   of_builtin (delete {o = o} {q = q} a h e b u) = record { operands = o ∷ q ∷ []; each = typed_two a b; makes = λ loud t. deletes h e u }
-  of_builtin (make a s m n) = let x = sized s in record { operands = _; each = each_more a x.1; makes = λ loud t. makes_of x.2 m n }
-  of_builtin (new a) = record { operands = _; each = typed_one a; makes = λ loud t. news }
+  of_builtin (make {t = k} a s m n) = let x = sized s in record { operands = type_name k ∷ x.0; each = each_more a x.1; makes = λ loud t. makes_of x.2 m n }
+  of_builtin (new {t = k} a) = record { operands = type_name k ∷ []; each = typed_one a; makes = λ loud t. news }
   of_builtin (panic {o = o} a u) = record { operands = o ∷ []; each = typed_one a; makes = λ loud t. panics u }
-  of_builtin (print {f = f} {os = os} q a u) = record { operands = os; each = a; makes = λ loud t. printed_calls f loud os _ q (prints_each u) }
+  of_builtin (print {f = f} {os = os} q a u) = record { operands = os; each = a; makes = λ loud t. printed_calls f loud os no_value q (prints_each u) }
   of_builtin recover = record { operands = []; each = each_none; makes = λ loud t. refl }
 
   -- ---- arguments
@@ -237,26 +245,20 @@ module _ (E : Env) where
   -- ---- calls
 
   function_rule : {l : PostLayer} {es : List Expr} {os : List Operand} {dots : Bool} {o r : Operand} → IsCall l es dots → HasEach E es os → CallsFunction E dots o os r → HasPost E o l r
-  function_rule k x (calls_function h e p f) = post_call k h e (arguments x p) f
+  function_rule k x (calls_function h e w f) = post_call k h e (arguments x w) f
 
   pub rule_of_call : {l : PostLayer} {es : List Expr} {os : List Operand} {loud dots : Bool} {o r : Operand} → IsCall l es dots → HasEach E es os → IsTold E o es loud → Calls E loud o os dots r → HasPost E o l r
   rule_of_call {l = l} k x t (calls_type v) = let b = one x in post_conversion (subst (λ (ds : List Expr). IsCall l ds false) b.1 k) b.2 v
   rule_of_call {es = es} {loud = loud} k x t (calls_builtin {f = f} {os = os} {dots = dots} {r = r} y) = post_builtin k (rule_of_builtin f es os loud dots r x (λ e m s. t f e refl m s) y)
   rule_of_call k x t (calls_value y) = function_rule k x y
 
-  -- what a call has: typed arguments, and what it makes of their operands
-  record TypedCall (o : Operand) (es : List Expr) (dots : Bool) (r : Operand) : Type 0 where
-    operands : List Operand
-    each : HasEach E es operands
-    makes : (loud : Bool) → IsTold E o es loud → Calls E loud o operands dots r
-
-  typed_function : {es : List Expr} {qs : List Operand} {dots : Bool} {o : Operand} {t : Term} {g : Signature} → IsTyped o t → under E.table t ≡ Term-F.Func g → HasArguments E dots es qs → ArgumentsFit E (out-Signature g).variadic dots (out-Signature g).params qs → TypedCall o es dots (results_of (out-Signature g).results)
+  typed_function : {es : List Expr} {qs : List Operand} {dots : Bool} {o : Operand} {t : Term} {g : Signature} → IsTyped o t → under E.table t ≡ Term-F.Func g → HasArguments E dots es qs → ArgumentsFit E (out-Signature g).variadic dots (out-Signature g).params qs → TypedCall E o es dots (results_of (out-Signature g).results)
   typed_function h e a f = let b = passed a in record { operands = b.0; each = b.1; makes = λ loud t. calls_value (calls_function h e b.2 f) }
 
-  typed_builtin : {f : Predeclared} {es : List Expr} {dots : Bool} {r : Operand} → HasBuiltin E f es dots r → TypedCall (builtin f) es dots r
+  typed_builtin : {f : Predeclared} {es : List Expr} {dots : Bool} {r : Operand} → HasBuiltin E f es dots r → TypedCall E (builtin f) es dots r
   typed_builtin {f = f} b = let y = of_builtin b in record { operands = y.operands; each = y.each; makes = λ loud t. calls_builtin (y.makes loud (λ e m s. t f e refl m s)) }
 
-  of_call : {l : PostLayer} {es : List Expr} {dots : Bool} {o r : Operand} → IsCall l es dots → HasPost E o l r → TypedCall o es dots r
+  of_call : {l : PostLayer} {es : List Expr} {dots : Bool} {o r : Operand} → IsCall l es dots → HasPost E o l r → TypedCall E o es dots r
   of_call call (post_conversion {o = q} call a v) = record { operands = q ∷ []; each = typed_one a; makes = λ loud t. calls_type v }
   of_call call (post_call call h e a f) = typed_function h e a f
   of_call call (post_builtin call b) = typed_builtin b
