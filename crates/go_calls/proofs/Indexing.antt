@@ -1,6 +1,7 @@
 -- Indices and strings: what they are, and where there are none.
-use Rattle.std.proofs.Common.{◌≡◌, ℕ, ◌<◌, ◌^◌, Bool, true, false, Option, Some, None, refl, sym, ap, ◌∙◌, subst, if◌then◌else◌, ◌⊎◌, inl, inr, length, List}
-use Rattle.std.specs.Prelude.{pos}
+use Rattle.std.proofs.Common.{◌≡◌, ℕ, ◌<◌, ◌^◌, Bool, true, false, Option, Some, None, refl, sym, ap, ◌∙◌, subst, if◌then◌else◌, ◌⊎◌, inl, inr, length, List, ◌&&◌, ◌-◌, leb, arith}
+use Rattle.std.specs.Prelude.{ℤ, pos, MatchOption}
+use Rattle.std.proofs.lemmas.Bool.{leb-true}
 use Rattle.go_model.specs.constants.Classes.{class_of_basic, is_integer}
 use Rattle.go_model.specs.constants.Constants.{is_representable}
 use Rattle.go_model.specs.declared.constants.value.Basic.{Basic}
@@ -29,7 +30,23 @@ use Rattle.go_operators.proofs.Shifting.{IsIntegerType}
 abbrev pub Fits : Env → Value → Type 0
 Fits E v = is_representable v basic.Int E.bits ≡ true
 
+second : (a b : Bool) → (a && b) ≡ true → b ≡ true
+second true b e = e
+second false b e = absurd (false_true e)
+
+below_word : (n bits : ℕ) → (bits ≡ 32) ⊎ (bits ≡ 64) → is_representable (value.Int (pos n)) basic.Int bits ≡ true → n < 2 ^ 64
+unfolding is_representable
+below_word n bits (inl e) h = let k = leb-true n (2 ^ 31 - 1) (second _ _ (subst (λ (w : ℕ). is_representable (value.Int (pos n)) basic.Int w ≡ true) e h)) in omega (arith, k)
+below_word n bits (inr e) h = let k = leb-true n (2 ^ 63 - 1) (second _ _ (subst (λ (w : ℕ). is_representable (value.Int (pos n)) basic.Int w ≡ true) e h)) in omega (arith, k)
+
+same_number : {x y : ℤ} → value.Int x ≡ value.Int y → x ≡ y
+same_number e = cc
+
 module _ (E : Env) where
+  pub int_gives : (v : Value) (x : ℤ) (m : ℕ) (n : Option ℕ) → v ≡ value.Int x → (m ≡ 32) ⊎ (m ≡ 64) → m ≡ E.bits → is_representable v basic.Int m ≡ true → MatchOption n ((k : ℕ) → k < 2 ^ 64 → x ≡ pos k → ⊥) (λ k. x ≡ pos k) → Gives (IsInt E v) n
+  int_gives v x m (Some k) e w b r g = record { number = e ∙ ap value.Int g; within = ap (is_representable v basic.Int) (sym b) ∙ r }
+  int_gives v x m None e w b r g = λ k y. g k (below_word k m w (subst (λ (z : Value). is_representable z basic.Int m ≡ true) y.number r)) (same_number (sym e ∙ y.number))
+
   index_fits : {c : ConstTerm} {v : Value} {n : Option ℕ} → IsIndex E (constant_of c v) n → Fits E v
   index_fits (index_value n h e i) = absurd (no_truth n)
   index_fits (index_typed e i r) = r
