@@ -20,7 +20,7 @@ use Rattle.go_usability.specs.Answers.{Gives}
 use Rattle.go_calls.specs.Functions.{CallsFunction, calls_function, Passes, passes_each, passes_results}
 use Rattle.go_calls.specs.inner.Arguments.{CallsSignature, calls_signature, CallsWith, calls_with, RestFits, rest_slice, rest_elements, UsableEach}
 use Rattle.go_operators.proofs.Answers.{false_true}
-use Rattle.go_calls.proofs.Kinds.{typed_mode}
+use Rattle.go_calls.proofs.Callees.{typed_mode}
 use Rattle.go_calls.proofs.LevelParts.{same_element, same_function}
 
 head_same : {o q : Operand} → o ∷ [] ≡ q ∷ [] → o ≡ q

@@ -1,5 +1,5 @@
 use Rattle.go_rules.specs.Scopes.{env_of}
-use Rattle.go_calls.proofs.Kinds.{call_type, call_predeclared, call_value}
+use Rattle.go_calls.proofs.Callees.{call_type, call_predeclared, call_value}
 use Rattle.go_calls.proofs.calls.call.Goals as goal
 
 pub returns-in-Some : goal.returns-in-Some
