@@ -29,6 +29,12 @@ head_same e = cc
 many : {ts us : List Term} → ◌≡◌ {A = Shape} (shape.Many ts) (shape.Many us) → ts ≡ us
 many e = cc
 
+pub sole_results : (o : Operand) (os : List Operand) (dots : Bool) (ts : List Term) → dots ≡ false → os ≡ o ∷ [] → o ≡ tuple ts → (dots ≡ false) × (os ≡ tuple ts ∷ [])
+sole_results o os dots ts f e g = (f, e ∙ ap (λ (x : Operand). x ∷ []) g)
+
+pub no_sole_results : (o : Operand) (os : List Operand) (dots : Bool) → os ≡ o ∷ [] → ((ts : List Term) → o ≡ tuple ts → ⊥) → (ts : List Term) → dots ≡ false → os ≡ tuple ts ∷ [] → ⊥
+no_sole_results o os dots e none ts f g = none ts (head_same (sym e ∙ g))
+
 -- ---- arguments
 
 module _ (E : Env) where

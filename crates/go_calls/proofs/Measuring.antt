@@ -30,6 +30,9 @@ module _ (E : Env) where
   pub within_some : (n : ℕ) → is_representable (value.Int (pos n)) basic.Int E.bits ≡ true → IntWithin E n (int_constant n)
   within_some n e = int_within e
 
+  pub within_given : (n m : ℕ) (r : Operand) → m ≡ E.bits → is_representable (value.Int (pos n)) basic.Int m ≡ true → r ≡ int_constant n → IntWithin E n r
+  within_given n m r b h e = subst (IntWithin E n) (sym e) (int_within (ap (is_representable (value.Int (pos n)) basic.Int) (sym b) ∙ h))
+
   pub within_none : (n : ℕ) → is_representable (value.Int (pos n)) basic.Int E.bits ≡ false → (r : Operand) → IntWithin E n r → ⊥
   within_none n f r x = false_true (sym f ∙ within x)
 
