@@ -65,9 +65,6 @@ module _ (E : Env) where
   pub printed_type : (o : Operand) (t : Term) → IsTyped o t → IsPrinted E o
   printed_type o t h = printed_typed h
 
-  same_constant : {c d : ConstTerm} {v w : Value} → ◌≡◌ {A = Operand} (constant_of c v) (constant_of d w) → (c ≡ d) × (v ≡ w)
-  same_constant e = (cc, cc)
-
   printed_default : {k : Untyped} {v : Value} → IsPrinted E (constant_of (constant.OfKind k) v) → DefaultHolds E k v
   printed_default (printed_typed h) = elim h [ ]
   printed_default (printed_constant d) = d

@@ -1,5 +1,6 @@
 -- `make` and `new`: what they make, and where they make nothing.
-use Rattle.std.proofs.Common.{◌≡◌, ℕ, suc, Bool, true, false, Option, Some, None, refl, sym, ap, ◌∙◌, subst, if◌then◌else◌, List, [], ◌∷◌, length, ◌⊎◌, inl, inr}
+use Rattle.std.proofs.Common.{◌≡◌, ℕ, suc, Bool, true, false, Option, Some, None, refl, sym, ap, ◌∙◌, subst, if◌then◌else◌, List, [], ◌∷◌, length, ◌⊎◌, inl, inr, ◌==◌}
+use Rattle.std.proofs.lemmas.List.{nil_from_length}
 use Rattle.go_model.specs.declared.types.term.Direction.{Direction}
 use Rattle.go_model.specs.declared.types.term.Term.{Term, Term-F, out-Term}
 use Rattle.go_model.specs.declared.types.term.Term.TheVariants as term
@@ -119,7 +120,7 @@ module _ (E : Env) where
   same_length (more_sizes i s) = ap suc (same_length s)
 
   made : {o r : Operand} {os : List Operand} → MakesOf E o os r → (t : Term) × (o ≡ type_name t) × Makes (under E.table t) (length os) × FitSizes E os
-  made (makes_of {ns = ns} s m f) = (_, refl, subst (λ (k : ℕ). Makes _ k) (same_length s) m, record { numbers = ns; sizes = s; fit = f })
+  made (makes_of {t = t} {ns = ns} s m f) = (t, refl, subst (λ (k : ℕ). Makes (under E.table t) k) (same_length s) m, record { numbers = ns; sizes = s; fit = f })
 
   shape_term : {t u : Term} → ◌≡◌ {A = Shape} (shape.Of t) (shape.Of u) → t ≡ u
   shape_term e = cc
@@ -138,6 +139,15 @@ module _ (E : Env) where
 
   pub make_gives : (o : Operand) (os : List Operand) (t : Term) (b : Bool) → o ≡ type_name t → Makes (under E.table t) (length os) → Decides (FitSizes E os) b → Gives (MakesOf E o os) (if b then Some (plain t) else None)
   make_gives o os t b e m d = given (MakesOf E o os) (FitSizes E os) b (plain t) d (λ f. makes e m f) (λ r x. (made x).3)
+
+  not_empty : (os : List Operand) → false ≡ (length os == 0) → os ≡ [] → ⊥
+  not_empty os f e = false_true (f ∙ ap (λ (x : List Operand). length x == 0) e)
+
+  pub fit_many : (o q : Operand) (rest os : List Operand) → rest ≡ q ∷ os → false ≡ (length os == 0) → FitSizes E (o ∷ rest) → ⊥
+  fit_many o q rest os e f x = fit_too_many o q rest os e (not_empty os f) x
+
+  pub fit_empty : (os : List Operand) → length os ≡ 0 → FitSizes E os
+  fit_empty os e = fit_none os (nil_from_length os e)
 
   -- by what is underneath, and how many there are
   pub make_not_taken : (o : Operand) (os : List Operand) (t : Term) (l : Layer) (n : ℕ) → o ≡ type_name t → l ≡ under E.table t → n ≡ length os → (Makes l n → ⊥) → (r : Operand) → MakesOf E o os r → ⊥
