@@ -39,13 +39,10 @@ unfolding is_representable
 below_word n bits (inl e) h = let k = leb-true n (2 ^ 31 - 1) (second (int_le (neg_ℤ (pos (2 ^ 31))) (pos n)) (leb n (2 ^ 31 - 1)) (subst (λ (w : ℕ). is_representable (value.Int (pos n)) basic.Int w ≡ true) e h)) in omega (arith, k)
 below_word n bits (inr e) h = let k = leb-true n (2 ^ 63 - 1) (second (int_le (neg_ℤ (pos (2 ^ 63))) (pos n)) (leb n (2 ^ 63 - 1)) (subst (λ (w : ℕ). is_representable (value.Int (pos n)) basic.Int w ≡ true) e h)) in omega (arith, k)
 
-same_number : {x y : ℤ} → value.Int x ≡ value.Int y → x ≡ y
-same_number e = cc
-
 module _ (E : Env) where
-  pub int_gives : (v : Value) (x : ℤ) (m : ℕ) (n : Option ℕ) → v ≡ value.Int x → (m ≡ 32) ⊎ (m ≡ 64) → m ≡ E.bits → is_representable v basic.Int m ≡ true → MatchOption n ((k : ℕ) → k < 2 ^ 64 → x ≡ pos k → ⊥) (λ k. x ≡ pos k) → Gives (IsInt E v) n
-  int_gives v x m (Some k) e w b r g = record { number = e ∙ ap value.Int g; within = ap (is_representable v basic.Int) (sym b) ∙ r }
-  int_gives v x m None e w b r g = λ k y. g k (below_word k m w (subst (λ (z : Value). is_representable z basic.Int m ≡ true) y.number r)) (same_number (sym e ∙ y.number))
+  pub int_gives : (v : Value) (m : ℕ) (n : Option ℕ) → (m ≡ 32) ⊎ (m ≡ 64) → m ≡ E.bits → is_representable v basic.Int m ≡ true → MatchOption n ((k : ℕ) → k < 2 ^ 64 → v ≡ value.Int (pos k) → ⊥) (λ k. v ≡ value.Int (pos k)) → Gives (IsInt E v) n
+  int_gives v m (Some k) w b r g = record { number = g; within = ap (is_representable v basic.Int) (sym b) ∙ r }
+  int_gives v m None w b r g = λ k y. g k (below_word k m w (subst (λ (z : Value). is_representable z basic.Int m ≡ true) y.number r)) y.number
 
   index_fits : {c : ConstTerm} {v : Value} {n : Option ℕ} → IsIndex E (constant_of c v) n → Fits E v
   index_fits (index_value n h e i) = absurd (no_truth n)

@@ -4,6 +4,7 @@ use Rattle.std.specs.Prelude.{pos}
 use Rattle.go_model.specs.constants.Constants.{is_representable}
 use Rattle.go_model.specs.declared.constants.value.Basic.{Basic}
 use Rattle.go_model.specs.declared.constants.value.Basic.TheVariants as basic
+use Rattle.go_model.specs.declared.constants.value.Value.{Value}
 use Rattle.go_model.specs.declared.constants.value.Value.TheVariants as value
 use Rattle.go_model.specs.declared.types.term.Term.{Term, Term-F}
 use Rattle.go_model.specs.types.Terms.{Layer}
@@ -30,11 +31,14 @@ module _ (E : Env) where
   pub within_some : (n : ℕ) → is_representable (value.Int (pos n)) basic.Int E.bits ≡ true → IntWithin E n (int_constant n)
   within_some n e = int_within e
 
-  pub within_given : (n m : ℕ) (r : Operand) → m ≡ E.bits → is_representable (value.Int (pos n)) basic.Int m ≡ true → r ≡ int_constant n → IntWithin E n r
-  within_given n m r b h e = subst (IntWithin E n) (sym e) (int_within (ap (is_representable (value.Int (pos n)) basic.Int) (sym b) ∙ h))
+  pub within_given : (n m : ℕ) (v : Value) (r : Operand) → v ≡ value.Int (pos n) → m ≡ E.bits → is_representable v basic.Int m ≡ true → r ≡ int_constant n → IntWithin E n r
+  within_given n m v r w b h e = subst (IntWithin E n) (sym e) (int_within (subst (λ (z : Value). is_representable z basic.Int E.bits ≡ true) w (ap (is_representable v basic.Int) (sym b) ∙ h)))
 
   pub within_none : (n : ℕ) → is_representable (value.Int (pos n)) basic.Int E.bits ≡ false → (r : Operand) → IntWithin E n r → ⊥
   within_none n f r x = false_true (sym f ∙ within x)
+
+  pub within_out : (n m : ℕ) (v : Value) → v ≡ value.Int (pos n) → m ≡ E.bits → is_representable v basic.Int m ≡ false → (r : Operand) → IntWithin E n r → ⊥
+  within_out n m v w b h r x = within_none n (subst (λ (z : Value). is_representable z basic.Int E.bits ≡ false) w (ap (is_representable v basic.Int) (sym b) ∙ h)) r x
 
   constant_in : {n : ℕ} {r : Operand} → MeasuresArray E false n r → IntWithin E n r
   constant_in (quiet_array x) = x

@@ -6,4 +6,4 @@ pub returns-then-not-fits : goal.returns-then-not-fits
 returns-then-not-fits c = call_unfit (env_of c.args.context.now.env.now) c.args.dots c.args.signature.now c.args.operands.now _ c.in_ok-fits.fits c.items.ensures c.if-not-fits.true c.in_ok-fits.ensures
 
 pub returns : goal.returns
-returns c = call_fit (env_of c.args.context.now.env.now) c.args.dots c.args.signature.now c.args.operands.now _ _ c.in_ok-fits.fits _ c.items.ensures c.if-not-fits.false c.in_ok-fits.ensures c.items-results.ensures c.in_ok-results.ensures
+returns c = call_fit (env_of c.args.context.now.env.now) c.args.dots c.args.signature.now c.args.operands.now _ _ c.in_ok-fits.fits _ c.items.ensures c.if-not-fits.false c.in_ok-fits.ensures c.items-2.ensures c.in_ok-results.ensures
