@@ -37,9 +37,6 @@ module _ (E : Env) where
   pub within_none : (n : ℕ) → is_representable (value.Int (pos n)) basic.Int E.bits ≡ false → (r : Operand) → IntWithin E n r → ⊥
   within_none n f r x = false_true (sym f ∙ within x)
 
-  pub within_out : (n m : ℕ) (v : Value) → v ≡ value.Int (pos n) → m ≡ E.bits → is_representable v basic.Int m ≡ false → (r : Operand) → IntWithin E n r → ⊥
-  within_out n m v w b h r x = within_none n (subst (λ (z : Value). is_representable z basic.Int E.bits ≡ false) w (ap (is_representable v basic.Int) (sym b) ∙ h)) r x
-
   constant_in : {n : ℕ} {r : Operand} → MeasuresArray E false n r → IntWithin E n r
   constant_in (quiet_array x) = x
 
