@@ -30,10 +30,7 @@ fn whole(number: u64) -> Value
 fn int_constant(number: u64) -> Operand
     ensures { result ≡ int_constant number }
 {
-    constant(
-        ConstTerm::OfTerm(Term::Plain(Basic::Int)),
-        whole(number),
-    )
+    constant(ConstTerm::OfTerm(Term::Plain(Basic::Int)), whole(number))
 }
 
 // A number as a constant of type int, where it is representable.
