@@ -1,14 +1,15 @@
 //! A row of a case: its runs, and what differs in them.
-use crate::archive::Piece;
-use crate::compare::{add_differences, add_text};
-use crate::content::{content, section, text};
-use crate::ending::{Ending, run_words};
-use crate::failing::{Trial, failing_of, outside_of};
-use crate::load::run_load;
-use crate::outline::run_outline;
-use crate::wanted::{error_fault, output_fault, read_fault, wanted_of};
-use crate::words::words;
+use crate::gate::run_words;
 use anyhow::bail;
+use archives::archive::Piece;
+use archives::compare::{add_differences, add_text};
+use archives::content::{content, section, text};
+use archives::ending::Ending;
+use archives::failing::{Trial, failing_of, outside_of};
+use archives::load::run_load;
+use archives::outline::run_outline;
+use archives::wanted::{error_fault, output_fault, read_fault, wanted_of};
+use archives::words::words;
 use std::thread::Threads;
 
 // The ending of the run in this row and this trial.

@@ -12,21 +12,10 @@
 //! It ends with status 1 where a case differs, or an archive can't be read or understood.
 #![tactic(auto)]
 
-mod archive;
 mod case;
-mod compare;
-mod content;
-mod counted;
-mod ending;
-mod escape;
-mod failing;
-mod heading;
-mod load;
-mod outline;
+mod gate;
 mod paths;
 mod report;
-mod wanted;
-mod words;
 
 use crate::report::Totals;
 use std::env;

@@ -1,8 +1,8 @@
 //! What is told of the archives.
-use crate::archive::{Piece, before_case, read_archive};
 use crate::case::run_row;
-use crate::content::{effective, rows_of};
 use crate::paths::archive_at;
+use archives::archive::{Piece, before_case, read_archive};
+use archives::content::{effective, rows_of};
 use std::rt::Runtime;
 use std::thread::Threads;
 

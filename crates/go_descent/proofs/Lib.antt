@@ -4,6 +4,8 @@ pub mod BalancedStatements
 pub mod Begins
 pub mod BeginsExpr
 pub mod Bodies
+pub mod BodyBelow
+pub mod Chains
 pub mod CompleteLevels
 pub mod CompleteLiterals
 pub mod CompleteNames

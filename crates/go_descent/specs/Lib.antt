@@ -1,3 +1,4 @@
 pub mod Follow
 pub mod Levels
+pub mod Parts
 pub mod Rules

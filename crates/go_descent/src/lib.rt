@@ -1,5 +1,6 @@
-//! Recursive descent over terminals: what the reader of each rule of types and expressions finds, and the laws that
-//! this is what the grammar derives.
+//! Recursive descent over terminals: what the reader of each rule of types and expressions finds, the laws that
+//! this is what the grammar derives, and how a tree's parts of lower heights are read.
 #![tactic(auto)]
 
+pub mod grammar;
 pub mod laws;

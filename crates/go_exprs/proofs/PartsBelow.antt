@@ -4,13 +4,13 @@ use Rattle.go_syntax.specs.declared.token.Token.{Token}
 use Rattle.go_syntax.specs.grammar.Terminals.{Terminal}
 use Rattle.go_cursor.specs.declared.error.ParseError.{ParseError}
 use Rattle.go_cursor.specs.declared.error.ParseError.TheVariants.{Syntax}
-use Rattle.go_type_exprs.specs.declared.grammar.Part.{Part}
-use Rattle.go_type_exprs.specs.declared.grammar.Part.TheVariants as part
-use Rattle.go_type_exprs.specs.declared.grammar.PartTree.{PartTree}
+use Rattle.go_descent.specs.declared.grammar.Part.{Part}
+use Rattle.go_descent.specs.declared.grammar.Part.TheVariants as part
+use Rattle.go_descent.specs.declared.grammar.PartTree.{PartTree}
 use Rattle.go_descent.specs.Rules.{Parts, no_parts, whole_parts}
 use Rattle.go_cursor.specs.Skipping.{skipped_body}
 use Rattle.go_descent.specs.Levels.{levels}
-use Rattle.go_type_exprs.specs.Parts.{ReadsPart}
+use Rattle.go_descent.specs.Parts.{ReadsPart}
 use Rattle.go_descent.proofs.Heights.{bottom, higher}
 
 at_bottom : (p : Part) (ts : List Terminal) (new : List Token) → ReadsPart no_parts p ts (Err Syntax) new

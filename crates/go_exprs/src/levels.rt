@@ -2,38 +2,44 @@
 ghost use Rattle.std.specs.Prelude.{◌≡◌};
 ghost use Rattle.go_syntax.specs.grammar.Terminals.{terminals};
 ghost use Rattle.go_descent.specs.Levels.{levels};
-ghost use Rattle.go_type_exprs.specs.Parts.{ReadsBelow, ReadsPart};
+ghost use Rattle.go_descent.specs.Parts.{ReadsBelow, ReadsPart};
 ghost use Rattle.go_descent.specs.Rules as rules;
 ghost use Rattle.go_cursor.specs.Skipping.{skipped_body};
 
-use crate::exprs::Exprs;
+use crate::exprs::{expr, unary_expr};
 use go_cursor::cursor::Cursor;
 use go_cursor::error::ParseError;
-use go_primary_exprs::primary::PrimaryExprs;
+use go_descent::grammar::{Grammar, Part, PartTree};
+use go_operand_exprs::operands::OperandExprs;
+use go_signatures::signatures::Signatures;
 use go_syntax::held::expression::HeldExpr;
 use go_syntax::held::types::{HeldSignature, HeldType};
-use go_type_exprs::grammar::{Grammar, Part, PartTree};
+use go_type_exprs::types::TypeExprs;
 use std::alloc::Global;
 
-impl<F: Fn(Global, &mut Cursor<'_>, usize, Part) -> Result<PartTree, ParseError>> Exprs<F> {
-    /// A part whose own parts are of lower heights.
-    fn part(&self, tokens: &mut Cursor<'_>, part: Part) -> Result<PartTree, ParseError>
-        requires { ReadsBelow self.now.primary.grammar.height (F.pre self.now.primary.grammar.below) (F.post self.now.primary.grammar.below) }
-        ensures { ReadsPart (rules.whole_parts skipped_body (levels self.now.primary.grammar.height)) part (terminals tokens.old) result tokens.new }
-    {
-        match part {
-            Part::Expr => Ok(PartTree::Expr(HeldExpr::new(self.expr(true, tokens)?))),
-            Part::Unary(composite) => {
-                Ok(PartTree::Expr(HeldExpr::new(self.unary_expr(composite, tokens)?)))
-            }
-            Part::Type => Ok(PartTree::Type(HeldType::new(self.primary.grammar.type_(tokens)?))),
-            Part::CompositeType => Ok(PartTree::Type(HeldType::new(
-                self.primary.grammar.composite_type(tokens)?,
-            ))),
-            Part::Signature => {
-                Ok(PartTree::Signature(HeldSignature::new(self.primary.grammar.signature(tokens)?)))
-            }
-            Part::LiteralValue => Ok(PartTree::LiteralValue(self.primary.literal_value(tokens)?)),
+/// A part whose own parts are of lower heights.
+pub(crate) fn part_at<F: Fn(Global, &mut Cursor<'_>, usize, Part) -> Result<PartTree, ParseError>>(
+    grammar: &Grammar<F>,
+    tokens: &mut Cursor<'_>,
+    part: Part,
+) -> Result<PartTree, ParseError>
+    requires { ReadsBelow grammar.now.height (F.pre grammar.now.below) (F.post grammar.now.below) }
+    ensures { ReadsPart (rules.whole_parts skipped_body (levels grammar.now.height)) part (terminals tokens.old) result tokens.new }
+{
+    match part {
+        Part::Expr => Ok(PartTree::Expr(HeldExpr::new(expr(grammar, true, tokens)?))),
+        Part::Unary(composite) => {
+            Ok(PartTree::Expr(HeldExpr::new(unary_expr(grammar, composite, tokens)?)))
+        }
+        Part::Type => Ok(PartTree::Type(HeldType::new(TypeExprs { grammar }.type_(tokens)?))),
+        Part::CompositeType => Ok(PartTree::Type(HeldType::new(TypeExprs { grammar }.composite_type(
+            tokens,
+        )?))),
+        Part::Signature => Ok(PartTree::Signature(HeldSignature::new(Signatures {
+            grammar,
+        }.signature(tokens)?))),
+        Part::LiteralValue => {
+            Ok(PartTree::LiteralValue(OperandExprs { grammar }.literal_value(tokens)?))
         }
     }
 }
@@ -55,6 +61,5 @@ pub(crate) fn below(
         height: height - 1,
         below,
     };
-    let primary = PrimaryExprs { grammar };
-    Exprs { primary }.part(tokens, part)
+    part_at(&grammar, tokens, part)
 }

@@ -5,17 +5,19 @@ ghost use Rattle.go_cursor.specs.Reads.{Reads};
 ghost use Rattle.go_descent.specs.Levels.{levels};
 ghost use Rattle.go_descent.specs.Rules as rules;
 
-use crate::exprs::Exprs;
+use crate::exprs::{expr, primary_expr, unary_expr};
 use crate::levels::below;
 use go_cursor::cursor::Cursor;
 use go_cursor::error::ParseError;
-use go_primary_exprs::primary::PrimaryExprs;
+use go_descent::grammar::Grammar;
+use go_posts::posts::Posts;
+use go_signatures::signatures::Signatures;
 use go_syntax::body::BodyRange;
 use go_syntax::expression::Expr;
 use go_syntax::held::expression::HeldExprs;
 use go_syntax::held::types::HeldParameters;
 use go_syntax::types::{Signature, Type};
-use go_type_exprs::grammar::Grammar;
+use go_type_exprs::types::TypeExprs;
 use std::alloc::Global;
 
 /// The readers of trees of a height below this, and of those that have such trees as parts. A greater height would
@@ -49,8 +51,7 @@ impl Readers {
             height: self.height,
             below,
         };
-        let primary = PrimaryExprs { grammar };
-        primary.exprs(tokens)
+        Posts { grammar: &grammar }.exprs(tokens)
     }
 
     /// A type of a lower height.
@@ -81,12 +82,12 @@ impl Readers {
     pub fn parameters(&self, tokens: &mut Cursor<'_>) -> Result<HeldParameters, ParseError>
         ensures { Reads (rules.parameters (levels self.now.height).typ (terminals tokens.old)) result tokens.new }
     {
-        Grammar {
+        let grammar = Grammar {
             alloc: self.alloc,
             height: self.height,
             below,
-        }
-        .parameters(tokens)
+        };
+        Signatures { grammar: &grammar }.parameters(tokens)
     }
 
     /// The body of a function, where it may have one at all.
@@ -111,8 +112,7 @@ impl Readers {
             height: self.height,
             below,
         };
-        let primary = PrimaryExprs { grammar };
-        Exprs { primary }.expr(composite, tokens)
+        expr(&grammar, composite, tokens)
     }
 
     /// The same of the operand of a prefix operator.
@@ -124,8 +124,7 @@ impl Readers {
             height: self.height,
             below,
         };
-        let primary = PrimaryExprs { grammar };
-        Exprs { primary }.unary_expr(composite, tokens)
+        unary_expr(&grammar, composite, tokens)
     }
 
     /// The same of an operand and what follows it.
@@ -137,19 +136,18 @@ impl Readers {
             height: self.height,
             below,
         };
-        let primary = PrimaryExprs { grammar };
-        primary.primary_expr(composite, tokens)
+        primary_expr(&grammar, composite, tokens)
     }
 
     /// A type whose parts are of lower heights.
     pub fn type_(&self, tokens: &mut Cursor<'_>) -> Result<Type, ParseError>
         ensures { Reads (rules.typ_of (levels self.now.height) (terminals tokens.old)) result tokens.new }
     {
-        Grammar {
+        let grammar = Grammar {
             alloc: self.alloc,
             height: self.height,
             below,
-        }
-        .type_(tokens)
+        };
+        TypeExprs { grammar: &grammar }.type_(tokens)
     }
 }

@@ -1,4 +1,3 @@
 pub mod Literals
-pub mod References
 pub mod grammar
 pub mod lexical

@@ -9,7 +9,6 @@ pub mod declaration;
 pub mod expression;
 pub mod held;
 pub mod name;
-pub mod references;
 pub mod statement;
 pub mod token;
 pub mod types;

@@ -1,7 +1,4 @@
-//! Types as they are written, read from tokens by recursive descent up to a height, and how a tree's parts of lower
-//! heights are read.
+//! Types as they are written, read from tokens by recursive descent up to a height.
 #![tactic(auto)]
 
-pub mod grammar;
-mod signatures;
-mod types;
+pub mod types;

@@ -6,8 +6,8 @@ use crate::file::push_file;
 use crate::reading::{Reading, reading_of};
 use crate::tree::{push_name, push_word};
 use frames::fault::Fault;
+use go_references::references::decl_refs;
 use go_syntax::declaration::{Decl, File};
-use go_syntax::references::decl_refs;
 use go_syntax::token::TokenValue;
 use std::alloc::{AllocError, Global};
 

@@ -5,7 +5,7 @@ use Rattle.go_base.specs.Growing.{Grows}
 use Rattle.go_syntax.specs.declared.declaration.ConstSpec.{ConstSpec}
 use Rattle.go_syntax.specs.declared.declaration.TypeSpec.{TypeSpec}
 use Rattle.go_syntax.specs.declared.declaration.VarSpec.{VarSpec}
-use Rattle.go_syntax.specs.declared.references.Reference.{Reference}
+use Rattle.go_references.specs.declared.references.Reference.{Reference}
 use Rattle.go_units.specs.UsedImports.{IsConstName, IsVarName, IsTypeName, IsQualifier, IsScopeName, IsAssumed, IsScopeNameIn, IsAssumedIn, AreUsed, named_as}
 use Rattle.go_units.specs.declared.used_imports.Import.{Import}
 use Rattle.go_units.specs.declared.used_imports.NamedImport.{NamedImport}

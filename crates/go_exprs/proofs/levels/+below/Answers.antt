@@ -9,4 +9,4 @@ returns-then-height-eq0 t c = nothing_below c.args.height (omega arith) c.args.p
 pub returns : goal.returns
 returns t c =
     let e : c.args.height ≡ suc (c.args.height - 1) = omega arith in
-    part_above c.args.height (c.args.height - 1) e c.args.part (terminals c.args.tokens.now) c.part.result c.part.new.tokens c.part.ensures
+    part_above c.args.height (c.args.height - 1) e c.args.part (terminals c.args.tokens.now) c.part_at.result c.part_at.new.tokens c.part_at.ensures

@@ -1,0 +1,47 @@
+use Rattle.std.proofs.Common.{ℕ, ◌-◌, ◌+◌, ◌∙◌, List, ap, sym}
+use Rattle.go_syntax.specs.declared.expression.Element.{Element}
+use Rattle.go_syntax.specs.grammar.Terminals.{Terminal, terminals}
+use Rattle.go_descent.specs.Levels.{levels}
+use Rattle.go_cursor.specs.Reading.{Reader, goes_on, run, loop, step_of}
+use Rattle.go_descent.specs.Rules.{element_of}
+use Rattle.go_cursor.proofs.Handed.{handed}
+use Rattle.go_cursor.proofs.Items.{item, item_stops, item_fails, item_goes_on, starts}
+use Rattle.go_cursor.proofs.Turns.{one_more, no_more}
+use Rattle.go_operand_exprs.proofs.operands.OperandExprs.more_elements.Goals as goal
+
+abbrev read : ℕ → Reader Element
+read h = element_of (levels h)
+
+pub loop-turn-init : goal.loop-turn-init
+loop-turn-init g c = starts (step_of (item goes_on (read c.args.self.now.grammar.now.height))) c.args.first (terminals c.args.tokens.now) c.len-turn-end.result c.len-turn-end.ensures
+
+pub returns-then-not-goes_on : goal.returns-then-not-goes_on
+returns-then-not-goes_on g c =
+    let ts : List Terminal = terminals c.loop-turn.tokens in
+    one_more (λ n. loop (step_of (item goes_on (read c.args.self.now.grammar.now.height))) n c.loop-turn.elements ts) c.len-turn-end.result c.loop-turn._turn c.loop-turn-test.true c.loop-turn.invariant
+    ∙ item_stops goes_on (read c.args.self.now.grammar.now.height) _ c.loop-turn.elements ts (sym c.goes_on.ensures ∙ c.if-not-goes_on.true)
+
+pub returns-in_err-element : goal.returns-in_err-element
+returns-in_err-element g c =
+    let ts : List Terminal = terminals c.loop-turn.tokens in
+    let us : List Terminal = terminals c.advance.new.self in
+    handed (run (step_of (item goes_on (read c.args.self.now.grammar.now.height))) c.args.first (terminals c.args.tokens.now)) (read c.args.self.now.grammar.now.height us)
+    c.in_err-element.field-0.0 c.from_residual.result c.element.new.tokens c.element.new.tokens c.from_residual.ensures.1 c.in_err-element.ensures
+    (λ none.
+    one_more (λ n. loop (step_of (item goes_on (read c.args.self.now.grammar.now.height))) n c.loop-turn.elements ts) c.len-turn-end.result c.loop-turn._turn c.loop-turn-test.true c.loop-turn.invariant
+    ∙ item_fails goes_on (read c.args.self.now.grammar.now.height) _ c.loop-turn.elements ts us (sym c.goes_on.ensures ∙ c.if-not-goes_on.false) c.advance.ensures none)
+
+pub loop-turn-preserved : goal.loop-turn-preserved
+loop-turn-preserved g c =
+    let ts : List Terminal = terminals c.loop-turn.tokens in
+    let us : List Terminal = terminals c.advance.new.self in
+    let rest : List Terminal = terminals c.element.new.tokens in
+    let n : ℕ = c.len-turn-end.result - (c.loop-turn._turn + 1) in
+    one_more (λ n. loop (step_of (item goes_on (read c.args.self.now.grammar.now.height))) n c.loop-turn.elements ts) c.len-turn-end.result c.loop-turn._turn c.loop-turn-test.true c.loop-turn.invariant
+    ∙ item_goes_on goes_on (read c.args.self.now.grammar.now.height) n c.loop-turn.elements ts us c.in_ok-element.field-0 rest (sym c.goes_on.ensures ∙ c.if-not-goes_on.false) c.advance.ensures c.in_ok-element.ensures
+    ∙ ap (λ (l : List Element). loop (step_of (item goes_on (read c.args.self.now.grammar.now.height))) n l rest) (sym c.in_ok-push.ensures.ok)
+
+pub returns : goal.returns
+unfolding loop
+returns g c =
+    no_more (λ n. loop (step_of (item goes_on (read c.args.self.now.grammar.now.height))) n c.loop-turn.elements (terminals c.loop-turn.tokens)) c.len-turn-end.result c.loop-turn._turn c.loop-turn-test.false c.loop-turn.invariant

@@ -1,0 +1,6 @@
+//! Operands and composite literals, read from tokens by recursive descent up to a height. The bodies of function literals
+//! are skipped.
+#![tactic(auto)]
+
+mod literals;
+pub mod operands;

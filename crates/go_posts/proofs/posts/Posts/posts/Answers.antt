@@ -1,0 +1,40 @@
+use Rattle.std.proofs.Common.{List, []}
+use Rattle.go_syntax.specs.declared.expression.Post.{Post}
+use Rattle.go_syntax.specs.grammar.Terminals.{Terminal, terminals}
+use Rattle.go_descent.specs.Levels.{levels}
+use Rattle.go_cursor.specs.Reading.{Next, run, step_of}
+use Rattle.go_descent.specs.Rules.{post_item}
+use Rattle.go_descent.proofs.Chains.{handed_next, began, ran_out, found_none, found_one, no_item, bad_item, one_item}
+use Rattle.go_posts.proofs.posts.Posts.posts.Goals as goal
+
+pub loop-turn-init : goal.loop-turn-init
+loop-turn-init g c =
+    let item : List Terminal → Next Post = post_item (levels c.args.self.now.grammar.now.height) in
+    began (step_of item) [] c.new-posts.result (terminals c.args.tokens.now) c.len-turn-end.result c.len-turn-end.ensures c.new-posts.ensures
+
+pub returns-in_err-post_item : goal.returns-in_err-post_item
+returns-in_err-post_item g c =
+    let item : List Terminal → Next Post = post_item (levels c.args.self.now.grammar.now.height) in
+    let ts : List Terminal = terminals c.loop-turn.tokens in
+    handed_next (run (step_of item) [] (terminals c.args.tokens.now)) (item ts) ts c.in_err-post_item.field-0.0 c.from_residual.result c.post_item.new.tokens c.post_item.new.tokens c.from_residual.ensures.1 c.in_err-post_item.ensures
+    (λ fail. bad_item (run (step_of item) [] (terminals c.args.tokens.now)) item c.len-turn-end.result c.loop-turn._turn c.loop-turn.posts ts c.loop-turn-test.true c.loop-turn.invariant fail)
+
+pub returns-in-None : goal.returns-in-None
+returns-in-None g c =
+    let item : List Terminal → Next Post = post_item (levels c.args.self.now.grammar.now.height) in
+    let ts : List Terminal = terminals c.loop-turn.tokens in
+    no_item (run (step_of item) [] (terminals c.args.tokens.now)) item c.len-turn-end.result c.loop-turn._turn c.loop-turn.posts ts c.loop-turn-test.true c.loop-turn.invariant (terminals c.post_item.new.tokens)
+    (found_none (item ts) ts c.in_ok-post_item.field-0 c.post_item.new.tokens c.in_ok-post_item.ensures c.in-None.is)
+
+pub loop-turn-preserved : goal.loop-turn-preserved
+loop-turn-preserved g c =
+    let item : List Terminal → Next Post = post_item (levels c.args.self.now.grammar.now.height) in
+    let ts : List Terminal = terminals c.loop-turn.tokens in
+    one_item (run (step_of item) [] (terminals c.args.tokens.now)) item c.len-turn-end.result c.loop-turn._turn c.loop-turn.posts ts c.loop-turn-test.true c.loop-turn.invariant c.in-Some.post (terminals c.post_item.new.tokens)
+    (found_one (item ts) ts c.in_ok-post_item.field-0 c.post_item.new.tokens c.in_ok-post_item.ensures c.in-Some.post c.in-Some.is) c.push.new.self c.in_ok-push-in-Some.ensures.ok
+
+pub returns : goal.returns
+returns g c =
+    let item : List Terminal → Next Post = post_item (levels c.args.self.now.grammar.now.height) in
+    let ts : List Terminal = terminals c.loop-turn.tokens in
+    ran_out (run (step_of item) [] (terminals c.args.tokens.now)) (step_of item) c.len-turn-end.result c.loop-turn._turn c.loop-turn.posts ts c.loop-turn-test.false c.loop-turn.invariant

@@ -1,9 +1,0 @@
-use Rattle.std.proofs.Common.{◌≡◌, ◌-◌}
-use Rattle.go_syntax.specs.grammar.Terminals.{terminals}
-use Rattle.go_descent.specs.Levels.{levels}
-use Rattle.go_cursor.specs.Reading.{run, loop, step_of}
-use Rattle.go_descent.specs.Rules.{element_item}
-use Rattle.go_primary_exprs.proofs.primary.PrimaryExprs.more_elements.Given as goal
-
-abbrev pub invariant-loop-turn : goal.invariant-loop-turn
-invariant-loop-turn g l = run (step_of (element_item (levels l.self.grammar.height))) l.fn.first (terminals l.fn.tokens) ≡ loop (step_of (element_item (levels l.self.grammar.height))) (l._turn-end - l._turn) l.elements (terminals l.tokens)

@@ -1,8 +1,0 @@
-//! The readers of primary expressions.
-use go_type_exprs::grammar::Grammar;
-
-/// The readers of primary expressions whose parts have a height below that of the grammar.
-#[derive(Clone, Copy)]
-pub struct PrimaryExprs<F> {
-    pub grammar: Grammar<F>,
-}

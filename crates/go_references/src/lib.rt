@@ -1,0 +1,4 @@
+//! The names by which declarations refer to others outside of bodies.
+#![tactic(auto)]
+
+pub mod references;

@@ -1,0 +1,612 @@
+//! References: the names by which a declaration refers to others outside of bodies, and how each one stands there.
+ghost use Rattle.std.specs.Prelude.{◌≡◌, ◌++◌, ◌∷◌, [], map, false, Some, None, IfOk, IfSome, IfNone, OnOk};
+ghost use Rattle.go_references.specs.References as references;
+ghost use Rattle.go_references.specs.References.{joined, expr_refs, exprs_refs, post_refs, post_refs_of, element_refs, value_refs, type_refs, signature_refs, result_refs, parameter_refs, field_refs, interface_refs};
+
+use go_base::list::List;
+use go_base::memory::NoMemory;
+use go_base::operator::PrefixOperator;
+use go_base::text::Text;
+use go_syntax::declaration::{ConstSpec, Decl, Func, TypeSpec, VarSpec};
+use go_syntax::expression::{Element, ElementValue, Expr, Post};
+use go_syntax::name::{Name, QualifiedName};
+use go_syntax::types::{FieldDecl, FuncResult, InterfaceElem, ParameterDecl, Signature, Type};
+use std::alloc::Global;
+
+/// Where a part of a declaration stands.
+#[derive(Clone, Copy, Debug)]
+pub struct Position {
+    /// Whether it stands inside the length of an array.
+    pub in_length: bool,
+    /// Whether it stands behind no pointer, slice, map, channel or signature.
+    pub by_value: bool,
+}
+
+/// A name by which a declaration refers to another, and how it stands there.
+#[derive(Debug, Drop)]
+pub struct Reference {
+    pub name: Name,
+    /// The name behind the period, where this one stands before it as in `p.X`.
+    pub selected: Option<Name>,
+    /// Whether it is, by itself, a key of a composite literal.
+    pub is_key: bool,
+    /// Whether it stands inside the length of an array.
+    pub in_length: bool,
+    /// Whether it stands behind no pointer, slice, map, channel or signature.
+    pub by_value: bool,
+}
+
+/// Where a declaration's own type and values stand.
+fn outermost() -> Position
+    ensures { result ≡ references.outermost }
+{
+    Position {
+        in_length: false,
+        by_value: true,
+    }
+}
+
+/// The same inside the length of an array.
+fn inside_length(at: Position) -> Position
+    ensures { result ≡ references.inside_length at }
+{
+    Position {
+        in_length: true,
+        by_value: at.by_value,
+    }
+}
+
+/// The same behind a pointer, a slice, a map, a channel or a signature.
+fn behind(at: Position) -> Position
+    ensures { result ≡ references.behind at }
+{
+    Position {
+        in_length: at.in_length,
+        by_value: false,
+    }
+}
+
+/// The same behind a `*`, where there is one.
+fn behind_if(pointer: bool, at: Position) -> Position
+    ensures { result ≡ references.behind_if pointer at }
+{
+    if pointer { behind(at) } else { at }
+}
+
+/// Where the operand of a prefix operator stands.
+fn behind_operator(operator: PrefixOperator, at: Position) -> Position
+    ensures { result ≡ references.behind_operator operator at }
+{
+    match operator {
+        PrefixOperator::Dereference => behind(at),
+        _ => at,
+    }
+}
+
+fn copy(alloc: Global, name: &Name) -> Result<Name, NoMemory>
+    ensures { IfOk result (λ n. n ≡ name.now) }
+{
+    Ok(Name {
+        text: Text::of(alloc, name.text.bytes())?,
+        place: name.place,
+    })
+}
+
+fn add_name(
+    alloc: Global,
+    refs: &mut List<Reference>,
+    name: &Name,
+    is_key: bool,
+    at: Position,
+) -> Result<(), NoMemory>
+    ensures { OnOk result (refs.new ≡ refs.old ++ references.reference name.now None is_key at ∷ []) }
+{
+    refs.push(Reference {
+        name: copy(alloc, name)?,
+        selected: None,
+        is_key,
+        in_length: at.in_length,
+        by_value: at.by_value,
+    })
+}
+
+fn add_qualified(
+    alloc: Global,
+    refs: &mut List<Reference>,
+    name: &Name,
+    selected: &Name,
+    at: Position,
+) -> Result<(), NoMemory>
+    ensures { OnOk result (refs.new ≡ refs.old ++ references.reference name.now (Some selected.now) false at ∷ []) }
+{
+    refs.push(Reference {
+        name: copy(alloc, name)?,
+        selected: Some(copy(alloc, selected)?),
+        is_key: false,
+        in_length: at.in_length,
+        by_value: at.by_value,
+    })
+}
+
+fn add_type_name(
+    alloc: Global,
+    refs: &mut List<Reference>,
+    name: &QualifiedName,
+    at: Position,
+) -> Result<(), NoMemory>
+    ensures { OnOk result (refs.new ≡ refs.old ++ references.type_name name.now at) }
+{
+    match &name.qualifier {
+        None => add_name(alloc, refs, &name.name, false, at),
+        Some(qualifier) => add_qualified(alloc, refs, qualifier, &name.name, at),
+    }
+}
+
+/// The name that an expression is by itself.
+fn bare_name(expr: &Expr) -> Option<&Name>
+    ensures some { IfSome result (λ name. (expr_refs expr.now).bare ≡ Some name.now) }
+    ensures none { IfNone result ((expr_refs expr.now).bare ≡ None) }
+{
+    match expr {
+        Expr::Name(name) => Some(name),
+        _ => None,
+    }
+}
+
+/// The name that a key is by itself.
+fn bare_key(value: &ElementValue) -> Option<&Name>
+    ensures some { IfSome result (λ name. (value_refs value.now).bare ≡ Some name.now) }
+    ensures none { IfNone result ((value_refs value.now).bare ≡ None) }
+{
+    match value {
+        ElementValue::Value(expr) => bare_name(expr),
+        ElementValue::Literal(_) => None,
+    }
+}
+
+/// The name that the first post selects.
+fn first_selected(posts: &[Post]) -> Option<&Name>
+    ensures some { IfSome result (λ name. references.first_selected (map post_refs posts.now) ≡ Some name.now) }
+    ensures none { IfNone result (references.first_selected (map post_refs posts.now) ≡ None) }
+{
+    match posts.first() {
+        Some(Post::Selector(name)) => Some(name),
+        _ => None,
+    }
+}
+
+#[cycle(references)]
+fn add_expr(
+    alloc: Global,
+    refs: &mut List<Reference>,
+    expr: &Expr,
+    at: Position,
+) -> Result<(), NoMemory>
+    ensures { OnOk result (refs.new ≡ refs.old ++ (expr_refs expr.now).refs at) }
+{
+    match expr {
+        Expr::Or(first, others)
+        | Expr::And(first, others)
+        | Expr::Compare(first, _, others)
+        | Expr::Sum(first, _, others)
+        | Expr::Product(first, _, others) => {
+            add_expr(alloc, refs, first.value(), at)?;
+            add_exprs(alloc, refs, others.items(), at)
+        }
+        Expr::Prefix(operator, operand) => {
+            add_expr(alloc, refs, operand.value(), behind_operator(*operator, at))
+        }
+        Expr::Paren(inner) => add_expr(alloc, refs, inner.value(), at),
+        Expr::Primary(operand, posts) => {
+            add_operand(alloc, refs, operand.value(), posts.items(), at)?;
+            add_posts(alloc, refs, posts.items(), at)
+        }
+        Expr::Literal(_) => Ok(()),
+        Expr::Name(name) => add_name(alloc, refs, name, false, at),
+        Expr::FuncLit(signature, _) => add_signature(alloc, refs, signature, at),
+        Expr::Composite(type_, elements) | Expr::CompositeArray(type_, elements) => {
+            add_type(alloc, refs, type_, at)?;
+            add_elements(alloc, refs, elements.items(), at)
+        }
+        Expr::Type(type_) => add_type(alloc, refs, type_, at),
+        Expr::ParenReceiveChan(type_) => add_type(alloc, refs, type_, behind(at)),
+    }
+}
+
+#[cycle(references)]
+fn add_exprs(
+    alloc: Global,
+    refs: &mut List<Reference>,
+    exprs: &[Expr],
+    at: Position,
+) -> Result<(), NoMemory>
+    ensures { OnOk result (refs.new ≡ refs.old ++ exprs_refs exprs.now at) }
+{
+    for expr in exprs {
+        add_expr(alloc, refs, expr, at)?;
+    }
+    Ok(())
+}
+
+#[cycle(references)]
+fn add_optional(
+    alloc: Global,
+    refs: &mut List<Reference>,
+    expr: &Option<Expr>,
+    at: Position,
+) -> Result<(), NoMemory>
+    ensures { OnOk result (refs.new ≡ refs.old ++ references.optional_expr expr.now at) }
+{
+    match expr {
+        None => Ok(()),
+        Some(expr) => add_expr(alloc, refs, expr, at),
+    }
+}
+
+/// The operand before these posts.
+#[cycle(references)]
+fn add_operand(
+    alloc: Global,
+    refs: &mut List<Reference>,
+    operand: &Expr,
+    posts: &[Post],
+    at: Position,
+) -> Result<(), NoMemory>
+    ensures { OnOk result (refs.new ≡ refs.old ++ references.before_posts (expr_refs operand.now).bare (references.first_selected (map post_refs posts.now)) (expr_refs operand.now).refs at) }
+{
+    match bare_name(operand) {
+        None => add_expr(alloc, refs, operand, at),
+        Some(name) => match first_selected(posts) {
+            None => add_expr(alloc, refs, operand, at),
+            Some(selected) => add_qualified(alloc, refs, name, selected, at),
+        },
+    }
+}
+
+#[cycle(references)]
+fn add_posts(
+    alloc: Global,
+    refs: &mut List<Reference>,
+    posts: &[Post],
+    at: Position,
+) -> Result<(), NoMemory>
+    ensures { OnOk result (refs.new ≡ refs.old ++ joined (map post_refs_of (map post_refs posts.now)) at) }
+{
+    for post in posts {
+        add_post(alloc, refs, post, at)?;
+    }
+    Ok(())
+}
+
+#[cycle(references)]
+fn add_post(
+    alloc: Global,
+    refs: &mut List<Reference>,
+    post: &Post,
+    at: Position,
+) -> Result<(), NoMemory>
+    ensures { OnOk result (refs.new ≡ refs.old ++ (post_refs post.now).refs at) }
+{
+    match post {
+        Post::Selector(_) => Ok(()),
+        Post::TypeAssertion(type_) => add_type(alloc, refs, type_, at),
+        Post::Index(index) => add_expr(alloc, refs, index, at),
+        Post::Slice(low, high) => {
+            add_optional(alloc, refs, low, at)?;
+            add_optional(alloc, refs, high, at)
+        }
+        Post::FullSlice(low, high, bound) => {
+            add_optional(alloc, refs, low, at)?;
+            add_expr(alloc, refs, high, at)?;
+            add_expr(alloc, refs, bound, at)
+        }
+        Post::Call(arguments, _) => add_exprs(alloc, refs, arguments.items(), at),
+        Post::CallReceiveChan(type_, arguments, _) => {
+            add_type(alloc, refs, type_, behind(at))?;
+            add_exprs(alloc, refs, arguments.items(), at)
+        }
+    }
+}
+
+#[cycle(references)]
+fn add_elements(
+    alloc: Global,
+    refs: &mut List<Reference>,
+    elements: &[Element],
+    at: Position,
+) -> Result<(), NoMemory>
+    ensures { OnOk result (refs.new ≡ refs.old ++ joined (map element_refs elements.now) at) }
+{
+    for element in elements {
+        if let Some(key) = &element.key {
+            add_key(alloc, refs, key, at)?;
+        }
+        add_value(alloc, refs, &element.value, at)?;
+    }
+    Ok(())
+}
+
+#[cycle(references)]
+fn add_key(
+    alloc: Global,
+    refs: &mut List<Reference>,
+    key: &ElementValue,
+    at: Position,
+) -> Result<(), NoMemory>
+    ensures { OnOk result (refs.new ≡ refs.old ++ references.key_of (value_refs key.now).bare (value_refs key.now).refs at) }
+{
+    match bare_key(key) {
+        None => add_value(alloc, refs, key, at),
+        Some(name) => add_name(alloc, refs, name, true, at),
+    }
+}
+
+#[cycle(references)]
+fn add_value(
+    alloc: Global,
+    refs: &mut List<Reference>,
+    value: &ElementValue,
+    at: Position,
+) -> Result<(), NoMemory>
+    ensures { OnOk result (refs.new ≡ refs.old ++ (value_refs value.now).refs at) }
+{
+    match value {
+        ElementValue::Value(expr) => add_expr(alloc, refs, expr, at),
+        ElementValue::Literal(elements) => add_elements(alloc, refs, elements.items(), at),
+    }
+}
+
+#[cycle(references)]
+fn add_type(
+    alloc: Global,
+    refs: &mut List<Reference>,
+    type_: &Type,
+    at: Position,
+) -> Result<(), NoMemory>
+    ensures { OnOk result (refs.new ≡ refs.old ++ type_refs type_.now at) }
+{
+    match type_ {
+        Type::Named(name) => add_type_name(alloc, refs, name, at),
+        Type::Paren(inner) => add_type(alloc, refs, inner.value(), at),
+        Type::Pointer(item)
+        | Type::Slice(item)
+        | Type::Chan(item)
+        | Type::SendChan(item)
+        | Type::ReceiveChan(item) => add_type(alloc, refs, item.value(), behind(at)),
+        Type::Array(length, item) => {
+            add_expr(alloc, refs, length.value(), inside_length(at))?;
+            add_type(alloc, refs, item.value(), at)
+        }
+        Type::Map(key, item) => {
+            add_type(alloc, refs, key.value(), behind(at))?;
+            add_type(alloc, refs, item.value(), behind(at))
+        }
+        Type::Func(signature) => add_signature(alloc, refs, signature.value(), at),
+        Type::Struct(fields) => add_fields(alloc, refs, fields.items(), at),
+        Type::Interface(elements) => add_interface(alloc, refs, elements.items(), at),
+    }
+}
+
+#[cycle(references)]
+fn add_signature(
+    alloc: Global,
+    refs: &mut List<Reference>,
+    signature: &Signature,
+    at: Position,
+) -> Result<(), NoMemory>
+    ensures { OnOk result (refs.new ≡ refs.old ++ signature_refs signature.now at) }
+{
+    let inside = behind(at);
+    add_parameters(alloc, refs, signature.parameters.items(), inside)?;
+    match &signature.result {
+        None => Ok(()),
+        Some(result) => add_result(alloc, refs, result, inside),
+    }
+}
+
+#[cycle(references)]
+fn add_result(
+    alloc: Global,
+    refs: &mut List<Reference>,
+    given: &FuncResult,
+    at: Position,
+) -> Result<(), NoMemory>
+    ensures { OnOk result (refs.new ≡ refs.old ++ result_refs given.now at) }
+{
+    match given {
+        FuncResult::Parameters(parameters) => {
+            add_parameters(alloc, refs, parameters.items(), at)
+        }
+        FuncResult::Type(type_) => add_type(alloc, refs, type_, at),
+    }
+}
+
+#[cycle(references)]
+fn add_parameters(
+    alloc: Global,
+    refs: &mut List<Reference>,
+    parameters: &[ParameterDecl],
+    at: Position,
+) -> Result<(), NoMemory>
+    ensures { OnOk result (refs.new ≡ refs.old ++ joined (map parameter_refs parameters.now) at) }
+{
+    for parameter in parameters {
+        add_type(alloc, refs, &parameter.type_, at)?;
+    }
+    Ok(())
+}
+
+#[cycle(references)]
+fn add_fields(
+    alloc: Global,
+    refs: &mut List<Reference>,
+    fields: &[FieldDecl],
+    at: Position,
+) -> Result<(), NoMemory>
+    ensures { OnOk result (refs.new ≡ refs.old ++ joined (map field_refs fields.now) at) }
+{
+    for field in fields {
+        match field {
+            FieldDecl::Named(_, type_, _) => add_type(alloc, refs, type_, at)?,
+            FieldDecl::Embedded(pointer, name, _) => {
+                add_type_name(alloc, refs, name, behind_if(*pointer, at))?
+            }
+        }
+    }
+    Ok(())
+}
+
+#[cycle(references)]
+fn add_interface(
+    alloc: Global,
+    refs: &mut List<Reference>,
+    elements: &[InterfaceElem],
+    at: Position,
+) -> Result<(), NoMemory>
+    ensures { OnOk result (refs.new ≡ refs.old ++ joined (map interface_refs elements.now) at) }
+{
+    for element in elements {
+        match element {
+            InterfaceElem::Method(_, signature) => add_signature(alloc, refs, signature, at)?,
+            InterfaceElem::Embedded(name) => add_type_name(alloc, refs, name, at)?,
+        }
+    }
+    Ok(())
+}
+
+fn add_typed(
+    alloc: Global,
+    refs: &mut List<Reference>,
+    type_: &Option<Type>,
+    values: &[Expr],
+) -> Result<(), NoMemory>
+    ensures { OnOk
+        result
+        (refs.new ≡ refs.old ++ (references.optional_type type_.now references.outermost ++ exprs_refs values.now references.outermost)) }
+{
+    if let Some(type_) = type_ {
+        add_type(alloc, refs, type_, outermost())?;
+    }
+    add_exprs(alloc, refs, values, outermost())
+}
+
+fn add_const(alloc: Global, refs: &mut List<Reference>, spec: &ConstSpec) -> Result<(), NoMemory>
+    ensures { OnOk result (refs.new ≡ refs.old ++ references.const_references spec.now) }
+{
+    add_typed(alloc, refs, &spec.type_, spec.values.items())
+}
+
+fn add_var(alloc: Global, refs: &mut List<Reference>, spec: &VarSpec) -> Result<(), NoMemory>
+    ensures { OnOk result (refs.new ≡ refs.old ++ references.var_references spec.now) }
+{
+    add_typed(alloc, refs, &spec.type_, spec.values.items())
+}
+
+fn add_type_spec(alloc: Global, refs: &mut List<Reference>, spec: &TypeSpec) -> Result<(), NoMemory>
+    ensures { OnOk result (refs.new ≡ refs.old ++ references.type_references spec.now) }
+{
+    add_type(alloc, refs, &spec.type_, outermost())
+}
+
+fn add_func(alloc: Global, refs: &mut List<Reference>, func: &Func) -> Result<(), NoMemory>
+    ensures { OnOk result (refs.new ≡ refs.old ++ references.func_references func.now) }
+{
+    if let Some(receiver) = &func.receiver {
+        add_type(alloc, refs, &receiver.type_, behind(outermost()))?;
+    }
+    add_signature(alloc, refs, &func.signature, outermost())
+}
+
+fn add_consts(
+    alloc: Global,
+    refs: &mut List<Reference>,
+    specs: &[ConstSpec],
+) -> Result<(), NoMemory>
+    ensures { OnOk result (refs.new ≡ refs.old ++ references.all_specs (map references.const_references specs.now)) }
+{
+    for spec in specs {
+        add_const(alloc, refs, spec)?;
+    }
+    Ok(())
+}
+
+fn add_vars(alloc: Global, refs: &mut List<Reference>, specs: &[VarSpec]) -> Result<(), NoMemory>
+    ensures { OnOk result (refs.new ≡ refs.old ++ references.all_specs (map references.var_references specs.now)) }
+{
+    for spec in specs {
+        add_var(alloc, refs, spec)?;
+    }
+    Ok(())
+}
+
+fn add_types(alloc: Global, refs: &mut List<Reference>, specs: &[TypeSpec]) -> Result<(), NoMemory>
+    ensures { OnOk result (refs.new ≡ refs.old ++ references.all_specs (map references.type_references specs.now)) }
+{
+    for spec in specs {
+        add_type_spec(alloc, refs, spec)?;
+    }
+    Ok(())
+}
+
+/// The references of constants, in order.
+pub fn const_references(alloc: Global, spec: &ConstSpec) -> Result<List<Reference>, NoMemory>
+    ensures { IfOk result (λ refs. refs ≡ references.const_references spec.now) }
+{
+    let mut refs = List::new(alloc);
+    add_const(alloc, &mut refs, spec)?;
+    Ok(refs)
+}
+
+/// The references of variables, in order.
+pub fn var_references(alloc: Global, spec: &VarSpec) -> Result<List<Reference>, NoMemory>
+    ensures { IfOk result (λ refs. refs ≡ references.var_references spec.now) }
+{
+    let mut refs = List::new(alloc);
+    add_var(alloc, &mut refs, spec)?;
+    Ok(refs)
+}
+
+/// The references of a type's declaration, in order.
+pub fn type_references(alloc: Global, spec: &TypeSpec) -> Result<List<Reference>, NoMemory>
+    ensures { IfOk result (λ refs. refs ≡ references.type_references spec.now) }
+{
+    let mut refs = List::new(alloc);
+    add_type_spec(alloc, &mut refs, spec)?;
+    Ok(refs)
+}
+
+/// The references of a function outside of its body, in order.
+pub fn func_references(alloc: Global, func: &Func) -> Result<List<Reference>, NoMemory>
+    ensures { IfOk result (λ refs. refs ≡ references.func_references func.now) }
+{
+    let mut refs = List::new(alloc);
+    add_func(alloc, &mut refs, func)?;
+    Ok(refs)
+}
+
+/// The references of a declaration outside of bodies: those of its specs, one after another.
+pub fn decl_references(alloc: Global, decl: &Decl) -> Result<List<Reference>, NoMemory>
+    ensures { IfOk result (λ refs. refs ≡ references.references_of decl.now) }
+{
+    let mut refs = List::new(alloc);
+    match decl {
+        Decl::ConstGroup(specs) => add_consts(alloc, &mut refs, specs.items())?,
+        Decl::VarGroup(specs) => add_vars(alloc, &mut refs, specs.items())?,
+        Decl::TypeGroup(specs) => add_types(alloc, &mut refs, specs.items())?,
+        Decl::FuncDecl(func) => add_func(alloc, &mut refs, func.value())?,
+    }
+    Ok(refs)
+}
+
+/// The names by which a declaration refers to others outside of bodies, in order, each as often as
+/// it stands.
+pub fn decl_refs(alloc: Global, decl: &Decl) -> Result<List<Name>, NoMemory>
+    ensures { IfOk result (λ refs. refs ≡ references.refs_of decl.now) }
+{
+    let refs = decl_references(alloc, decl)?;
+    let mut names = List::new(alloc);
+    for reference in refs.items() {
+        names.push(copy(alloc, &reference.name)?)?;
+    }
+    Ok(names)
+}

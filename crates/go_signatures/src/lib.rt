@@ -1,0 +1,4 @@
+//! Parameters and results as they are written, read from tokens by recursive descent up to a height.
+#![tactic(auto)]
+
+pub mod signatures;

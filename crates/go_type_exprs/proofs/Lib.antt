@@ -1,2 +1,0 @@
-pub mod BodyBelow
-pub mod Variadics
