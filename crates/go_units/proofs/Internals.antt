@@ -1,5 +1,5 @@
 -- The first use of an internal package, one file after another.
-use Rattle.std.proofs.Common.{◌≡◌, ◌⊎◌, ℕ, zero, suc, ◌+◌, ◌<◌, ◌≤◌, Bool, Option, Some, None, List, [], ◌∷◌, length, take, drop, get_or, refl, sym, ap, ◌∙◌, subst, inl, inr, arith}
+use Rattle.std.proofs.Common.{◌≡◌, ℕ, zero, suc, ◌+◌, ◌<◌, ◌≤◌, Some, None, List, [], ◌∷◌, length, take, drop, get_or, refl, sym, subst, inl, inr, arith}
 use Rattle.go_base.specs.Lists.{Has}
 use Rattle.go_units.specs.InternalUses.{IsFirstBarred}
 use Rattle.go_units.specs.PackageUses.{AreFree, IsFirstInternal}

@@ -1,10 +1,10 @@
 -- The needs of packages, one folder after another.
-use Rattle.std.proofs.Common.{◌≡◌, ◌⊎◌, ℕ, zero, suc, ◌+◌, ◌<◌, ◌≤◌, Bool, Option, Some, None, List, [], ◌∷◌, ◌++◌, length, get_or, refl, sym, ap, ◌∙◌, subst, inl, inr, arith, length-append}
+use Rattle.std.proofs.Common.{◌≡◌, ℕ, zero, suc, ◌+◌, ◌<◌, ◌≤◌, Bool, List, [], ◌∷◌, ◌++◌, length, refl, sym, ap, ◌∙◌, subst, inl, inr, arith, length-append}
 use Rattle.go_base.specs.Lists.{Has}
 use Rattle.go_base.specs.Growing.{Grows}
 use Rattle.go_units.specs.Orders.{IsGraph, needs_of}
 use Rattle.go_units.specs.Reached.{Slots}
-use Rattle.go_units.specs.UnitsOfModules.{packages_in, Needs, AreNeeds}
+use Rattle.go_units.specs.UnitsOfModules.{packages_in, AreNeeds}
 use Rattle.go_units.specs.inner.UnitMaking.{NeedsBy}
 use Rattle.go_units.specs.declared.folder.Folder.{Folder}
 use Rattle.go_units.proofs.Members.{below_or, has_back, has_left, has_last}

@@ -1,9 +1,9 @@
 -- The parts of a canonical order.
-use Rattle.std.proofs.Common.{◌≡◌, ◌⊎◌, ℕ, zero, suc, ◌+◌, ◌<◌, ◌≤◌, List, [], ◌∷◌, ◌++◌, length, take, get_or, refl, sym, ap, ◌∙◌, subst, inl, inr, arith, length-append}
+use Rattle.std.proofs.Common.{◌≡◌, ℕ, zero, suc, ◌+◌, ◌<◌, ◌≤◌, List, [], ◌∷◌, ◌++◌, length, take, get_or, refl, sym, ap, ◌∙◌, subst, inl, inr, arith, length-append}
 use Rattle.std.proofs.lemmas.List.{take_more}
 use Rattle.go_base.specs.Lists.{Has, Once}
 use Rattle.go_base.proofs.Lists.{take_past}
-use Rattle.go_units.specs.Orders.{IsOrder, none, next, IsNext, IsCanonical}
+use Rattle.go_units.specs.Orders.{IsOrder, none, next, IsNext}
 use Rattle.go_units.proofs.Members.{has_back, below_or}
 use Rattle.go_units.proofs.Pigeonholes.{short, once_last}
 

@@ -1,11 +1,11 @@
 -- What reading one folder after another keeps.
-use Rattle.std.proofs.Common.{◌≡◌, ◌≢◌, ◌⊎◌, ℕ, ◌+◌, ◌<◌, ◌≤◌, Bool, true, false, Option, Some, None, List, [], ◌∷◌, length, set, get_or, refl, sym, ap, ◌∙◌, subst, inl, inr, arith}
+use Rattle.std.proofs.Common.{◌≡◌, ◌≢◌, ◌⊎◌, ℕ, ◌+◌, ◌<◌, ◌≤◌, Bool, true, false, Option, Some, None, List, [], ◌∷◌, length, set, refl, sym, ap, ◌∙◌, subst, inl, inr, arith}
 use mathlib.Core.Bool.{true≢false}
 use Rattle.std.proofs.lemmas.List.{length-set, get_or-set_same, get_or-set_other}
 use Rattle.go_base.specs.Lists.{Has}
 use Rattle.go_base.specs.Growing.{Grows}
 use Rattle.go_units.specs.Folders.{AsksFor}
-use Rattle.go_units.specs.Reached.{Slots, slot, IsFresh, is_std, IsAsked, FilesAsk, IsWanted, ComesFirst, IsNext, Walked, start, next, Stops, AreUnsound, IsWhole}
+use Rattle.go_units.specs.Reached.{Slots, slot, IsFresh, is_std, IsAsked, FilesAsk, IsNext, Walked, start, next, Stops, AreUnsound, IsWhole}
 use Rattle.go_units.specs.inner.Reaching.{AsksNew, FilesAskNew, HasModule, HasModuleTo, GivesSound, Reaching, ReachCause}
 use Rattle.go_units.specs.declared.folder.Folder.{Folder}
 use Rattle.go_units.specs.declared.package_files.SourceFile.{SourceFile}

@@ -1,5 +1,5 @@
 -- Where no package is ready and not all stand, some package is on a cycle.
-use Rattle.std.proofs.Common.{◌≡◌, ◌⊎◌, ℕ, zero, suc, ◌+◌, ◌<◌, ◌≤◌, List, [], ◌∷◌, length, refl, sym, subst, inl, inr, arith}
+use Rattle.std.proofs.Common.{◌⊎◌, ℕ, zero, suc, ◌+◌, ◌<◌, List, [], ◌∷◌, length, refl, subst, inl, inr, arith}
 use Rattle.go_base.specs.Lists.{Has, Once}
 use Rattle.go_units.specs.Orders.{IsGraph, needs_of, IsReady, LeadsTo, directly, IsOnCycle}
 use Rattle.go_units.proofs.Cycles.{leads_one}

@@ -1,28 +1,25 @@
 -- Units that are made in the order of their folders stand in canonical order.
-use Rattle.std.proofs.Common.{◌≡◌, ◌≢◌, ◌⊎◌, ℕ, ◌+◌, ◌<◌, ◌≤◌, Bool, true, false, Option, Some, None, List, [], ◌∷◌, ◌++◌, length, take, get_or, set, refl, sym, ap, ◌∙◌, subst, inl, inr, arith}
+use Rattle.std.proofs.Common.{◌≡◌, ℕ, ◌+◌, ◌<◌, ◌≤◌, Bool, Option, Some, None, List, [], ◌∷◌, ◌++◌, length, take, get_or, set, refl, sym, ap, ◌∙◌, subst, inl, inr, arith}
 use mathlib.Core.Bool.{true≢false}
 use Rattle.std.proofs.lemmas.List.{length-set, get_or-set_other, take_more, append-nil}
 use Rattle.go_base.specs.Lists.{Has, Before}
 use Rattle.go_base.proofs.Lists.{take_past}
-use Rattle.go_units.specs.Folders.{folder_of, AreOrdered, IsFound}
+use Rattle.go_units.specs.Folders.{folder_of, AreOrdered}
 use Rattle.go_units.specs.Gives.{Gives, none}
-use Rattle.go_units.specs.Orders.{needs_of, IsOrder, IsNext, IsCanonical, IsReady}
+use Rattle.go_units.specs.Orders.{IsNext, IsCanonical, IsReady}
 use Rattle.go_units.specs.Reached.{Slots, slot, is_std}
-use Rattle.go_units.specs.UnitOrders.{Stands, IsMet, IsNextUnit, InOrder, none as no_unit, next as next_unit, AreInOrder}
-use Rattle.go_units.specs.UnitsOfModules.{holds_files, packages_in, HoldsPackage, IsUsedImport, GivesUse, IsUnitFile, GivesUnitFile, IsUnitOf, AreUnits, Needs, AreNeeds}
-use Rattle.go_units.specs.inner.UnitMaking.{IsUnitWith}
+use Rattle.go_units.specs.UnitOrders.{Stands, IsNextUnit, InOrder, none as no_unit, next as next_unit}
+use Rattle.go_units.specs.UnitsOfModules.{holds_files, packages_in, HoldsPackage, GivesUse, GivesUnitFile, IsUnitOf, Needs, AreNeeds}
 use Rattle.go_units.specs.inner.UnitOrder.{AddsUnit, GivesUnit, IsSomeUnit, Making, UnitsAre}
 use Rattle.go_units.specs.declared.folder.Folder.{Folder}
 use Rattle.go_units.specs.declared.package_uses.PackageFile.{PackageFile}
 use Rattle.go_units.specs.declared.unit.«Unit».{«Unit» as PackageUnit}
-use Rattle.go_units.specs.declared.unit.UnitFile.{UnitFile}
-use Rattle.go_units.specs.declared.unit.UsedImport.{UsedImport}
 use Rattle.go_units.specs.declared.used_imports.NamedImport.{NamedImport}
 use Rattle.go_units.proofs.FolderLookups.{at_once, not_before}
 use Rattle.go_units.proofs.Giving.{given_by, gives_all, gives_fewer, gives_as_many, gives_more}
-use Rattle.go_units.proofs.Members.{has_left, has_last, has_back}
+use Rattle.go_units.proofs.Members.{has_left, has_last}
 use Rattle.go_units.proofs.NeededPaths.{needed_found, found_needed}
-use Rattle.go_units.proofs.OrderParts.{next_at, order_short, front_below}
+use Rattle.go_units.proofs.OrderParts.{next_at, order_short}
 use Rattle.go_units.proofs.WalkedFiles.{slot_within, flag_is, holds_some, holds_within}
 
 in_order_as : (P Q : PackageUnit → Type 0) → ((u : PackageUnit) → Q u → P u) → {units : List PackageUnit} → InOrder P units → InOrder Q units

@@ -1,14 +1,12 @@
 -- What is known of the files of packages that are read.
-use Rattle.std.proofs.Common.{◌≡◌, ◌≢◌, ◌⊎◌, ℕ, zero, suc, ◌<◌, ◌≤◌, Bool, true, Option, Some, None, List, [], ◌∷◌, length, get_or, set, map, nat_lt, refl, sym, ap, ◌∙◌, subst, inl, inr, arith}
+use Rattle.std.proofs.Common.{◌≡◌, ℕ, zero, suc, ◌<◌, Bool, true, Option, Some, None, List, [], ◌∷◌, length, get_or, set, nat_lt, refl, sym, ap, ◌∙◌, subst, inl, inr, arith}
 use mathlib.Core.Bool.{true≢false}
 use Rattle.std.specs.Prelude.{IfSome}
 use Rattle.std.proofs.Math.ListN.{get_or-map}
 use Rattle.std.proofs.lemmas.Bool.Decides.{nat_tests}
 use Rattle.std.proofs.lemmas.List.{length-set}
-use Rattle.go_base.specs.Lists.{Has}
-use Rattle.go_units.specs.Gives.{Gives}
 use Rattle.go_units.specs.PackageUses.{GivesFile}
-use Rattle.go_units.specs.Reached.{Slots, slot, IsFresh, is_std, IsNext, AreSound, Walked, start, next}
+use Rattle.go_units.specs.Reached.{Slots, slot, is_std, AreSound, Walked, start, next}
 use Rattle.go_units.specs.UnitsOfModules.{holds_files, packages_in, HoldsPackage}
 use Rattle.go_units.specs.inner.UnitMaking.{AreAlike}
 use Rattle.go_units.specs.inner.UnitOrder.{AreReadable}

@@ -1,7 +1,7 @@
 -- What the files of a folder give to its package: those that don't import `"C"`, each with the imports that it uses.
 -- Public source: Go specification, "Packages", "Import declarations", "Declarations and scope"; Go's command cgo (`import "C"`). Own: a file that imports `"C"` counts for
 -- the package's name alone.
-use Rattle.std.specs.Prelude.{◌≡◌, ◌⊎◌, ◌<◌, ℕ, Bool, Option, Some, None, List, [], ◌∷◌}
+use Rattle.std.specs.Prelude.{◌≡◌, ◌⊎◌, ℕ, Bool, Option, Some, None, List, [], ◌∷◌}
 use Rattle.go_base.specs.Lists.{Has}
 use Rattle.go_base.specs.Growing.{Grows}
 use Rattle.go_syntax.specs.declared.declaration.File.{File}

@@ -1,7 +1,7 @@
 -- The folders that are read for the packages of a module, one after another: those of the module in the order of their paths, then always the one with the least path
 -- among those of the standard library for which a used import asks.
 -- Public source: Go specification, "Import declarations". Own: the order.
-use Rattle.std.specs.Prelude.{◌≡◌, ◌<◌, ◌≤◌, ◌⊎◌, ℕ, Bool, true, false, Option, Some, None, List, [], ◌∷◌, length, get_or, slice_set}
+use Rattle.std.specs.Prelude.{◌≡◌, ◌<◌, ◌≤◌, ◌⊎◌, ℕ, Bool, true, false, Option, Some, None, List, length, get_or, slice_set}
 use Rattle.go_base.specs.Lists.{Has}
 use Rattle.go_units.specs.Folders.{folder_of, AsksFor}
 use Rattle.go_units.specs.PackageFiles.{AreOfOnePackage}

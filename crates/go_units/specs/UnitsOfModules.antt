@@ -1,7 +1,7 @@
 -- The units of a module on a platform: its packages, and those of the standard library that they reach. And why there are none.
 -- Public source: Go specification, "Packages", "Import declarations" (a package may not import itself, directly or indirectly), "Package initialization". Own: the order of
 -- refusals.
-use Rattle.std.specs.Prelude.{◌≡◌, ◌<◌, ◌↔◌, ℕ, Bool, true, false, nat_lt, Option, Some, None, List, [], length, get_or, map, Result, Ok, Err}
+use Rattle.std.specs.Prelude.{◌≡◌, ◌↔◌, ℕ, Bool, true, false, nat_lt, Option, Some, None, List, length, get_or, map, Result, Ok, Err}
 use Rattle.go_base.specs.Lists.{Has}
 use Rattle.go_units.specs.Folders.{folder_of, IsFound}
 use Rattle.go_units.specs.Gives.{Gives}

@@ -1,5 +1,5 @@
 -- What the functions keep that read one folder after another.
-use Rattle.std.specs.Prelude.{◌≡◌, ◌≢◌, ◌<◌, ◌⊎◌, ℕ, Bool, false, Some, List, length, slice_set}
+use Rattle.std.specs.Prelude.{◌≡◌, ◌<◌, ◌⊎◌, ℕ, Bool, false, Some, List, length, slice_set}
 use Rattle.go_base.specs.Lists.{Has}
 use Rattle.go_units.specs.Folders.{AsksFor}
 use Rattle.go_units.specs.Reached.{Slots, slot, IsFresh, is_std, IsAsked, AreSound, Walked, IsFirstRefusal}

@@ -1,5 +1,5 @@
 -- What the functions gather that make units.
-use Rattle.std.specs.Prelude.{◌≡◌, ◌<◌, ℕ, Bool, Some, List, length}
+use Rattle.std.specs.Prelude.{◌≡◌, ℕ, Bool, Some, List}
 use Rattle.go_base.specs.Lists.{Has}
 use Rattle.go_units.specs.Folders.{folder_of, IsFound}
 use Rattle.go_units.specs.Gives.{Gives}

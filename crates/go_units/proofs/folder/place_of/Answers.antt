@@ -1,4 +1,4 @@
-use Rattle.std.proofs.Common.{◌<◌, ◌+◌, ◌-◌, ◌/◌, length, sym, arith}
+use Rattle.std.proofs.Common.{◌+◌, ◌-◌, ◌/◌, sym, arith}
 use Rattle.go_base.proofs.Ordered.{narrowed_less, narrowed_greater, below_high, above_low}
 use Rattle.go_units.specs.Folders.{path_of}
 use Rattle.go_units.proofs.FolderLookups.{at_equal, at_none, at_once}

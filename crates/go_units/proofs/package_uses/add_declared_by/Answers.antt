@@ -1,4 +1,4 @@
-use Rattle.std.proofs.Common.{ℕ, List, subst, sym, ◌∙◌}
+use Rattle.std.proofs.Common.{List, subst, sym}
 use Rattle.go_base.specs.Growing.{Grows}
 use Rattle.go_syntax.specs.declared.declaration.Decl.{Decl}
 use Rattle.go_units.specs.PackageUses.{IsDeclaredByFile}

@@ -1,6 +1,5 @@
-use Rattle.std.proofs.Common.{arith}
 use Rattle.go_units.specs.PackageUses.{GivesFile}
-use Rattle.go_units.proofs.Giving.{popping_first, popping_next, popping_last}
+use Rattle.go_units.proofs.Giving.{popping_first, popping_next}
 use Rattle.go_units.proofs.package_uses.files_with.Goals as goal
 
 pub loop-source-init : goal.loop-source-init

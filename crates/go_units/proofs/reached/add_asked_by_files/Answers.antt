@@ -1,4 +1,4 @@
-use Rattle.std.proofs.Common.{ℕ, List, subst}
+use Rattle.std.proofs.Common.{List, subst}
 use Rattle.go_base.specs.Growing.{Grows}
 use Rattle.go_units.specs.inner.Reaching.{UsesAsk, FileAsksNew}
 use Rattle.go_units.specs.declared.used_imports.NamedImport.{NamedImport}

@@ -1,4 +1,4 @@
-use Rattle.std.proofs.Common.{◌≡◌, ◌∙◌, ℕ, Bool, List, length, None, sym, ap, subst, arith}
+use Rattle.std.proofs.Common.{◌≡◌, ◌∙◌, List, length, sym, ap, subst, arith}
 use Rattle.go_base.specs.Lists.{Has}
 use Rattle.go_syntax.specs.declared.declaration.File.{File}
 use Rattle.go_units.specs.UnitFacts.{needed_by}

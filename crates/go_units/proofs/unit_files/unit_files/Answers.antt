@@ -1,6 +1,6 @@
-use Rattle.std.proofs.Common.{Some, arith}
+use Rattle.std.proofs.Common.{Some}
 use Rattle.go_units.specs.UnitsOfModules.{GivesUnitFile}
-use Rattle.go_units.proofs.Giving.{popping_first, popping_next, popping_last}
+use Rattle.go_units.proofs.Giving.{popping_first, popping_next}
 use Rattle.go_units.proofs.unit_files.unit_files.Goals as goal
 
 pub loop-file-init : goal.loop-file-init
