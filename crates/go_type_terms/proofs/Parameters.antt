@@ -1,0 +1,59 @@
+-- The types of parameters and results.
+use Rattle.std.proofs.Common.{◌≡◌, ◌≤◌, ◌<◌, ℕ, zero, suc, List, [], ◌∷◌, ◌++◌, refl, sym, ap, ◌∙◌, subst, Bool, true, false, length, arith, Option, Some, None}
+use mathlib.Core.Bool.{true≢false}
+use Rattle.std.specs.Prelude.{replicate}
+use Rattle.go_model.specs.declared.types.term.Signature.{Signature}
+use Rattle.go_model.specs.declared.types.term.Term.{Term}
+use Rattle.go_syntax.specs.declared.name.Name.{Name}
+use Rattle.go_syntax.specs.declared.types.FuncResult.{FuncResult, FuncResult-F, out-FuncResult}
+use Rattle.go_syntax.specs.declared.types.ParameterDecl.{ParameterDecl, out-ParameterDecl}
+use Rattle.go_syntax.specs.declared.types.«Type».{«Type» as Typ}
+use Rattle.go_rules.specs.Environments.{Env}
+use Rattle.go_rules.specs.Expressions.{OfParameters, OfResult, OfSignature, OfType, for_names, parameters_more, parameters_none, parameters_variadic, result_parameters, result_type, signature, signature_alone, signature_result, slice_of}
+use Rattle.go_type_terms.specs.Results.{OfResults}
+
+-- the last of so many equal items
+pub replicate_last : {A : Type 0} (n : ℕ) (x : A) → replicate n x ++ x ∷ [] ≡ replicate (suc n) x
+replicate_last zero x = refl
+replicate_last (suc n) x = ap (λ xs. x ∷ xs) (replicate_last n x)
+
+pub names_more : (n : Name) (ns : List Name) (t : Term) → replicate (length ns) t ++ t ∷ [] ≡ for_names (n ∷ ns) t
+names_more n ns t = replicate_last (length ns) t
+
+module _ {E : Env} where
+  -- a declaration that isn't variadic, and those behind it
+  pub split_more : {d : ParameterDecl} {ds : List ParameterDecl} {all : List Term} {v : Bool} → (out-ParameterDecl d).variadic ≡ false → OfParameters E (d ∷ ds) all v → (more : List Term) × OfParameters E ds more v
+  split_more plain (parameters_more e h more) = (_, more)
+  split_more plain (parameters_variadic e n h) = absurd (true≢false (sym e ∙ plain))
+
+  -- the type of the first declaration
+  pub first_type : {d : ParameterDecl} {ds : List ParameterDecl} {all : List Term} {v : Bool} → OfParameters E (d ∷ ds) all v → (u : Term) × OfType E (out-ParameterDecl d).type_ u
+  first_type (parameters_more e h more) = (_, h)
+  first_type (parameters_variadic e n h) = (_, h)
+
+  -- a variadic declaration is the last one, with at most one name
+  pub not_last : {d e : ParameterDecl} {ds : List ParameterDecl} {all : List Term} {v : Bool} → (out-ParameterDecl d).variadic ≡ true → OfParameters E (d ∷ e ∷ ds) all v → ⊥
+  not_last dots (parameters_more e h more) = true≢false (sym dots ∙ e)
+
+  pub too_many : {d : ParameterDecl} {ds : List ParameterDecl} {all : List Term} {v : Bool} → (out-ParameterDecl d).variadic ≡ true → 1 < length (out-ParameterDecl d).names → OfParameters E (d ∷ ds) all v → ⊥
+  too_many dots n (parameters_more e h more) = true≢false (sym dots ∙ e)
+  too_many dots n (parameters_variadic e m h) = absurd (omega arith)
+
+  -- results
+  pub to_result : {ds : List ParameterDecl} {us : List Term} → OfParameters E ds us false → OfResult E (FuncResult-F.Parameters ds) us
+  to_result h = result_parameters h
+
+  pub in_result : {ds : List ParameterDecl} {us : List Term} → OfResult E (FuncResult-F.Parameters ds) us → OfParameters E ds us false
+  in_result (result_parameters h) = h
+
+  pub in_result_type : {t : Typ} {us : List Term} → OfResult E (FuncResult-F.«FuncResult::Type» t) us → (u : Term) × OfType E t u
+  in_result_type (result_type h) = (_, h)
+
+  -- a signature of parameters and results
+  pub to_signature : {ds : List ParameterDecl} {ts us : List Term} {v : Bool} (r : Option FuncResult) → OfParameters E ds ts v → OfResults E r us → OfSignature E ds r (signature ts v us)
+  to_signature {ds = ds} {ts = ts} {v = v} None p e = subst (λ (us : List Term). OfSignature E ds None (signature ts v us)) (sym e) (signature_alone p)
+  to_signature (Some r) p h = signature_result p h
+
+  pub in_signature : {ds : List ParameterDecl} (r : Option FuncResult) {g : Signature} → OfSignature E ds r g → (ts : List Term) × (v : Bool) × (us : List Term) × OfParameters E ds ts v × OfResults E r us
+  in_signature r (signature_alone p) = (_, _, [], p, refl)
+  in_signature r (signature_result p h) = (_, _, _, p, h)

@@ -1,0 +1,5 @@
+pub mod Answers
+pub mod Lengths
+pub mod Loudness
+pub mod Members
+pub mod Results

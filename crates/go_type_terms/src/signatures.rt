@@ -1,0 +1,148 @@
+//! Parameters and results of function types.
+ghost use Rattle.std.specs.Prelude.{◌≡◌, [], ◌∷◌, false, IfOk};
+ghost use Rattle.go_rules.specs.Expressions.{OfForm, OfParameters, OfResult, OfSignature, for_names};
+ghost use Rattle.go_type_terms.specs.Results.{OfResults};
+ghost use Rattle.go_rules.specs.Nodes.{optional_result_parts, parameter_parts, signature as signature_node, type as type_node};
+ghost use Rattle.go_syntax.specs.declared.types.FuncResult.{FuncResult-F};
+ghost use Rattle.go_syntax.specs.declared.types.Signature.{out-Signature};
+ghost use Rattle.go_syntax.specs.declared.types.«Type».{«Type-F» as Typ-F};
+ghost use Rattle.go_type_terms.specs.Answers.{Types, TypesBelow, env_in};
+ghost use Rattle.go_type_terms.specs.declared.signatures.Parameters.{Parameters};
+
+use crate::error::ExprError;
+use crate::lists::push_all;
+use crate::loud::either;
+use crate::part::{Answer, Part};
+use crate::typing::Typing;
+use go_base::boxed::Box;
+use go_base::list::List;
+use go_base::memory::NoMemory;
+use go_model::types::term::{Signature as Signed, Term};
+use go_syntax::name::Name;
+use go_syntax::types::{FuncResult, ParameterDecl, Signature, Type};
+use go_usability::context::Context;
+use std::alloc::Global;
+
+/// The types of parameters, and whether the last one is variadic.
+#[derive(Drop)]
+pub(crate) struct Parameters {
+    pub(crate) terms: List<Term>,
+    pub(crate) variadic: bool,
+}
+
+// The type of a parameter declaration, once for each of its names, and once where it has none.
+fn for_names(alloc: Global, names: &[Name], term: Term) -> Result<List<Term>, NoMemory>
+    ensures { IfOk result (λ ts. ts ≡ for_names names.now term) }
+{
+    let mut terms = List::new(alloc);
+    if let Some((_, others)) = names.split_first() {
+        for _other in others {
+            let copied = term.copy(alloc)?;
+            terms.push(copied)?;
+        }
+    }
+    terms.push(term)?;
+    Ok(terms)
+}
+
+impl<'a, F: Fn(&Context<'_>, Global, usize, Part<'_>) -> Result<Answer, ExprError>> Typing<'a, F> {
+    /// The types of parameters.
+    pub(crate) fn parameters(
+        &self,
+        decls: &[ParameterDecl],
+    ) -> Result<(Parameters, bool), ExprError>
+        requires { TypesBelow self.now.context.now self.now.height (F.pre self.now.below) (F.post self.now.below) }
+        ensures { Types (env_in self.now.context.now) (λ (p : Parameters). OfParameters (env_in self.now.context.now) decls.now p.terms p.variadic) (parameter_parts decls.now) result }
+    {
+        let mut terms = List::new(self.alloc);
+        let mut loud = false;
+        for at in 0..decls.len() {
+            let decl = &decls[at];
+            let (term, louder) = self.type_below(&decl.type_)?;
+            if decl.variadic {
+                if at + 1 < decls.len() || decl.names.items().len() > 1 {
+                    return Err(ExprError::Untyped);
+                }
+                terms.push(Term::Slice(Box::new(self.alloc, term)?))?;
+                return Ok((
+                    Parameters {
+                        terms,
+                        variadic: true,
+                    },
+                    either(loud, louder),
+                ));
+            }
+            let more = for_names(self.alloc, decl.names.items(), term)?;
+            push_all(&mut terms, more)?;
+            loud = either(loud, louder);
+        }
+        Ok((
+            Parameters {
+                terms,
+                variadic: false,
+            },
+            loud,
+        ))
+    }
+
+    // The types of results that stand in parentheses.
+    fn result_parameters(&self, decls: &[ParameterDecl]) -> Result<(List<Term>, bool), ExprError>
+        requires { TypesBelow self.now.context.now self.now.height (F.pre self.now.below) (F.post self.now.below) }
+        ensures { Types (env_in self.now.context.now) (λ us. OfParameters (env_in self.now.context.now) decls.now us false) (parameter_parts decls.now) result }
+    {
+        let (parameters, loud) = self.parameters(decls)?;
+        if parameters.variadic {
+            return Err(ExprError::Untyped);
+        }
+        Ok((parameters.terms, loud))
+    }
+
+    // The type of the one result.
+    fn result_type(&self, form: &Type) -> Result<(List<Term>, bool), ExprError>
+        requires { TypesBelow self.now.context.now self.now.height (F.pre self.now.below) (F.post self.now.below) }
+        ensures { Types (env_in self.now.context.now) (OfResult (env_in self.now.context.now) (FuncResult-F.«FuncResult::Type» form.now)) (type_node form.now ∷ []) result }
+    {
+        let (term, loud) = self.type_below(form)?;
+        let mut terms = List::new(self.alloc);
+        terms.push(term)?;
+        Ok((terms, loud))
+    }
+
+    // The types of results.
+    fn results(&self, written: &Option<FuncResult>) -> Result<(List<Term>, bool), ExprError>
+        requires { TypesBelow self.now.context.now self.now.height (F.pre self.now.below) (F.post self.now.below) }
+        ensures { Types (env_in self.now.context.now) (OfResults (env_in self.now.context.now) written.now) (optional_result_parts written.now) result }
+    {
+        match written {
+            None => Ok((List::new(self.alloc), false)),
+            Some(FuncResult::Parameters(decls)) => self.result_parameters(decls.items()),
+            Some(FuncResult::Type(form)) => self.result_type(form),
+        }
+    }
+
+    /// The signature of parameters and a result.
+    pub fn signature(&self, signature: &Signature) -> Result<(Signed, bool), ExprError>
+        requires { TypesBelow self.now.context.now self.now.height (F.pre self.now.below) (F.post self.now.below) }
+        ensures { Types (env_in self.now.context.now) (OfSignature (env_in self.now.context.now) (out-Signature signature.now).parameters (out-Signature signature.now).result) (signature_node signature.now ∷ []) result }
+    {
+        let (parameters, loud) = self.parameters(signature.parameters.items())?;
+        let (results, louder) = self.results(&signature.result)?;
+        Ok((
+            Signed {
+                params: parameters.terms,
+                variadic: parameters.variadic,
+                results,
+            },
+            either(loud, louder),
+        ))
+    }
+
+    /// The function type of a signature.
+    pub(crate) fn function(&self, signature: &Signature) -> Result<(Term, bool), ExprError>
+        requires { TypesBelow self.now.context.now self.now.height (F.pre self.now.below) (F.post self.now.below) }
+        ensures { Types (env_in self.now.context.now) (OfForm (env_in self.now.context.now) (Typ-F.Func signature.now)) (signature_node signature.now ∷ []) result }
+    {
+        let (signed, loud) = self.signature(signature)?;
+        Ok((Term::Func(signed), loud))
+    }
+}
