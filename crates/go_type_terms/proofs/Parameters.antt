@@ -21,24 +21,6 @@ pub names_more : (n : Name) (ns : List Name) (t : Term) → replicate (length ns
 names_more n ns t = replicate_last (length ns) t
 
 module _ {E : Env} where
-  -- a declaration that isn't variadic, and those behind it
-  pub split_more : {d : ParameterDecl} {ds : List ParameterDecl} {all : List Term} {v : Bool} → (out-ParameterDecl d).variadic ≡ false → OfParameters E (d ∷ ds) all v → (more : List Term) × OfParameters E ds more v
-  split_more plain (parameters_more e h more) = (_, more)
-  split_more plain (parameters_variadic e n h) = absurd (true≢false (sym e ∙ plain))
-
-  -- the type of the first declaration
-  pub first_type : {d : ParameterDecl} {ds : List ParameterDecl} {all : List Term} {v : Bool} → OfParameters E (d ∷ ds) all v → (u : Term) × OfType E (out-ParameterDecl d).type_ u
-  first_type (parameters_more e h more) = (_, h)
-  first_type (parameters_variadic e n h) = (_, h)
-
-  -- a variadic declaration is the last one, with at most one name
-  pub not_last : {d e : ParameterDecl} {ds : List ParameterDecl} {all : List Term} {v : Bool} → (out-ParameterDecl d).variadic ≡ true → OfParameters E (d ∷ e ∷ ds) all v → ⊥
-  not_last dots (parameters_more e h more) = true≢false (sym dots ∙ e)
-
-  pub too_many : {d : ParameterDecl} {ds : List ParameterDecl} {all : List Term} {v : Bool} → (out-ParameterDecl d).variadic ≡ true → 1 < length (out-ParameterDecl d).names → OfParameters E (d ∷ ds) all v → ⊥
-  too_many dots n (parameters_more e h more) = true≢false (sym dots ∙ e)
-  too_many dots n (parameters_variadic e m h) = absurd (omega arith)
-
   -- results
   pub to_result : {ds : List ParameterDecl} {us : List Term} → OfParameters E ds us false → OfResult E (FuncResult-F.Parameters ds) us
   to_result h = result_parameters h
