@@ -1,5 +1,6 @@
 -- Lengths of arrays are representable in int.
-use Rattle.std.proofs.Common.{◌≡◌, ◌⊎◌, ◌<◌, ◌≤◌, ◌-◌, ◌^◌, ◌&&◌, ℕ, ℤ, pos, inl, inr, Bool, true, false, Option, Some, None, sym, ap, ◌∙◌, subst, arith, refl}
+use Rattle.std.proofs.Common.{◌≡◌, ◌⊎◌, ◌<◌, ◌≤◌, ◌-◌, ◌^◌, ◌&&◌, ℕ, ℤ, pos, neg_ℤ, inl, inr, Bool, true, false, Option, Some, None, sym, ap, ◌∙◌, subst, arith, refl}
+use Rattle.std.specs.Prelude.{int_le}
 use mathlib.Core.Bool.{true≢false}
 use Rattle.std.specs.Prelude.{MatchOption}
 use Rattle.std.proofs.lemmas.Bool.Decides.{nat_tests}
@@ -16,11 +17,11 @@ and_right false b e = absurd (true≢false (sym e))
 
 below_32 : (n : ℕ) → is_representable (value.Int (pos n)) basic.Int 32 ≡ true → n < 2 ^ 64
 unfolding is_representable
-below_32 n h = let k = and_right _ _ h in grind (arith, nat_tests)
+below_32 n h = let k = and_right (int_le (neg_ℤ (pos (2 ^ (32 - 1)))) (pos n)) (int_le (pos n) (pos (2 ^ (32 - 1) - 1))) h in grind (arith, nat_tests)
 
 below_64 : (n : ℕ) → is_representable (value.Int (pos n)) basic.Int 64 ≡ true → n < 2 ^ 64
 unfolding is_representable
-below_64 n h = let k = and_right _ _ h in grind (arith, nat_tests)
+below_64 n h = let k = and_right (int_le (neg_ℤ (pos (2 ^ (64 - 1)))) (pos n)) (int_le (pos n) (pos (2 ^ (64 - 1) - 1))) h in grind (arith, nat_tests)
 
 -- a number that is representable in int fits into 64 bits
 pub in_word : (bits n : ℕ) → (bits ≡ 32) ⊎ (bits ≡ 64) → is_representable (value.Int (pos n)) basic.Int bits ≡ true → n < 2 ^ 64

@@ -21,7 +21,7 @@ pub to_interface : (E : Env) (xs : List InterfaceElem) (all : List Method) (u : 
 to_interface E xs all u h i = subst (λ (t : Term). OfForm E (Typ-F.Interface xs) t) (sym i.2) (of_interface i.0 all h i.1.sorted i.1.among i.1.each)
 
 interface_in : (E : Env) (xs : List InterfaceElem) (u : Term) → OfForm E (Typ-F.Interface xs) u → (all : List Method) × OfMethods E xs all × IsInterfaceOf all u
-interface_in E xs u (of_interface ms all h s f g) = (all, h, ms, record { sorted = s; among = f; each = g }, refl)
+interface_in E xs u (of_interface ms all h s f g) = (all, h, (ms, record { sorted = s; among = f; each = g }, refl))
 
 pub in_methods : (E : Env) (xs : List InterfaceElem) (u : Term) → OfForm E (Typ-F.Interface xs) u → (all : List Method) × OfMethods E xs all
 in_methods E xs u h = let i = interface_in E xs u h in (i.0, i.1)

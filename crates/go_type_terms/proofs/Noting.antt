@@ -80,9 +80,10 @@ has_by : (s : Sel) (b : Bor Method) (x : Sel × Bor Method) (es more : Entries) 
 has_by s b x es more m Less e none rest = (λ h. h, λ h. h)
 has_by s b x es more m Equal e none rest = absurd (absent_here s x es (is_eq (sel_order s x.0)) (ap is_eq e) none)
 has_by s b x es more m Greater e none rest =
-    let r = rest (absent_rest s x es (is_eq (sel_order s x.0)) (ap is_eq e) none) in
-    (λ h. elim h [ inl i ↦ inr (inl i) | inr j ↦ elim (r.0 j) [ inl i ↦ inl i | inr k ↦ inr (inr k) ] ],
-     λ h. elim h [ inl i ↦ inr (r.1 (inl i)) | inr j ↦ elim j [ inl i ↦ inl i | inr k ↦ inr (r.1 (inr k)) ] ])
+    let r = rest (absent_rest s x es (is_eq (sel_order s x.0)) (ap is_eq e) none) in (
+      λ h. elim h [ inl i ↦ inr (inl i) | inr j ↦ elim (r.0 j) [ inl i ↦ inl i | inr k ↦ inr (inr k) ] ],
+      λ h. elim h [ inl i ↦ inr (r.1 (inl i)) | inr j ↦ elim j [ inl i ↦ inl i | inr k ↦ inr (r.1 (inr k)) ] ],
+    )
 
 has_new : (s : Sel) (b : Bor Method) (es : Entries) (m : Method) → at_sel s es ≡ None → Joins b es (insert_entry sel_order es s b) m
 has_new s b [] m none = (λ h. h, λ h. h)

@@ -38,8 +38,8 @@ module _ (E : Env) where
   parted d rest all w (parameters_variadic e n h) = ([], subst (λ (v : Bool). OfOthers E v [] [] true) (sym e) (refl, refl, refl))
 
   first : (d : ParameterDecl) (rest : List ParameterDecl) (all : List Term) (w : Bool) → OfParameters E (d ∷ rest) all w → (us : List Term) × OfParameter E d us
-  first d rest all w (parameters_more {u = u} e h k) = (for_names (out-ParameterDecl d).names u, u, h, subst (λ (v : Bool). GivesTerms v (out-ParameterDecl d).names u (for_names (out-ParameterDecl d).names u)) (sym e) refl)
-  first d rest all w (parameters_variadic {u = u} e n h) = (slice_of u ∷ [], u, h, subst (λ (v : Bool). GivesTerms v (out-ParameterDecl d).names u (slice_of u ∷ [])) (sym e) (n, refl))
+  first d rest all w (parameters_more {u = u} e h k) = (for_names (out-ParameterDecl d).names u, (u, h, subst (λ (v : Bool). GivesTerms v (out-ParameterDecl d).names u (for_names (out-ParameterDecl d).names u)) (sym e) refl))
+  first d rest all w (parameters_variadic {u = u} e n h) = (slice_of u ∷ [], (u, h, subst (λ (v : Bool). GivesTerms v (out-ParameterDecl d).names u (slice_of u ∷ [])) (sym e) (n, refl)))
 
   step : (whole : List ParameterDecl) (d : ParameterDecl) (rest : List ParameterDecl) (terms now : List Term) (loud b : Bool) → OfParameter E d now → AreLoud E (type_node (out-ParameterDecl d).type_ ∷ []) b
       → Passed whole (d ∷ rest) terms false loud → Passed whole rest (terms ++ now) (out-ParameterDecl d).variadic (loud || b)
@@ -79,9 +79,10 @@ module _ (E : Env) where
 
   pub passed_all : (whole : List ParameterDecl) (at : ℕ) (terms : List Term) (variadic loud : Bool) → length whole ≤ at → Passed whole (drop at whole) terms variadic loud → OfParameters E whole terms variadic × AreLoud E (parameter_parts whole) loud
   passed_all whole at terms variadic loud h p =
-      let q = subst (λ (r : List ParameterDecl). Passed whole r terms variadic loud) (drop_all at whole h) p in
-      (subst (λ (ts : List Term). OfParameters E whole ts variadic) (append_none terms) (q.to [] variadic (over variadic)),
-       subst (λ (f : Bool). AreLoud E (parameter_parts whole) f) (or_false loud) (q.louder false (none_loud E)))
+      let q = subst (λ (r : List ParameterDecl). Passed whole r terms variadic loud) (drop_all at whole h) p in (
+        subst (λ (ts : List Term). OfParameters E whole ts variadic) (append_none terms) (q.to [] variadic (over variadic)),
+        subst (λ (f : Bool). AreLoud E (parameter_parts whole) f) (or_false loud) (q.louder false (none_loud E)),
+      )
 
   -- the types of a declaration's parameters go by its type
   pub to_parameter : (d : ParameterDecl) (u : Term) (us : List Term) → OfType E (out-ParameterDecl d).type_ u → GivesTerms (out-ParameterDecl d).variadic (out-ParameterDecl d).names u us → OfParameter E d us
