@@ -24,7 +24,7 @@ pub returns-in_err-more : goal.returns-in_err-more
 returns-in_err-more g c =
     let E = env_in c.args.self.now.context.now in
     let d = c.decl-item.result in
-    handed E (OfField E (out-FieldDecl d)) (OfFields E c.args.decls.now) (field_parts (out-FieldDecl d)) (fields_parts c.args.decls.now) c.in_err-more.field-0.0 c.from_residual-in_err-more.result c.from_residual-in_err-more.ensures.1 c.in_err-more.ensures
+    handed E (OfField E (out-FieldDecl d)) (OfFields E c.args.decls.now) (field_parts (out-FieldDecl d)) (fields_parts c.args.decls.now) c.in_err-more.field-0.0 c.from_residual.result c.from_residual.ensures.1 c.in_err-more.ensures
     (gone_none E fields_parts (OfFields E) c.args.decls.now c.loop-decl.decl-index d c.loop-decl.fields c.loop-decl.loud (OfField E (out-FieldDecl d)) c.loop-decl-test.true c.decl-item.is (λ rest all h. first_fields d rest all h) c.loop-decl.invariant)
 
 pub returns : goal.returns

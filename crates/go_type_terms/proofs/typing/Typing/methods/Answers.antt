@@ -24,7 +24,7 @@ pub returns-in_err-more : goal.returns-in_err-more
 returns-in_err-more g c =
     let E = env_in c.args.self.now.context.now in
     let d = c.element-item.result in
-    handed E (OfElement E (out-InterfaceElem d)) (OfMethods E c.args.elements.now) (elem_parts (out-InterfaceElem d)) (elems_parts c.args.elements.now) c.in_err-more.field-0.0 c.from_residual-in_err-more.result c.from_residual-in_err-more.ensures.1 c.in_err-more.ensures
+    handed E (OfElement E (out-InterfaceElem d)) (OfMethods E c.args.elements.now) (elem_parts (out-InterfaceElem d)) (elems_parts c.args.elements.now) c.in_err-more.field-0.0 c.from_residual.result c.from_residual.ensures.1 c.in_err-more.ensures
     (gone_none E elems_parts (OfMethods E) c.args.elements.now c.loop-element.element-index d c.loop-element.methods c.loop-element.loud (OfElement E (out-InterfaceElem d)) c.loop-element-test.true c.element-item.is (λ rest all h. first_methods d rest all h) c.loop-element.invariant)
 
 pub returns : goal.returns
