@@ -146,7 +146,8 @@ impl<'a, F: Fn(&Context<'_>, Global, usize, Part<'_>) -> Result<Answer, ExprErro
         }
     }
 
-    /// The signature of parameters and a result.
+    /// The signature of parameters and a result, and whether a receive stands in their types, or a call that is
+    /// neither a conversion nor constant; `Untyped` exactly where they have none.
     pub fn signature(&self, signature: &Signature) -> Result<(Signed, bool), ExprError>
         requires { TypesBelow self.now.context.now self.now.height (F.pre self.now.below) (F.post self.now.below) }
         ensures { Types (env_in self.now.context.now) (OfSignature (env_in self.now.context.now) (out-Signature signature.now).parameters (out-Signature signature.now).result) (signature_node signature.now ∷ []) result }

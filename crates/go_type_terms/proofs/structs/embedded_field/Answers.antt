@@ -9,7 +9,7 @@ use Rattle.go_type_terms.proofs.structs.embedded_field.Goals as goal
 pub returns-in_err-term : goal.returns-in_err-term
 returns-in_err-term c =
     let E = env_in c.args.context.now in
-    told_told (IsTypeName E c.args.name.now) (OfField E (FieldDecl-F.«FieldDecl::Embedded» c.args.star c.args.name.now c.args.tag.now)) c.in_err-term.field-0 c.from_residual.result c.from_residual.ensures.1 c.in_err-term.ensures (λ fs o. (o.0, o.1))
+    told_told (IsTypeName E c.args.name.now) (OfField E (FieldDecl-F.«FieldDecl::Embedded» c.args.star c.args.name.now c.args.tag.now)) c.in_err-term.field-0.0 c.from_residual.result c.from_residual.ensures.1 c.in_err-term.ensures (λ fs o. (o.0, o.1))
 
 pub returns : goal.returns
 returns c = (c.in_ok-term.term, c.in_ok-term.ensures, c.in_ok-fields.ensures)
