@@ -6,7 +6,7 @@ use Rattle.go_syntax.specs.declared.types.InterfaceElem.{InterfaceElem-F}
 use Rattle.go_type_terms.specs.Answers.{env_in}
 use Rattle.go_type_terms.specs.Members.{OfElement}
 use Rattle.go_type_terms.proofs.Handed.{told_told}
-use Rattle.go_type_terms.proofs.Interfaces.{in_embedded}
+use Rattle.go_type_terms.proofs.InterfaceTypes.{in_embedded}
 use Rattle.go_type_terms.proofs.NamedTypes.{same_tells}
 use Rattle.go_type_terms.proofs.interfaces.embedded_methods.Goals as goal
 

@@ -3,7 +3,7 @@ use Rattle.go_rules.specs.Nodes.{elems_parts}
 use Rattle.go_syntax.specs.declared.types.«Type».{«Type-F» as Typ-F}
 use Rattle.go_type_terms.specs.Answers.{env_in}
 use Rattle.go_type_terms.specs.Members.{IsInterfaceOf}
-use Rattle.go_type_terms.proofs.Interfaces.{in_interface, in_methods, to_interface}
+use Rattle.go_type_terms.proofs.InterfaceTypes.{in_interface, in_methods, to_interface}
 use Rattle.go_type_terms.proofs.Handed.{handed, handed_told}
 use Rattle.go_type_terms.proofs.typing.Typing.interface.Goals as goal
 
