@@ -1,5 +1,5 @@
 -- Fields and methods, declaration by declaration.
-use Rattle.std.proofs.Common.{◌≡◌, List, [], ◌∷◌, ◌++◌, map, refl, sym, ap, ◌∙◌, subst}
+use Rattle.std.proofs.Common.{◌≡◌, List, [], ◌∷◌, ◌++◌, map, refl, sym, ap, ◌∙◌, subst, Bool, Result}
 use Rattle.go_model.specs.declared.types.term.Field.{Field}
 use Rattle.go_model.specs.declared.types.term.Method.{Method}
 use Rattle.go_syntax.specs.declared.types.FieldDecl.{FieldDecl, FieldDecl-F, out-FieldDecl}
@@ -7,7 +7,10 @@ use Rattle.go_syntax.specs.declared.types.InterfaceElem.{InterfaceElem, Interfac
 use Rattle.go_rules.specs.Environments.{Env}
 use Rattle.go_rules.specs.Expressions.{OfFields, OfMethods, fields_embedded, fields_named, fields_none, methods_embedded, methods_method, methods_none}
 use Rattle.go_rules.specs.Nodes.{ElemLayer, FieldLayer}
+use Rattle.go_rules.specs.Nodes.{elem_parts, field_parts}
+use Rattle.go_type_terms.specs.Answers.{Types}
 use Rattle.go_type_terms.specs.Members.{OfElement, OfField}
+use Rattle.go_type_terms.specs.declared.error.ExprError.{ExprError}
 
 module _ {E : Env} where
   -- the fields of a declaration, and those of the ones behind it
@@ -41,3 +44,10 @@ module _ {E : Env} where
   pub first_methods : (x : InterfaceElem) (xs : List InterfaceElem) (all : List Method) → OfMethods E (x ∷ xs) all → (now : List Method) × OfElement E (out-InterfaceElem x) now
   first_methods x xs all (methods_method e h k) = (_, subst (λ (l : ElemLayer). OfElement E l _) (sym e) (_, h, refl))
   first_methods x xs all (methods_embedded u e h f k) = (_, subst (λ (l : ElemLayer). OfElement E l _) (sym e) (u, h, f))
+
+-- a declaration and an element, by their forms
+pub by_field : (E : Env) (l k : FieldLayer) (r : Result (List Field × Bool) ExprError) → l ≡ k → Types {A = List Field} E (OfField E k) (field_parts k) r → Types {A = List Field} E (OfField E l) (field_parts l) r
+by_field E l k r e t = subst (λ (f : FieldLayer). Types {A = List Field} E (OfField E f) (field_parts f) r) (sym e) t
+
+pub by_element : (E : Env) (l k : ElemLayer) (r : Result (List Method × Bool) ExprError) → l ≡ k → Types {A = List Method} E (OfElement E k) (elem_parts k) r → Types {A = List Method} E (OfElement E l) (elem_parts l) r
+by_element E l k r e t = subst (λ (f : ElemLayer). Types {A = List Method} E (OfElement E f) (elem_parts f) r) (sym e) t
