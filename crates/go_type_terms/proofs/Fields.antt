@@ -1,11 +1,11 @@
 -- Fields and methods, declaration by declaration.
-use Rattle.std.proofs.Common.{◌≡◌, List, [], ◌∷◌, ◌++◌, map, refl, sym, ap, ◌∙◌, subst, Bool, true, false, Result}
+use Rattle.std.proofs.Common.{◌≡◌, List, [], ◌∷◌, ◌++◌, map, refl, sym, subst, Bool, true, false, Result}
 use Rattle.go_model.specs.declared.types.term.Field.{Field}
 use Rattle.go_model.specs.declared.types.term.Method.{Method}
 use Rattle.go_syntax.specs.declared.types.FieldDecl.{FieldDecl, FieldDecl-F, out-FieldDecl}
 use Rattle.go_syntax.specs.declared.types.InterfaceElem.{InterfaceElem, InterfaceElem-F, out-InterfaceElem}
 use Rattle.go_rules.specs.Environments.{Env}
-use Rattle.go_rules.specs.Expressions.{OfFields, OfMethods, field_of, starred, fields_embedded, fields_named, fields_none, methods_embedded, methods_method, methods_none}
+use Rattle.go_rules.specs.Expressions.{OfFields, OfMethods, field_of, starred, fields_embedded, fields_named, methods_embedded, methods_method}
 use Rattle.go_rules.specs.Nodes.{ElemLayer, FieldLayer}
 use Rattle.go_rules.specs.Nodes.{elem_parts, field_parts}
 use Rattle.go_type_terms.specs.Answers.{Types}

@@ -1,5 +1,5 @@
 -- What the parts of a type form stand for.
-use Rattle.std.proofs.Common.{◌≡◌, ℕ, List, [], ◌∷◌, refl, sym, ap, ◌∙◌, subst, Bool, Result}
+use Rattle.std.proofs.Common.{◌≡◌, ℕ, List, refl, sym, ap, ◌∙◌, subst, Bool, Result}
 use mathlib.Core.Bool.{true≢false}
 use Rattle.std.specs.Prelude.{pos, true, false, ◌↔◌}
 use Rattle.go_model.specs.constants.Constants.{is_representable}
@@ -10,7 +10,7 @@ use Rattle.go_model.specs.declared.types.term.Direction.{Direction}
 use Rattle.go_model.specs.declared.types.term.Direction.TheVariants as direction
 use Rattle.go_model.specs.declared.types.term.Field.{Field}
 use Rattle.go_model.specs.declared.types.term.Signature.{Signature}
-use Rattle.go_model.specs.declared.types.term.Term.{Term, Term-F, roll-Term, roll-out-Term}
+use Rattle.go_model.specs.declared.types.term.Term.{Term, roll-Term, roll-out-Term}
 use Rattle.go_model.specs.declared.types.term.Term.TheVariants as term
 use Rattle.go_model.specs.declared.types.term.Term.TheVariants.{outs-Array, outs-Chan, outs-Func, outs-Map, outs-Pointer, outs-Slice, outs-Struct}
 use Rattle.go_model.specs.types.Bounds.{IsWithinBounds}

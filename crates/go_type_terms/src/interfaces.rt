@@ -73,7 +73,7 @@ fn method(env: &Env<'_>, signed: Signed, name: &Name) -> Result<Method, NoMemory
     })
 }
 
-// The same alone.
+// A list of that method alone.
 fn method_list(
     env: &Env<'_>,
     alloc: Global,

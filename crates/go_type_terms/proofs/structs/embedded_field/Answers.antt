@@ -1,4 +1,3 @@
-use Rattle.std.proofs.Common.{true}
 use Rattle.go_rules.specs.Expressions.{IsTypeName}
 use Rattle.go_syntax.specs.declared.types.FieldDecl.{FieldDecl-F}
 use Rattle.go_type_terms.specs.Answers.{env_in}

@@ -1,4 +1,4 @@
-use Rattle.std.proofs.Common.{List, [], ◌∷◌, ◌++◌, ◌||◌, Bool, sym, subst}
+use Rattle.std.proofs.Common.{List, [], ◌∷◌, ◌||◌, Bool, sym, subst}
 use Rattle.go_rules.specs.Expressions.{OfParameters, OfSignature}
 use Rattle.go_rules.specs.Nodes.{optional_result_parts, parameter_parts, signature as signature_node}
 use Rattle.go_syntax.specs.declared.types.ParameterDecl.{ParameterDecl}
@@ -32,5 +32,5 @@ returns g c =
       to_signature_at s.result c.items.ensures c.in_ok-parameters.ensures.0 c.in_ok-results.ensures.0,
       subst (λ (b : Bool). AreLoud E (signature_node c.args.signature.now ∷ []) b) (sym c.either.ensures)
           (parts_loud E (signature_node c.args.signature.now) (λ x e. absurd (cc)) (c.in_ok-parameters.loud || c.in_ok-results.louder) (join_loud E (parameter_parts s.parameters) (optional_result_parts s.result) c.in_ok-parameters.loud c.in_ok-results.louder
-              (subst (λ (xs : List ParameterDecl). AreLoud E (parameter_parts xs) c.in_ok-parameters.loud) c.items.ensures c.in_ok-parameters.ensures.1) c.in_ok-results.ensures.1)),
+          (subst (λ (xs : List ParameterDecl). AreLoud E (parameter_parts xs) c.in_ok-parameters.loud) c.items.ensures c.in_ok-parameters.ensures.1) c.in_ok-results.ensures.1)),
     )

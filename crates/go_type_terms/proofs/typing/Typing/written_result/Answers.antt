@@ -1,4 +1,4 @@
-use Rattle.std.proofs.Common.{[], ◌∷◌, ap, ◌∙◌, sym, false}
+use Rattle.std.proofs.Common.{ap, ◌∙◌, sym, false}
 use Rattle.go_rules.specs.Expressions.{OfParameters, OfResult}
 use Rattle.go_rules.specs.Nodes.{parameter_parts}
 use Rattle.go_syntax.specs.declared.types.FuncResult.{FuncResult-F, out-FuncResult}
