@@ -1,0 +1,16 @@
+//! The frame in which a tree is typed over its parts, and the terms that type forms stand for.
+#![tactic(auto)]
+
+pub mod error;
+mod interfaces;
+mod lengths;
+mod lists;
+pub mod loud;
+mod ordered;
+pub mod part;
+pub mod signatures;
+mod structs;
+mod type_names;
+pub mod types;
+pub mod typing;
+mod universe;
