@@ -3,7 +3,6 @@ use Rattle.std.proofs.Common.{◌≡◌, ℕ, Bool, true, false, Option, Some, N
 use Rattle.go_base.specs.Lists.{Each}
 use Rattle.go_model.specs.declared.constants.value.Basic.TheVariants as basic
 use Rattle.go_model.specs.declared.types.term.Term.{Term, Term-F}
-use Rattle.go_model.specs.types.Terms.{Layer}
 use Rattle.go_model.specs.types.Underlying.{under}
 use Rattle.go_rules.specs.Environments.{Env}
 use Rattle.go_rules.specs.Expressions.{IsString, slice_of}

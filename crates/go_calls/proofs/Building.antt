@@ -1,5 +1,5 @@
 -- Calls of the other builtin functions: what they make, and where they make nothing.
-use Rattle.std.proofs.Common.{◌≡◌, ℕ, Bool, true, false, Option, Some, None, refl, sym, ap, ◌∙◌, subst, if◌then◌else◌, List, [], ◌∷◌, length, arith}
+use Rattle.std.proofs.Common.{◌≡◌, Bool, true, false, Option, Some, None, refl, sym, ap, ◌∙◌, subst, if◌then◌else◌, List, [], ◌∷◌, length, arith}
 use Rattle.go_base.specs.Lists.{Each}
 use Rattle.go_model.specs.declared.constants.value.Untyped.{Untyped}
 use Rattle.go_model.specs.declared.constants.value.Value.{Value}
@@ -10,14 +10,14 @@ use Rattle.go_model.specs.declared.types.term.Term.{Term, Term-F}
 use Rattle.go_model.specs.types.Underlying.{under}
 use Rattle.go_rules.specs.Environments.{Env}
 use Rattle.go_rules.specs.Expressions.{IsPrinted, printed_typed, printed_constant, printed_truth, sends}
-use Rattle.go_rules.specs.Operands.{IsTyped, any_term, constant_of, loose, no_value, plain}
+use Rattle.go_rules.specs.Operands.{IsTyped, any_term, constant_of, loose, no_value}
 use Rattle.go_rules.specs.Usability.{DefaultHolds, UsableAs}
 use Rattle.go_rules.specs.declared.operand.Operand.{Operand}
 use Rattle.go_rules.proofs.OneKind.{one_type}
 use Rattle.go_selectors.specs.Answers.{Decides}
 use Rattle.go_usability.specs.Answers.{Gives}
 use Rattle.go_calls.specs.Builtins.{Closes, closes, Deletes, deletes, Panics, panics, Prints, prints_each, OfOne, OfTwo, OfMore, OfAny, OfNone}
-use Rattle.go_operators.proofs.Answers.{given, given_test, false_true}
+use Rattle.go_operators.proofs.Answers.{given, given_test}
 use Rattle.go_operators.proofs.TypedOperands.{typed_by_constant}
 use Rattle.go_operators.proofs.LevelForms.{same_direction}
 use Rattle.go_calls.proofs.LevelParts.{same_key}

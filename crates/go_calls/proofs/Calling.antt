@@ -1,15 +1,13 @@
 -- Calls of functions: what they make, and where they make nothing.
-use Rattle.std.proofs.Common.{◌≡◌, ℕ, ◌<◌, ◌+◌, zero, suc, Bool, true, false, Option, Some, None, refl, sym, ap, ◌∙◌, subst, if◌then◌else◌, ◌⊎◌, inl, inr, length, List, [], ◌∷◌, ◌++◌, map, arith}
+use Rattle.std.proofs.Common.{◌≡◌, ◌<◌, Bool, true, false, Option, Some, None, refl, sym, ap, ◌∙◌, subst, ◌⊎◌, inl, inr, length, List, [], ◌∷◌, ◌++◌, map, arith}
 use Rattle.go_base.specs.Lists.{Each}
 use Rattle.go_model.specs.declared.types.term.Signature.{Signature, out-Signature}
 use Rattle.go_model.specs.declared.types.term.Term.{Term, Term-F, out-Term}
-use Rattle.go_model.specs.types.Terms.{Layer}
 use Rattle.go_model.specs.types.Underlying.{under}
 use Rattle.go_rules.specs.Environments.{Env}
 use Rattle.go_rules.specs.Expressions.{ArgumentsFit, fits_none, fits_more, fits_slice, fits_rest, results_of}
 use Rattle.go_rules.specs.Operands.{IsTyped, plain, tuple}
 use Rattle.go_rules.specs.Usability.{UsableAs, use_value, use_constant, use_truth, use_constant_as_any, use_truth_as_any, use_nil}
-use Rattle.go_rules.specs.declared.operand.Mode.{Mode}
 use Rattle.go_rules.specs.declared.operand.Mode.TheVariants as mode
 use Rattle.go_rules.specs.declared.operand.Operand.{Operand}
 use Rattle.go_rules.specs.declared.operand.Shape.{Shape}
@@ -19,7 +17,7 @@ use Rattle.go_selectors.specs.Answers.{Decides}
 use Rattle.go_usability.specs.Answers.{Gives}
 use Rattle.go_calls.specs.Functions.{CallsFunction, calls_function, Passes, passes_each, passes_results}
 use Rattle.go_calls.specs.inner.Arguments.{CallsSignature, calls_signature, CallsWith, calls_with, RestFits, rest_slice, rest_elements, UsableEach}
-use Rattle.go_operators.proofs.Answers.{decided_true, decided_false, false_true}
+use Rattle.go_operators.proofs.Answers.{decided_true, decided_false}
 use Rattle.go_calls.proofs.Callees.{typed_mode}
 use Rattle.go_calls.proofs.LevelParts.{same_element, same_function}
 

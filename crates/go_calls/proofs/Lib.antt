@@ -2,7 +2,6 @@ pub mod Appending
 pub mod Building
 pub mod Calling
 pub mod Each
-pub mod Indexing
 pub mod Callees
 pub mod LevelParts
 pub mod Making

@@ -1,8 +1,7 @@
 -- `len` and `cap`: what they make, and where they make nothing.
-use Rattle.std.proofs.Common.{◌≡◌, ℕ, Bool, true, false, ◌&&◌, not, Option, Some, None, refl, sym, ap, ◌∙◌, subst, if◌then◌else◌}
+use Rattle.std.proofs.Common.{◌≡◌, ℕ, Bool, true, false, Option, Some, None, sym, ap, ◌∙◌, subst, if◌then◌else◌}
 use Rattle.std.specs.Prelude.{pos}
 use Rattle.go_model.specs.constants.Constants.{is_representable}
-use Rattle.go_model.specs.declared.constants.value.Basic.{Basic}
 use Rattle.go_model.specs.declared.constants.value.Basic.TheVariants as basic
 use Rattle.go_model.specs.declared.constants.value.Value.{Value}
 use Rattle.go_model.specs.declared.constants.value.Value.TheVariants as value
@@ -10,15 +9,14 @@ use Rattle.go_model.specs.declared.types.term.Term.{Term, Term-F}
 use Rattle.go_model.specs.types.Terms.{Layer}
 use Rattle.go_model.specs.types.Underlying.{under}
 use Rattle.go_rules.specs.Environments.{Env}
-use Rattle.go_rules.specs.Expressions.{IsArray, array_itself, array_pointer, IsString, int_constant, is_constant, measures, has_length, has_capacity}
+use Rattle.go_rules.specs.Expressions.{IsArray, array_itself, array_pointer, IsString, int_constant, is_constant, measures}
 use Rattle.go_rules.specs.Operands.{IsTyped}
 use Rattle.go_rules.specs.declared.operand.Mode.{Mode}
 use Rattle.go_rules.specs.declared.operand.Operand.{Operand}
 use Rattle.go_rules.specs.declared.predeclared.Predeclared.{Predeclared}
 use Rattle.go_rules.specs.declared.predeclared.Predeclared.TheVariants as p
-use Rattle.go_rules.proofs.OneKind.{no_truth, one_type}
+use Rattle.go_rules.proofs.OneKind.{one_type}
 use Rattle.go_rules.proofs.OneResult.{one_length, one_string}
-use Rattle.go_selectors.specs.Answers.{Decides}
 use Rattle.go_usability.specs.Answers.{Gives}
 use Rattle.go_calls.specs.Builtins.{Measures, measures_string, measures_constant_array, measures_array, measures_value, int_value}
 use Rattle.go_calls.specs.inner.Lengths.{IntWithin, int_within, MeasuresArray, quiet_array, loud_array, MeasuresValue, value_measured, MeasuresTyped, typed_array, typed_other, MeasuresString, constant_string}

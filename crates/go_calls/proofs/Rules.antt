@@ -1,7 +1,6 @@
 -- A call of typed arguments is exactly what it makes of their operands.
-use Rattle.std.proofs.Common.{◌≡◌, ℕ, Bool, true, false, Option, None, Some, refl, sym, ap, ◌∙◌, subst, List, [], ◌∷◌, map, length}
+use Rattle.std.proofs.Common.{◌≡◌, ℕ, Bool, true, false, Option, refl, sym, ap, ◌∙◌, subst, List, [], ◌∷◌, map}
 use Rattle.std.specs.Prelude.{pos}
-use Rattle.go_base.specs.Lists.{Each}
 use Rattle.go_model.specs.constants.Constants.{is_representable}
 use Rattle.go_model.specs.declared.constants.value.Basic.TheVariants as basic
 use Rattle.go_model.specs.declared.constants.value.Value.TheVariants as value

@@ -1,6 +1,5 @@
 pub mod Appended
 pub mod Arguments
 pub mod Conversions
-pub mod Indices
 pub mod Lengths
 pub mod Made

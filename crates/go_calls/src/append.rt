@@ -10,9 +10,9 @@ ghost use Rattle.go_calls.specs.Builtins.{Appends, Copies};
 ghost use Rattle.go_calls.specs.inner.Appended.{IsBytesFrom, MayAppend, MayAppendAll, MayCopy};
 
 use crate::arguments::{sole, usable_all};
-use crate::indices::string_length;
 use go_base::boxed::Box;
 use go_base::memory::NoMemory;
+use go_elements::strings::string_length;
 use go_model::constants::value::Basic;
 use go_model::types::term::Term;
 use go_operators::levels::slice_under;

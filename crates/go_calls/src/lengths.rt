@@ -9,9 +9,9 @@ ghost use Rattle.go_usability.specs.Answers.{Gives};
 ghost use Rattle.go_calls.specs.Builtins.{Measures};
 ghost use Rattle.go_calls.specs.inner.Lengths.{IntWithin, MeasuresArray, MeasuresString, MeasuresTyped, MeasuresValue};
 
-use crate::arrays::array_length;
-use crate::indices::string_length;
 use go_const::representation::representable;
+use go_elements::arrays::array_length;
+use go_elements::strings::string_length;
 use go_model::constants::value::{Basic, Value};
 use go_model::types::package::ConstTerm;
 use go_model::types::term::Term;

@@ -4,11 +4,9 @@
 
 mod append;
 mod arguments;
-mod arrays;
 pub mod builtins;
 pub mod calls;
 pub mod functions;
-mod indices;
 pub mod laws;
 mod lengths;
 mod makes;

@@ -8,8 +8,8 @@ ghost use Rattle.go_usability.specs.Answers.{Gives};
 ghost use Rattle.go_calls.specs.Builtins.{MakesOf, News};
 ghost use Rattle.go_calls.specs.inner.Made.{FitSizes};
 
-use crate::indices::index_of;
 use go_base::memory::NoMemory;
+use go_elements::indices::index_of;
 use go_model::types::term::Term;
 use go_operators::operands::{plain, plain_where};
 use go_operators::prefixes::pointer_to;

@@ -1,5 +1,4 @@
 use Rattle.go_rules.specs.Scopes.{env_of}
-use Rattle.go_operators.proofs.Answers.{decided_true}
 use Rattle.go_calls.specs.inner.Appended.{append_bytes}
 use Rattle.go_calls.proofs.Appending.{append_decides, slice_like}
 use Rattle.go_calls.proofs.append.may_append.Goals as goal

@@ -1,5 +1,4 @@
 use Rattle.go_rules.specs.Scopes.{env_of}
-use Rattle.go_rules.specs.Usability.{UsableAs}
 use Rattle.go_calls.proofs.Each.{usable_lengths, usable_lacks, usable_next}
 use Rattle.go_calls.proofs.arguments.usable_each.Goals as goal
 
