@@ -1,0 +1,7 @@
+pub mod Chaining
+pub mod Literals
+pub mod Names
+pub mod Prefixed
+pub mod Typed
+pub mod Universe
+pub mod Walks
