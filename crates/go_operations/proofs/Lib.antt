@@ -1,5 +1,6 @@
 pub mod Chaining
 pub mod Literals
+pub mod LoudForms
 pub mod Names
 pub mod Prefixed
 pub mod Typed

@@ -1,5 +1,5 @@
 //! What names denote.
-ghost use Rattle.std.specs.Prelude.{◌≡◌, ◌×◌, ℕ, List, IfOk, Some};
+ghost use Rattle.std.specs.Prelude.{◌≡◌, ℕ, List, IfOk, Some};
 ghost use Rattle.go_base.specs.Keys.{item_of};
 ghost use Rattle.go_operations.specs.inner.Imported.{DeclaresImported};
 ghost use Rattle.go_rules.specs.Expressions.{Denotes, DenotesImported, is_blank, seen_operand};

@@ -1,5 +1,6 @@
 //! An operator before an operand.
-ghost use Rattle.std.specs.Prelude.{◌∷◌, []};
+ghost use Rattle.std.specs.Prelude.{◌≡◌, ◌∷◌, []};
+ghost use Rattle.go_operations.specs.Prefixes.{is_receive_operator};
 ghost use Rattle.go_rules.specs.Expressions.{HasForm, IsComposite};
 ghost use Rattle.go_rules.specs.Nodes.{expression};
 ghost use Rattle.go_selectors.specs.Answers.{Decides};
@@ -27,6 +28,13 @@ fn is_composite(expr: &Expr) -> bool
         Expr::Paren(inner) => is_composite(inner.value()),
         _ => false,
     }
+}
+
+/// Whether an operator is `<-`.
+pub fn is_receive(operator: PrefixOperator) -> bool
+    ensures { result ≡ is_receive_operator operator }
+{
+    matches!(operator, PrefixOperator::Receive)
 }
 
 impl<'a, F: Fn(&Context<'_>, Global, usize, Part<'_>) -> Result<Answer, ExprError>> Operations<

@@ -1,0 +1,9 @@
+pub mod Indexing
+pub mod KeyedFields
+pub mod Keys
+pub mod Pairing
+pub mod Parts
+pub mod Structs
+pub mod TextSets
+pub mod Types
+pub mod Values
