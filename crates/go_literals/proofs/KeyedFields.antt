@@ -91,6 +91,7 @@ module _ (E : Env) where
       where
         more : HasKeyed E fs (x ∷ xs) (f.name.text ∷ ns)
         more = keyed_more f.fits.takes.0 f.key f.fits.names f.fits.takes.1 f.fits.takes.2 f.is f.fits.has f.fits.takes.3 (has_keyed h m)
+
         with_name : f.name ≡ n → HasKeyed E fs (x ∷ xs) (n.text ∷ ns)
         with_name e = subst (λ (q : Name). HasKeyed E fs (x ∷ xs) (q.text ∷ ns)) e more
 

@@ -18,11 +18,14 @@ use go_type_terms::part::{Answer, Part};
 use go_usability::context::Context;
 use std::alloc::Global;
 
-impl<'a, F: Fn(&Context<'_>, Global, usize, Part<'_>) -> Result<Answer, ExprError>> Literals<'a, F> {
+impl<'a, F: Fn(&Context<'_>, Global, usize, Part<'_>) -> Result<Answer, ExprError>> Literals<
+    'a,
+    F,
+> {
     // Whether elements are those of a literal of an array type of the length.
     fn of_array(&self, length: u64, term: &Term, elements: &[Element]) -> Result<bool, ExprError>
-        requires { TypesBelow self.now.typing.context.now self.now.typing.height (F.pre self.now.typing.below) (F.post self.now.typing.below) }
-        ensures { Holds (env_in self.now.typing.context.now) (AreIndexed (env_in self.now.typing.context.now) term.now (Some length) elements.now) (element_parts elements.now) result }
+        requires { TypesBelow self.now.operations.typing.context.now self.now.operations.typing.height (F.pre self.now.operations.typing.below) (F.post self.now.operations.typing.below) }
+        ensures { Holds (env_in self.now.operations.typing.context.now) (AreIndexed (env_in self.now.operations.typing.context.now) term.now (Some length) elements.now) (element_parts elements.now) result }
     {
         let (_, loud) = self.indexed(term, Some(length), elements)?;
         Ok(loud)
@@ -30,8 +33,8 @@ impl<'a, F: Fn(&Context<'_>, Global, usize, Part<'_>) -> Result<Answer, ExprErro
 
     // Whether elements are those of a literal of a slice type.
     fn of_slice(&self, term: &Term, elements: &[Element]) -> Result<bool, ExprError>
-        requires { TypesBelow self.now.typing.context.now self.now.typing.height (F.pre self.now.typing.below) (F.post self.now.typing.below) }
-        ensures { Holds (env_in self.now.typing.context.now) (AreIndexed (env_in self.now.typing.context.now) term.now None elements.now) (element_parts elements.now) result }
+        requires { TypesBelow self.now.operations.typing.context.now self.now.operations.typing.height (F.pre self.now.operations.typing.below) (F.post self.now.operations.typing.below) }
+        ensures { Holds (env_in self.now.operations.typing.context.now) (AreIndexed (env_in self.now.operations.typing.context.now) term.now None elements.now) (element_parts elements.now) result }
     {
         let (_, loud) = self.indexed(term, None, elements)?;
         Ok(loud)
@@ -40,10 +43,10 @@ impl<'a, F: Fn(&Context<'_>, Global, usize, Part<'_>) -> Result<Answer, ExprErro
     /// Whether elements are those of a literal of the type. `Untyped` where it is no struct, array, slice or map,
     /// or one of its elements isn't one of that type.
     pub fn elements(&self, term: &Term, elements: &[Element]) -> Result<bool, ExprError>
-        requires { TypesBelow self.now.typing.context.now self.now.typing.height (F.pre self.now.typing.below) (F.post self.now.typing.below) }
-        ensures { Holds (env_in self.now.typing.context.now) (HasElements (env_in self.now.typing.context.now) term.now elements.now) (element_parts elements.now) result }
+        requires { TypesBelow self.now.operations.typing.context.now self.now.operations.typing.height (F.pre self.now.operations.typing.below) (F.post self.now.operations.typing.below) }
+        ensures { Holds (env_in self.now.operations.typing.context.now) (HasElements (env_in self.now.operations.typing.context.now) term.now elements.now) (element_parts elements.now) result }
     {
-        match self.typing.context.under(term) {
+        match self.operations.typing.context.under(term) {
             Term::Struct(fields) => self.of_struct(term, fields.items(), elements),
             Term::Array(length, element) => self.of_array(*length, element.value(), elements),
             Term::Slice(element) => self.of_slice(element.value(), elements),
@@ -54,10 +57,10 @@ impl<'a, F: Fn(&Context<'_>, Global, usize, Part<'_>) -> Result<Answer, ExprErro
 
     /// A composite literal of a type.
     pub fn composite(&self, form: &Type, elements: &[Element]) -> Result<(Operand, bool), ExprError>
-        requires { TypesBelow self.now.typing.context.now self.now.typing.height (F.pre self.now.typing.below) (F.post self.now.typing.below) }
-        ensures { Types (env_in self.now.typing.context.now) (HasForm (env_in self.now.typing.context.now) (Expr-F.Composite form.now elements.now)) (type_node form.now ∷ element_parts elements.now) result }
+        requires { TypesBelow self.now.operations.typing.context.now self.now.operations.typing.height (F.pre self.now.operations.typing.below) (F.post self.now.operations.typing.below) }
+        ensures { Types (env_in self.now.operations.typing.context.now) (HasForm (env_in self.now.operations.typing.context.now) (Expr-F.Composite form.now elements.now)) (type_node form.now ∷ element_parts elements.now) result }
     {
-        let (term, loud) = self.typing.type_below(form)?;
+        let (term, loud) = self.operations.typing.type_below(form)?;
         let louder = self.elements(&term, elements)?;
         Ok((plain(term), either(loud, louder)))
     }
@@ -68,10 +71,10 @@ impl<'a, F: Fn(&Context<'_>, Global, usize, Part<'_>) -> Result<Answer, ExprErro
         form: &Type,
         elements: &[Element],
     ) -> Result<(Operand, bool), ExprError>
-        requires { TypesBelow self.now.typing.context.now self.now.typing.height (F.pre self.now.typing.below) (F.post self.now.typing.below) }
-        ensures { Types (env_in self.now.typing.context.now) (HasForm (env_in self.now.typing.context.now) (Expr-F.CompositeArray form.now elements.now)) (type_node form.now ∷ element_parts elements.now) result }
+        requires { TypesBelow self.now.operations.typing.context.now self.now.operations.typing.height (F.pre self.now.operations.typing.below) (F.post self.now.operations.typing.below) }
+        ensures { Types (env_in self.now.operations.typing.context.now) (HasForm (env_in self.now.operations.typing.context.now) (Expr-F.CompositeArray form.now elements.now)) (type_node form.now ∷ element_parts elements.now) result }
     {
-        let (element, loud) = self.typing.boxed_below(form)?;
+        let (element, loud) = self.operations.typing.boxed_below(form)?;
         let (length, louder) = self.indexed(element.value(), None, elements)?;
         Ok((plain(Term::Array(length, element)), either(loud, louder)))
     }

@@ -57,18 +57,32 @@ fn takes(
     Ok(false)
 }
 
-impl<'a, F: Fn(&Context<'_>, Global, usize, Part<'_>) -> Result<Answer, ExprError>> Literals<'a, F> {
+impl<'a, F: Fn(&Context<'_>, Global, usize, Part<'_>) -> Result<Answer, ExprError>> Literals<
+    'a,
+    F,
+> {
     // Whether a field of the name takes the expression.
     fn named_fits(&self, fields: &[Field], name: &Name, expr: &Expr) -> Result<bool, ExprError>
-        requires { TypesBelow self.now.typing.context.now self.now.typing.height (F.pre self.now.typing.below) (F.post self.now.typing.below) }
-        ensures { Holds (env_in self.now.typing.context.now) (NamedFits (env_in self.now.typing.context.now) fields.now name.now expr.now) (expression expr.now ∷ []) result }
+        requires { TypesBelow self.now.operations.typing.context.now self.now.operations.typing.height (F.pre self.now.operations.typing.below) (F.post self.now.operations.typing.below) }
+        ensures { Holds (env_in self.now.operations.typing.context.now) (NamedFits (env_in self.now.operations.typing.context.now) fields.now name.now expr.now) (expression expr.now ∷ []) result }
     {
         if name.text.bytes() == b"_".as_slice() {
             return Err(ExprError::Untyped);
         }
-        let sel = self.typing.context.env.selector(name.text.bytes())?;
-        let (operand, loud) = self.typing.expr_below(expr)?;
-        if !takes(self.typing.context, self.typing.alloc, fields, &sel, &operand)? {
+        let sel = self
+            .operations
+            .typing
+            .context
+            .env
+            .selector(name.text.bytes())?;
+        let (operand, loud) = self.operations.typing.expr_below(expr)?;
+        if !takes(
+            self.operations.typing.context,
+            self.operations.typing.alloc,
+            fields,
+            &sel,
+            &operand,
+        )? {
             return Err(ExprError::Untyped);
         }
         Ok(loud)
@@ -76,8 +90,8 @@ impl<'a, F: Fn(&Context<'_>, Global, usize, Part<'_>) -> Result<Answer, ExprErro
 
     // Whether an element is a value of the field that its key names.
     fn keyed_fits(&self, fields: &[Field], element: &Element) -> Result<bool, ExprError>
-        requires { TypesBelow self.now.typing.context.now self.now.typing.height (F.pre self.now.typing.below) (F.post self.now.typing.below) }
-        ensures { Holds (env_in self.now.typing.context.now) (KeyedFits (env_in self.now.typing.context.now) fields.now element.now) (parts_of element.now) result }
+        requires { TypesBelow self.now.operations.typing.context.now self.now.operations.typing.height (F.pre self.now.operations.typing.below) (F.post self.now.operations.typing.below) }
+        ensures { Holds (env_in self.now.operations.typing.context.now) (KeyedFits (env_in self.now.operations.typing.context.now) fields.now element.now) (parts_of element.now) result }
     {
         let name = match field_key(element) {
             Some(name) => name,
@@ -92,8 +106,8 @@ impl<'a, F: Fn(&Context<'_>, Global, usize, Part<'_>) -> Result<Answer, ExprErro
 
     /// Whether each element is a value of the field that its key names.
     pub(crate) fn keyed(&self, fields: &[Field], elements: &[Element]) -> Result<bool, ExprError>
-        requires { TypesBelow self.now.typing.context.now self.now.typing.height (F.pre self.now.typing.below) (F.post self.now.typing.below) }
-        ensures { Holds (env_in self.now.typing.context.now) (EachKeyed (env_in self.now.typing.context.now) fields.now elements.now) (element_parts elements.now) result }
+        requires { TypesBelow self.now.operations.typing.context.now self.now.operations.typing.height (F.pre self.now.operations.typing.below) (F.post self.now.operations.typing.below) }
+        ensures { Holds (env_in self.now.operations.typing.context.now) (EachKeyed (env_in self.now.operations.typing.context.now) fields.now elements.now) (element_parts elements.now) result }
     {
         let mut loud = false;
         for element in elements {

@@ -31,7 +31,10 @@ fn behind(place: u64) -> Result<u64, ExprError>
     }
 }
 
-impl<'a, F: Fn(&Context<'_>, Global, usize, Part<'_>) -> Result<Answer, ExprError>> Literals<'a, F> {
+impl<'a, F: Fn(&Context<'_>, Global, usize, Part<'_>) -> Result<Answer, ExprError>> Literals<
+    'a,
+    F,
+> {
     // The place of an element that is a value of the type.
     fn indexed_fits(
         &self,
@@ -40,8 +43,8 @@ impl<'a, F: Fn(&Context<'_>, Global, usize, Part<'_>) -> Result<Answer, ExprErro
         next: u64,
         element: &Element,
     ) -> Result<(u64, bool), ExprError>
-        requires { TypesBelow self.now.typing.context.now self.now.typing.height (F.pre self.now.typing.below) (F.post self.now.typing.below) }
-        ensures { Types (env_in self.now.typing.context.now) (IndexedFits (env_in self.now.typing.context.now) term.now limit next element.now) (parts_of element.now) result }
+        requires { TypesBelow self.now.operations.typing.context.now self.now.operations.typing.height (F.pre self.now.operations.typing.below) (F.post self.now.operations.typing.below) }
+        ensures { Types (env_in self.now.operations.typing.context.now) (IndexedFits (env_in self.now.operations.typing.context.now) term.now limit next element.now) (parts_of element.now) result }
     {
         let (place, loud) = self.place(limit, next, &element.key)?;
         let louder = self.element_fits(term, &element.value)?;
@@ -55,8 +58,8 @@ impl<'a, F: Fn(&Context<'_>, Global, usize, Part<'_>) -> Result<Answer, ExprErro
         limit: Option<u64>,
         elements: &[Element],
     ) -> Result<(u64, bool), ExprError>
-        requires { TypesBelow self.now.typing.context.now self.now.typing.height (F.pre self.now.typing.below) (F.post self.now.typing.below) }
-        ensures { Types (env_in self.now.typing.context.now) (HasIndexed (env_in self.now.typing.context.now) term.now limit 0 elements.now) (element_parts elements.now) result }
+        requires { TypesBelow self.now.operations.typing.context.now self.now.operations.typing.height (F.pre self.now.operations.typing.below) (F.post self.now.operations.typing.below) }
+        ensures { Types (env_in self.now.operations.typing.context.now) (HasIndexed (env_in self.now.operations.typing.context.now) term.now limit 0 elements.now) (element_parts elements.now) result }
     {
         let mut next = 0;
         let mut greatest = 0;

@@ -40,18 +40,21 @@ fn next_place(context: &Context<'_>, next: u64) -> Option<u64>
     }
 }
 
-impl<'a, F: Fn(&Context<'_>, Global, usize, Part<'_>) -> Result<Answer, ExprError>> Literals<'a, F> {
+impl<'a, F: Fn(&Context<'_>, Global, usize, Part<'_>) -> Result<Answer, ExprError>> Literals<
+    'a,
+    F,
+> {
     // The constant index that a key is.
     fn key_index(&self, key: &ElementValue) -> Result<(u64, bool), ExprError>
-        requires { TypesBelow self.now.typing.context.now self.now.typing.height (F.pre self.now.typing.below) (F.post self.now.typing.below) }
-        ensures { Types (env_in self.now.typing.context.now) (IsKeyIndex (env_in self.now.typing.context.now) key.now) (value_node key.now ∷ []) result }
+        requires { TypesBelow self.now.operations.typing.context.now self.now.operations.typing.height (F.pre self.now.operations.typing.below) (F.post self.now.operations.typing.below) }
+        ensures { Types (env_in self.now.operations.typing.context.now) (IsKeyIndex (env_in self.now.operations.typing.context.now) key.now) (value_node key.now ∷ []) result }
     {
         let expr = match expr_alone(key) {
             Some(expr) => expr,
             None => return Err(ExprError::Untyped),
         };
-        let (operand, loud) = self.typing.expr_below(expr)?;
-        match constant_index(self.typing.context, &operand) {
+        let (operand, loud) = self.operations.typing.expr_below(expr)?;
+        match constant_index(self.operations.typing.context, &operand) {
             Some(index) => Ok((index, loud)),
             None => Err(ExprError::Untyped),
         }
@@ -59,12 +62,12 @@ impl<'a, F: Fn(&Context<'_>, Global, usize, Part<'_>) -> Result<Answer, ExprErro
 
     // The place of an element.
     fn place_of(&self, next: u64, key: &Option<ElementValue>) -> Result<(u64, bool), ExprError>
-        requires { TypesBelow self.now.typing.context.now self.now.typing.height (F.pre self.now.typing.below) (F.post self.now.typing.below) }
-        ensures { Types (env_in self.now.typing.context.now) (IsPlace (env_in self.now.typing.context.now) key.now next) (optional value_node key.now) result }
+        requires { TypesBelow self.now.operations.typing.context.now self.now.operations.typing.height (F.pre self.now.operations.typing.below) (F.post self.now.operations.typing.below) }
+        ensures { Types (env_in self.now.operations.typing.context.now) (IsPlace (env_in self.now.operations.typing.context.now) key.now next) (optional value_node key.now) result }
     {
         match key {
             Some(key) => self.key_index(key),
-            None => match next_place(self.typing.context, next) {
+            None => match next_place(self.operations.typing.context, next) {
                 Some(place) => Ok((place, false)),
                 None => Err(ExprError::Untyped),
             },
@@ -80,8 +83,8 @@ impl<'a, F: Fn(&Context<'_>, Global, usize, Part<'_>) -> Result<Answer, ExprErro
         next: u64,
         key: &Option<ElementValue>,
     ) -> Result<(u64, bool), ExprError>
-        requires { TypesBelow self.now.typing.context.now self.now.typing.height (F.pre self.now.typing.below) (F.post self.now.typing.below) }
-        ensures { Types (env_in self.now.typing.context.now) (IsPlaceWithin (env_in self.now.typing.context.now) limit next key.now) (optional value_node key.now) result }
+        requires { TypesBelow self.now.operations.typing.context.now self.now.operations.typing.height (F.pre self.now.operations.typing.below) (F.post self.now.operations.typing.below) }
+        ensures { Types (env_in self.now.operations.typing.context.now) (IsPlaceWithin (env_in self.now.operations.typing.context.now) limit next key.now) (optional value_node key.now) result }
     {
         let (place, loud) = self.place_of(next, key)?;
         if !is_below(Some(place), limit) {

@@ -10,4 +10,4 @@ mod once;
 mod pairs;
 mod structs;
 mod unkeyed;
-mod values;
+pub mod values;

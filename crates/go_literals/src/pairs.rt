@@ -13,11 +13,14 @@ use go_type_terms::part::{Answer, Part};
 use go_usability::context::Context;
 use std::alloc::Global;
 
-impl<'a, F: Fn(&Context<'_>, Global, usize, Part<'_>) -> Result<Answer, ExprError>> Literals<'a, F> {
+impl<'a, F: Fn(&Context<'_>, Global, usize, Part<'_>) -> Result<Answer, ExprError>> Literals<
+    'a,
+    F,
+> {
     // Whether an element is a key and a value of the types.
     fn pair_fits(&self, key: &Term, term: &Term, element: &Element) -> Result<bool, ExprError>
-        requires { TypesBelow self.now.typing.context.now self.now.typing.height (F.pre self.now.typing.below) (F.post self.now.typing.below) }
-        ensures { Holds (env_in self.now.typing.context.now) (PairFits (env_in self.now.typing.context.now) key.now term.now element.now) (parts_of element.now) result }
+        requires { TypesBelow self.now.operations.typing.context.now self.now.operations.typing.height (F.pre self.now.operations.typing.below) (F.post self.now.operations.typing.below) }
+        ensures { Holds (env_in self.now.operations.typing.context.now) (PairFits (env_in self.now.operations.typing.context.now) key.now term.now element.now) (parts_of element.now) result }
     {
         let value = match &element.key {
             Some(value) => value,
@@ -35,8 +38,8 @@ impl<'a, F: Fn(&Context<'_>, Global, usize, Part<'_>) -> Result<Answer, ExprErro
         term: &Term,
         elements: &[Element],
     ) -> Result<bool, ExprError>
-        requires { TypesBelow self.now.typing.context.now self.now.typing.height (F.pre self.now.typing.below) (F.post self.now.typing.below) }
-        ensures { Holds (env_in self.now.typing.context.now) (HasPairs (env_in self.now.typing.context.now) key.now term.now elements.now) (element_parts elements.now) result }
+        requires { TypesBelow self.now.operations.typing.context.now self.now.operations.typing.height (F.pre self.now.operations.typing.below) (F.post self.now.operations.typing.below) }
+        ensures { Holds (env_in self.now.operations.typing.context.now) (HasPairs (env_in self.now.operations.typing.context.now) key.now term.now elements.now) (element_parts elements.now) result }
     {
         let mut loud = false;
         for element in elements {

@@ -58,13 +58,16 @@ fn names_fields(elements: &[Element]) -> bool
     }
 }
 
-impl<'a, F: Fn(&Context<'_>, Global, usize, Part<'_>) -> Result<Answer, ExprError>> Literals<'a, F> {
+impl<'a, F: Fn(&Context<'_>, Global, usize, Part<'_>) -> Result<Answer, ExprError>> Literals<
+    'a,
+    F,
+> {
     // Whether elements are values of fields by their names.
     fn all_keyed(&self, fields: &[Field], elements: &[Element]) -> Result<bool, ExprError>
-        requires { TypesBelow self.now.typing.context.now self.now.typing.height (F.pre self.now.typing.below) (F.post self.now.typing.below) }
-        ensures { Holds (env_in self.now.typing.context.now) (AreKeyed (env_in self.now.typing.context.now) fields.now elements.now) (element_parts elements.now) result }
+        requires { TypesBelow self.now.operations.typing.context.now self.now.operations.typing.height (F.pre self.now.operations.typing.below) (F.post self.now.operations.typing.below) }
+        ensures { Holds (env_in self.now.operations.typing.context.now) (AreKeyed (env_in self.now.operations.typing.context.now) fields.now elements.now) (element_parts elements.now) result }
     {
-        if !are_keyed_once(self.typing.alloc, elements)? {
+        if !are_keyed_once(self.operations.typing.alloc, elements)? {
             return Err(ExprError::Untyped);
         }
         self.keyed(fields, elements)
@@ -77,10 +80,10 @@ impl<'a, F: Fn(&Context<'_>, Global, usize, Part<'_>) -> Result<Answer, ExprErro
         fields: &[Field],
         elements: &[Element],
     ) -> Result<bool, ExprError>
-        requires { TypesBelow self.now.typing.context.now self.now.typing.height (F.pre self.now.typing.below) (F.post self.now.typing.below) }
-        ensures { Holds (env_in self.now.typing.context.now) (AreUnkeyed (env_in self.now.typing.context.now) term.now fields.now elements.now) (element_parts elements.now) result }
+        requires { TypesBelow self.now.operations.typing.context.now self.now.operations.typing.height (F.pre self.now.operations.typing.below) (F.post self.now.operations.typing.below) }
+        ensures { Holds (env_in self.now.operations.typing.context.now) (AreUnkeyed (env_in self.now.operations.typing.context.now) term.now fields.now elements.now) (element_parts elements.now) result }
     {
-        if !may_be_unkeyed(self.typing.context, term) {
+        if !may_be_unkeyed(self.operations.typing.context, term) {
             return Err(ExprError::Untyped);
         }
         self.unkeyed(fields, elements)
@@ -93,8 +96,8 @@ impl<'a, F: Fn(&Context<'_>, Global, usize, Part<'_>) -> Result<Answer, ExprErro
         fields: &[Field],
         elements: &[Element],
     ) -> Result<bool, ExprError>
-        requires { TypesBelow self.now.typing.context.now self.now.typing.height (F.pre self.now.typing.below) (F.post self.now.typing.below) }
-        ensures { Holds (env_in self.now.typing.context.now) (StructFits (env_in self.now.typing.context.now) term.now fields.now elements.now) (element_parts elements.now) result }
+        requires { TypesBelow self.now.operations.typing.context.now self.now.operations.typing.height (F.pre self.now.operations.typing.below) (F.post self.now.operations.typing.below) }
+        ensures { Holds (env_in self.now.operations.typing.context.now) (StructFits (env_in self.now.operations.typing.context.now) term.now fields.now elements.now) (element_parts elements.now) result }
     {
         if names_fields(elements) {
             self.all_keyed(fields, elements)

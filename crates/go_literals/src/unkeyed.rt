@@ -27,16 +27,19 @@ fn is_reachable(context: &Context<'_>, field: &Field) -> bool
     field.sel.package.bytes() == context.env.path()
 }
 
-impl<'a, F: Fn(&Context<'_>, Global, usize, Part<'_>) -> Result<Answer, ExprError>> Literals<'a, F> {
+impl<'a, F: Fn(&Context<'_>, Global, usize, Part<'_>) -> Result<Answer, ExprError>> Literals<
+    'a,
+    F,
+> {
     // Whether an element, without a key, is a value of the field.
     fn unkeyed_fits(&self, field: &Field, element: &Element) -> Result<bool, ExprError>
-        requires { TypesBelow self.now.typing.context.now self.now.typing.height (F.pre self.now.typing.below) (F.post self.now.typing.below) }
-        ensures { Holds (env_in self.now.typing.context.now) (UnkeyedFits (env_in self.now.typing.context.now) field.now element.now) (parts_of element.now) result }
+        requires { TypesBelow self.now.operations.typing.context.now self.now.operations.typing.height (F.pre self.now.operations.typing.below) (F.post self.now.operations.typing.below) }
+        ensures { Holds (env_in self.now.operations.typing.context.now) (UnkeyedFits (env_in self.now.operations.typing.context.now) field.now element.now) (parts_of element.now) result }
     {
         if element.key.is_some() {
             return Err(ExprError::Untyped);
         }
-        if !is_reachable(self.typing.context, field) {
+        if !is_reachable(self.operations.typing.context, field) {
             return Err(ExprError::Untyped);
         }
         let expr = match expr_alone(&element.value) {
@@ -48,8 +51,8 @@ impl<'a, F: Fn(&Context<'_>, Global, usize, Part<'_>) -> Result<Answer, ExprErro
 
     /// Whether there is a value for each field in order.
     pub(crate) fn unkeyed(&self, fields: &[Field], elements: &[Element]) -> Result<bool, ExprError>
-        requires { TypesBelow self.now.typing.context.now self.now.typing.height (F.pre self.now.typing.below) (F.post self.now.typing.below) }
-        ensures { Holds (env_in self.now.typing.context.now) (HasUnkeyed (env_in self.now.typing.context.now) fields.now elements.now) (element_parts elements.now) result }
+        requires { TypesBelow self.now.operations.typing.context.now self.now.operations.typing.height (F.pre self.now.operations.typing.below) (F.post self.now.operations.typing.below) }
+        ensures { Holds (env_in self.now.operations.typing.context.now) (HasUnkeyed (env_in self.now.operations.typing.context.now) fields.now elements.now) (element_parts elements.now) result }
     {
         if fields.len() != elements.len() {
             return Err(ExprError::Untyped);
