@@ -1,6 +1,6 @@
 -- Names of imported packages before a selector.
 -- Public source: Go specification, "Qualified identifiers".
-use Rattle.std.specs.Prelude.{◌≡◌, ℕ, List, [], ◌∷◌, Option, Some, None}
+use Rattle.std.specs.Prelude.{◌≡◌, ℕ, List, Option, Some, None}
 use denote.Ref.{Bor}
 use Rattle.go_rules.specs.Environments.{Env}
 use Rattle.go_rules.specs.Expressions.{DenotesImported}
@@ -16,14 +16,9 @@ abbrev pub names_of : Option (Bor Name × Bor Name) → Option (Name × Name)
 names_of None = None
 names_of (Some ns) = Some (ns.0.now, ns.1.now)
 
--- the post selects the name
-abbrev pub Selects : List Post → Name → Type 0
-Selects [] n = ⊥
-Selects (x ∷ xs) n = out-Post x ≡ Post-F.Selector n
-
--- the operand is the name of an imported package, and what follows it begins with a selector of the other name
-abbrev pub IsQualified : Env → Expr → List Post → Name × Name → Type 0
-IsQualified E e ps ns = (out-Expr e ≡ Expr-F.Name ns.0) × Selects ps ns.1 × (path : List ℕ) × (E.meaning ns.0.text ≡ Some (seen.Import path))
+-- the operand is the name of an imported package, and the post selects the other name
+abbrev pub IsQualified : Env → Expr → Post → Name × Name → Type 0
+IsQualified E e x ns = (out-Expr e ≡ Expr-F.Name ns.0) × (out-Post x ≡ Post-F.Selector ns.1) × (path : List ℕ) × (E.meaning ns.0.text ≡ Some (seen.Import path))
 
 -- the object of the imported package is this operand, within bounds
 abbrev pub ImportedWithin : Env → Name → Name → Operand → Type 0

@@ -42,7 +42,7 @@ impl<'a, F: Fn(&Context<'_>, Global, usize, Part<'_>) -> Result<Answer, ExprErro
     // The type of channels of an element type that can only be received from, as an argument.
     fn receive_type(&self, element: &Type) -> Result<(Operand, bool), ExprError>
         requires { TypesBelow self.now.literals.operations.typing.context.now self.now.literals.operations.typing.height (F.pre self.now.literals.operations.typing.below) (F.post self.now.literals.operations.typing.below) }
-        ensures { Types (env_in self.now.literals.operations.typing.context.now) (Has (env_in self.now.literals.operations.typing.context.now) (receive_type element.now)) (expression (receive_type element.now) ∷ []) result }
+        ensures { Types (env_in self.now.literals.operations.typing.context.now) (Has (env_in self.now.literals.operations.typing.context.now) (receive_type element.now)) (type_node element.now ∷ []) result }
     {
         let (term, loud) = self
             .literals
@@ -70,7 +70,7 @@ impl<'a, F: Fn(&Context<'_>, Global, usize, Part<'_>) -> Result<Answer, ExprErro
         exprs: &[Expr],
     ) -> Result<(List<Operand>, bool), ExprError>
         requires { TypesBelow self.now.literals.operations.typing.context.now self.now.literals.operations.typing.height (F.pre self.now.literals.operations.typing.below) (F.post self.now.literals.operations.typing.below) }
-        ensures { Types (env_in self.now.literals.operations.typing.context.now) (HasEach (env_in self.now.literals.operations.typing.context.now) (receive_type element.now ∷ exprs.now)) (map expression (receive_type element.now ∷ exprs.now)) result }
+        ensures { Types (env_in self.now.literals.operations.typing.context.now) (HasEach (env_in self.now.literals.operations.typing.context.now) (receive_type element.now ∷ exprs.now)) (type_node element.now ∷ map expression exprs.now) result }
     {
         let (first, loud) = self.receive_type(element)?;
         let mut before = List::new(self.literals.operations.typing.alloc);

@@ -1,9 +1,8 @@
 //! Calls after an operand.
 ghost use Rattle.std.specs.Prelude.{◌∷◌, map};
-ghost use Rattle.go_expr.specs.Arguments.{receive_type};
 ghost use Rattle.go_calls.specs.Calls.{Calls};
 ghost use Rattle.go_rules.specs.Expressions.{HasPost};
-ghost use Rattle.go_rules.specs.Nodes.{expression};
+ghost use Rattle.go_rules.specs.Nodes.{expression, type as type_node};
 ghost use Rattle.go_syntax.specs.declared.expression.Post.{Post-F};
 ghost use Rattle.go_type_terms.specs.Answers.{Tells, Types, TypesBelow, env_in};
 
@@ -66,7 +65,7 @@ impl<'a, F: Fn(&Context<'_>, Global, usize, Part<'_>) -> Result<Answer, ExprErro
         dots: bool,
     ) -> Result<(Operand, bool), ExprError>
         requires { TypesBelow self.now.literals.operations.typing.context.now self.now.literals.operations.typing.height (F.pre self.now.literals.operations.typing.below) (F.post self.now.literals.operations.typing.below) }
-        ensures { Types (env_in self.now.literals.operations.typing.context.now) (HasPost (env_in self.now.literals.operations.typing.context.now) operand.now (Post-F.CallReceiveChan element.now exprs.now dots)) (map expression (receive_type element.now ∷ exprs.now)) result }
+        ensures { Types (env_in self.now.literals.operations.typing.context.now) (HasPost (env_in self.now.literals.operations.typing.context.now) operand.now (Post-F.CallReceiveChan element.now exprs.now dots)) (type_node element.now ∷ map expression exprs.now) result }
     {
         let (operands, loud) = self.arguments_after_type(element, exprs)?;
         let result = called(

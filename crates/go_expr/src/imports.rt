@@ -32,13 +32,13 @@ fn selector_alone(post: &Post) -> Option<&Name>
     }
 }
 
-/// The name of an imported package that an operand is, where a selector follows it, and that selector's name.
+/// The name of an imported package that an operand is, where a post selects a name, and that name.
 pub(crate) fn imported_name<'p>(
     context: &Context<'_>,
     operand: &'p Expr,
-    posts: &'p [Post],
+    post: &'p Post,
 ) -> Option<(&'p Name, &'p Name)>
-    ensures { Gives (IsQualified (env_in context.now) operand.now posts.now) (names_of result) }
+    ensures { Gives (IsQualified (env_in context.now) operand.now post.now) (names_of result) }
 {
     let package = match name_alone(operand) {
         Some(name) => name,
@@ -47,10 +47,6 @@ pub(crate) fn imported_name<'p>(
     if !names_import(context, package) {
         return None;
     }
-    let post = match posts.first() {
-        Some(post) => post,
-        None => return None,
-    };
     match selector_alone(post) {
         Some(name) => Some((package, name)),
         None => None,

@@ -6,7 +6,7 @@ use Rattle.go_base.specs.declared.operator.PrefixOperator.TheVariants as prefix
 use Rattle.go_syntax.specs.declared.expression.Expr.{Expr, Expr-F, out-Expr}
 use Rattle.go_syntax.specs.declared.expression.Post.{Post}
 use Rattle.go_rules.specs.Environments.{Env}
-use Rattle.go_rules.specs.Expressions.{CallsAt, calls_at, is_receive}
+use Rattle.go_rules.specs.Expressions.{CallsAt, calls_at, IsQuietCall, is_receive}
 use Rattle.go_rules.specs.Nodes.{ExprLayer, Node, Stands, stands_here, stands_in, expression_parts, parts, expression}
 use Rattle.go_type_terms.specs.Loudness.{AreLoud, Loud, loud_receive, loud_call, Quiet}
 use Rattle.go_operations.specs.Prefixes.{is_receive_operator}
@@ -35,18 +35,18 @@ module _ (E : Env) where
   pub alone_loud : (n : Node) → Loud E n → AreLoud E (n ∷ []) true
   alone_loud n l = (n, inl refl, l)
 
-  -- an expression that is no receive, and in which no call stands but in its parts
-  pub quiet_by_parts : (e : Expr) → is_receive (out-Expr e) ≡ false → ((x : Expr) (before : List Post) (c : Post) → CallsAt e x before c → ⊥)
+  -- an expression that is no receive, whose own calls are quiet, and whose parts are
+  pub quiet_by_parts : (e : Expr) → is_receive (out-Expr e) ≡ false → ((x : Expr) (before : List Post) (c : Post) → CallsAt e x before c → IsQuietCall E x before c)
       → ((m : Node) → In (parts (expression e)) m → Quiet E m) → Quiet E (expression e)
-  quiet_by_parts e r none q = record {
+  quiet_by_parts e r calls q = record {
     receives = λ x s. elim (stands s) [ inl i ↦ subst (λ (y : Expr). is_receive (out-Expr y) ≡ false) (same_expr i) r | inr t ↦ (q t.0 t.1).receives x t.2 ];
-    calls = λ y x before c s at. elim (stands s) [ inl i ↦ absurd (none x before c (subst (λ (w : Expr). CallsAt w x before c) (sym (same_expr i)) at)) | inr t ↦ (q t.0 t.1).calls y x before c t.2 at ];
+    calls = λ y x before c s at. elim (stands s) [ inl i ↦ calls x before c (subst (λ (w : Expr). CallsAt w x before c) (sym (same_expr i)) at) | inr t ↦ (q t.0 t.1).calls y x before c t.2 at ];
   }
 
   whole_loud : (e : Expr) → is_receive (out-Expr e) ≡ false → ((x : Expr) (before : List Post) (c : Post) → CallsAt e x before c → ⊥)
       → (b : Bool) → AreLoud E (parts (expression e)) b → AreLoud E (expression e ∷ []) b
   whole_loud e r none true h = alone_loud (expression e) (raised (expression e) h.0 h.1 h.2)
-  whole_loud e r none false h = alone_quiet (expression e) (quiet_by_parts e r none h)
+  whole_loud e r none false h = alone_quiet (expression e) (quiet_by_parts e r (λ x before c at. absurd (none x before c at)) h)
 
   -- the forms other than a receive and an operand with what follows it
   abbrev pub IsPlainForm : ExprLayer → Type 0
