@@ -1,0 +1,10 @@
+pub mod Arrays
+pub mod Asserting
+pub mod Bounds
+pub mod Elements
+pub mod Indices
+pub mod LevelParts
+pub mod Posts
+pub mod Selecting
+pub mod Slicing
+pub mod Strings

@@ -1,0 +1,160 @@
+//! Selectors after an operand.
+ghost use Rattle.std.specs.Prelude.{◌≡◌, ◌∷◌, IfOk};
+ghost use Rattle.go_rules.specs.Expressions.{is_blank, with_receiver};
+ghost use Rattle.go_rules.specs.Operands.{function_of, plain};
+ghost use Rattle.go_rules.specs.Scopes.{env_of};
+ghost use Rattle.go_usability.specs.Answers.{Gives};
+ghost use Rattle.go_elements.specs.Selections.{Selects};
+ghost use Rattle.go_elements.specs.inner.Selected.{SelectsFunction, SelectsIn, SelectsMethod};
+
+use crate::elements::reached;
+use go_base::list::List;
+use go_base::memory::NoMemory;
+use go_model::types::found::Found;
+use go_model::types::names::Sel;
+use go_model::types::term::{Signature, Term};
+use go_operators::operands::{plain, value_of};
+use go_operators::values::{is_variable, type_in, type_of};
+use go_rules::operand::Operand;
+use go_usability::context::Context;
+use go_usability::finding::{found, has_method};
+use std::alloc::Global;
+
+fn is_blank(name: &[u8]) -> bool
+    ensures { result ≡ is_blank name.now }
+{
+    name == b"_".as_slice()
+}
+
+fn copy_terms(alloc: Global, terms: &[Term]) -> Result<List<Term>, NoMemory>
+    ensures { IfOk result (λ copied. copied ≡ terms.now) }
+{
+    let mut copied = List::new(alloc);
+    for term in terms {
+        copied.push(term.copy(alloc)?)?;
+    }
+    Ok(copied)
+}
+
+// A type, and others after it.
+fn before(alloc: Global, term: &Term, terms: &[Term]) -> Result<List<Term>, NoMemory>
+    ensures { IfOk result (λ copied. copied ≡ term.now ∷ terms.now) }
+{
+    let mut copied = List::new(alloc);
+    copied.push(term.copy(alloc)?)?;
+    for other in terms {
+        copied.push(other.copy(alloc)?)?;
+    }
+    Ok(copied)
+}
+
+// The signature of a method expression.
+fn with_receiver(alloc: Global, term: &Term, signature: &Signature) -> Result<Signature, NoMemory>
+    ensures { IfOk result (λ received. received ≡ with_receiver term.now signature.now) }
+{
+    let params = before(alloc, term, signature.params.items())?;
+    let results = copy_terms(alloc, signature.results.items())?;
+    Ok(Signature {
+        params,
+        variadic: signature.variadic,
+        results,
+    })
+}
+
+fn function_value(signature: Signature) -> Operand
+    ensures { result ≡ plain (function_of signature) }
+{
+    plain(Term::Func(signature))
+}
+
+// A method of a type as a function.
+fn select_function(
+    context: &Context<'_>,
+    alloc: Global,
+    term: &Term,
+    sel: &Sel,
+) -> Result<Option<Operand>, NoMemory>
+    ensures { IfOk result (Gives (SelectsFunction (env_of context.now.env.now) sel.now term.now)) }
+{
+    match has_method(context, alloc, false, term, sel)? {
+        Some(signature) => {
+            let received = with_receiver(alloc, term, &signature)?;
+            Ok(Some(function_value(received)))
+        }
+        None => Ok(None),
+    }
+}
+
+// A method that a value of a type has.
+fn select_method(
+    context: &Context<'_>,
+    alloc: Global,
+    addressable: bool,
+    term: &Term,
+    sel: &Sel,
+) -> Result<Option<Operand>, NoMemory>
+    ensures { IfOk result (Gives (SelectsMethod (env_of context.now.env.now) sel.now addressable term.now)) }
+{
+    match has_method(context, alloc, addressable, term, sel)? {
+        Some(signature) => Ok(Some(function_value(signature))),
+        None => Ok(None),
+    }
+}
+
+// A field or method of a value of a type.
+fn select_in(
+    context: &Context<'_>,
+    alloc: Global,
+    addressable: bool,
+    term: &Term,
+    sel: &Sel,
+) -> Result<Option<Operand>, NoMemory>
+    ensures { IfOk result (Gives (SelectsIn (env_of context.now.env.now) sel.now addressable term.now)) }
+{
+    let answer = found(context, alloc, term, sel)?;
+    match &answer {
+        Some(Found::FieldAt(field)) => {
+            let mode = reached(if field.through_pointer {
+                true
+            } else {
+                addressable
+            });
+            let copied = field.term.copy(alloc)?;
+            Ok(Some(value_of(mode, copied)))
+        }
+        Some(Found::MethodAt(_)) => {
+            let method = select_method(context, alloc, addressable, term, sel)?;
+            Ok(method)
+        }
+        Some(Found::Ambiguous) => Ok(None),
+        Some(Found::Nothing) => Ok(None),
+        None => Ok(None),
+    }
+}
+
+/// What a selector makes of an operand: the field or method of a value, or a method of a type as a
+/// function of its receiver. It is None exactly where the name is blank, or finds neither in the type.
+pub fn select(
+    context: &Context<'_>,
+    alloc: Global,
+    operand: &Operand,
+    name: &[u8],
+) -> Result<Option<Operand>, NoMemory>
+    ensures { IfOk result (Gives (Selects (env_of context.now.env.now) name.now operand.now)) }
+{
+    if is_blank(name) {
+        return Ok(None);
+    }
+    let sel = context.env.selector(name)?;
+    if let Some(term) = type_in(operand) {
+        let function = select_function(context, alloc, term, &sel)?;
+        return Ok(function);
+    }
+    match type_of(operand) {
+        Some(term) => {
+            let answer = select_in(context, alloc, is_variable(operand.mode), term, &sel)?;
+            Ok(answer)
+        }
+        None => Ok(None),
+    }
+}
