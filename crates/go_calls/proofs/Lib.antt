@@ -1,0 +1,10 @@
+pub mod Appending
+pub mod Building
+pub mod Calling
+pub mod Each
+pub mod Indexing
+pub mod Kinds
+pub mod LevelParts
+pub mod Making
+pub mod Measuring
+pub mod Rules

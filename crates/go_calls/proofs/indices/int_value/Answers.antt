@@ -1,0 +1,7 @@
+use Rattle.go_rules.specs.Scopes.{env_of}
+use Rattle.std.proofs.Common.{sym}
+use Rattle.go_calls.proofs.Indexing.{int_out}
+use Rattle.go_calls.proofs.indices.int_value.Goals as goal
+
+pub returns-then-not-representable : goal.returns-then-not-representable
+returns-then-not-representable c = int_out (env_of c.args.context.now.env.now) c.args.value.now c.bits.result c.bits.ensures.bits (sym c.if-not-representable.ensures)

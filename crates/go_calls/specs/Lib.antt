@@ -1,0 +1,4 @@
+pub mod Builtins
+pub mod Calls
+pub mod Functions
+pub mod inner
