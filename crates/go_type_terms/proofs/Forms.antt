@@ -1,6 +1,7 @@
 -- What the parts of a type form stand for.
 use Rattle.std.proofs.Common.{◌≡◌, ℕ, List, [], ◌∷◌, refl, sym, ap, ◌∙◌, subst, Bool, Result}
-use Rattle.std.specs.Prelude.{pos, true}
+use mathlib.Core.Bool.{true≢false}
+use Rattle.std.specs.Prelude.{pos, true, false, ◌↔◌}
 use Rattle.go_model.specs.constants.Constants.{is_representable}
 use Rattle.go_model.specs.declared.constants.value.Basic.TheVariants as basic
 use Rattle.go_model.specs.declared.constants.value.Value.TheVariants as value
@@ -22,6 +23,7 @@ use Rattle.go_rules.specs.Environments.{Env}
 use Rattle.go_rules.specs.Expressions.{Has, IsTypeName, OfFields, OfForm, OfSignature, OfType, of_type, of_name, of_paren, of_pointer, of_slice, of_array, of_map, of_channel, of_send_channel, of_receive_channel, of_function, of_struct, channel_of}
 use Rattle.go_rules.specs.Nodes.{TypeLayer, type_parts}
 use Rattle.go_rules.specs.Operands.{constant_of}
+use Rattle.go_rules.proofs.OneOperand.{of_once}
 use Rattle.go_type_terms.specs.Answers.{Types}
 use Rattle.go_type_terms.specs.Results.{IsChannelOf}
 use Rattle.go_type_terms.specs.declared.error.ExprError.{ExprError}
@@ -29,6 +31,10 @@ use Rattle.go_type_terms.specs.declared.error.ExprError.{ExprError}
 module _ {E : Env} where
   pub in_type : {t : Typ} {u : Term} → OfType E t u → OfForm E (out-Typ t) u × IsWithinBounds u
   in_type (of_type f w) = (f, w)
+
+  -- a type beyond the bounds is no form's
+  pub beyond : (t : Typ) (u : Term) (within : Bool) → OfForm E (out-Typ t) u → ((within ≡ true) ↔ IsWithinBounds u) → within ≡ false → (v : Term) → OfType E t v → ⊥
+  beyond t u within h d e v k = true≢false (sym (d.1 (subst IsWithinBounds (of_once E (in_type k).0 h) (in_type k).1)) ∙ e)
 
   pub in_name : {q : QualifiedName} {u : Term} → OfForm E (Typ-F.«Type::Named» q) u → IsTypeName E q u
   in_name (of_name h) = h

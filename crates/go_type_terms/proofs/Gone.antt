@@ -1,19 +1,24 @@
 -- Lists of declarations, each of which gives some items.
-use Rattle.std.proofs.Common.{◌≡◌, List, [], ◌∷◌, ◌++◌, append_assoc, refl, sym, ap, ◌∙◌, subst, Bool, true, false, ◌||◌}
+use Rattle.std.proofs.Common.{◌≡◌, ◌<◌, ◌≤◌, ◌+◌, ℕ, suc, length, get_or, drop, drop-cons, add-one, List, [], ◌∷◌, ◌++◌, append_assoc, refl, sym, ap, ◌∙◌, subst, Bool, true, false, ◌||◌}
+use Rattle.std.proofs.lemmas.List.{drop_all}
 use Rattle.go_rules.specs.Environments.{Env}
 use Rattle.go_rules.specs.Nodes.{Node}
 use Rattle.go_type_terms.specs.Loudness.{AreLoud}
 use Rattle.go_type_terms.proofs.LoudTrees.{join_loud}
 
-or_or : (a b c : Bool) → (a || (b || c)) ≡ ((a || b) || c)
+-- the next item of a list
+pub next_of : {A : Type 0} (xs : List A) (at : ℕ) (x : A) → at < length xs → x ≡ get_or xs at x → drop at xs ≡ x ∷ drop (at + 1) xs
+next_of xs at x h e = rw (add-one, drop-cons xs at x h) (ap (λ y. y ∷ drop (suc at) xs) (sym e))
+
+pub or_or : (a b c : Bool) → (a || (b || c)) ≡ ((a || b) || c)
 or_or true b c = refl
 or_or false b c = refl
 
-or_false : (a : Bool) → (a || false) ≡ a
+pub or_false : (a : Bool) → (a || false) ≡ a
 or_false true = refl
 or_false false = refl
 
-append_none : {A : Type 0} (xs : List A) → xs ++ [] ≡ xs
+pub append_none : {A : Type 0} (xs : List A) → xs ++ [] ≡ xs
 append_none [] = refl
 append_none (x ∷ xs) = ap (λ ys. x ∷ ys) (append_none xs)
 
@@ -47,3 +52,25 @@ module _ {D A : Type 0} (E : Env) (nodes : List D → List Node) (Of : List D �
   pub none_of : {B : Type 0} (whole : List D) (d : D) (rest : List D) (items : List A) (loud : Bool) (Now : B → Type 0) → ((all : List A) → Of (d ∷ rest) all → (b : B) × Now b)
       → Gone whole (d ∷ rest) items loud → (all : List A) → Of whole all → (b : B) × Now b
   none_of whole d rest items loud Now first g = λ all h. let left = g.from all h in first left.0 left.1
+
+  -- ---- the same at a place of the whole list
+
+  pub gone_begins : (whole : List D) (items : List A) → items ≡ [] → Gone whole whole items false
+  gone_begins whole items e = subst (λ (xs : List A). Gone whole whole xs false) (sym e) (begun whole)
+
+  pub gone_on : (whole : List D) (at : ℕ) (d : D) (items now new : List A) (loud b c : Bool) (ns : List Node) → at < length whole → d ≡ get_or whole at d → new ≡ items ++ now → c ≡ (loud || b)
+      → ((rest : List D) → nodes (d ∷ rest) ≡ ns ++ nodes rest) → AreLoud E ns b
+      → ((rest : List D) (more : List A) → Of rest more → Of (d ∷ rest) (now ++ more))
+      → ((rest : List D) (all : List A) → Of (d ∷ rest) all → (more : List A) × Of rest more)
+      → Gone whole (drop at whole) items loud → Gone whole (drop (at + 1) whole) new c
+  gone_on whole at d items now new loud b c ns h e i f parted l joins splits g =
+      let rest = drop (at + 1) whole in
+      let here : Gone whole (d ∷ rest) items loud = subst (λ (r : List D). Gone whole r items loud) (next_of whole at d h e) g in
+      subst (λ (xs : List A). Gone whole rest xs c) (sym i) (subst (λ (k : Bool). Gone whole rest (items ++ now) k) (sym f) (goes_on whole d rest items now loud b ns (parted rest) l (joins rest) (splits rest) here))
+
+  pub gone_ends : (whole : List D) (at : ℕ) (items : List A) (loud : Bool) → length whole ≤ at → Of [] [] → AreLoud E (nodes []) false → Gone whole (drop at whole) items loud → Of whole items × AreLoud E (nodes whole) loud
+  gone_ends whole at items loud h none quiet g = ended whole items loud none quiet (subst (λ (r : List D). Gone whole r items loud) (drop_all at whole h) g)
+
+  pub gone_none : {B : Type 0} (whole : List D) (at : ℕ) (d : D) (items : List A) (loud : Bool) (Now : B → Type 0) → at < length whole → d ≡ get_or whole at d → ((rest : List D) (all : List A) → Of (d ∷ rest) all → (b : B) × Now b)
+      → Gone whole (drop at whole) items loud → (all : List A) → Of whole all → (b : B) × Now b
+  gone_none whole at d items loud Now h e first g = none_of whole d (drop (at + 1) whole) items loud Now (first (drop (at + 1) whole)) (subst (λ (r : List D). Gone whole r items loud) (next_of whole at d h e) g)

@@ -1,7 +1,11 @@
+pub mod ArrayLengths
 pub mod Fields
 pub mod Forms
 pub mod Gone
 pub mod Handed
+pub mod Interfaces
 pub mod LoudTrees
 pub mod NamedTypes
+pub mod Noting
 pub mod Parameters
+pub mod Passed

@@ -10,7 +10,9 @@ use Rattle.go_syntax.specs.declared.types.ParameterDecl.{ParameterDecl, out-Para
 use Rattle.go_syntax.specs.declared.types.«Type».{«Type» as Typ}
 use Rattle.go_rules.specs.Environments.{Env}
 use Rattle.go_rules.specs.Expressions.{OfParameters, OfResult, OfSignature, OfType, for_names, parameters_more, parameters_none, parameters_variadic, result_parameters, result_type, signature, signature_alone, signature_result, slice_of}
+use Rattle.go_rules.proofs.OneOperand.{parameters_once}
 use Rattle.go_type_terms.specs.Results.{OfResults}
+use Rattle.go_type_terms.specs.inner.Parameters.{GivesTerms}
 
 -- the last of so many equal items
 pub replicate_last : {A : Type 0} (n : ℕ) (x : A) → replicate n x ++ x ∷ [] ≡ replicate (suc n) x
@@ -20,24 +22,23 @@ replicate_last (suc n) x = ap (λ xs. x ∷ xs) (replicate_last n x)
 pub names_more : (n : Name) (ns : List Name) (t : Term) → replicate (length ns) t ++ t ∷ [] ≡ for_names (n ∷ ns) t
 names_more n ns t = replicate_last (length ns) t
 
+-- what a declaration gives, by whether it is variadic
+pub gives_names : (v : Bool) (ns : List Name) (u : Term) (us : List Term) → v ≡ false → us ≡ for_names ns u → GivesTerms v ns u us
+gives_names false ns u us e h = h
+gives_names true ns u us e h = absurd (true≢false e)
+
+pub gives_slice : (v : Bool) (ns : List Name) (u : Term) (us : List Term) → v ≡ true → length ns ≤ 1 → us ≡ slice_of u ∷ [] → GivesTerms v ns u us
+gives_slice true ns u us e n h = (n, h)
+gives_slice false ns u us e n h = absurd (true≢false (sym e))
+
+pub gives_none : (v : Bool) (ns : List Name) (u : Term) → v ≡ true → 1 < length ns → (us : List Term) → GivesTerms v ns u us → ⊥
+gives_none true ns u e n us h = absurd (omega (arith, h.0))
+gives_none false ns u e n us h = true≢false (sym e)
+
 module _ {E : Env} where
-  -- a declaration that isn't variadic, and those behind it
-  pub split_more : {d : ParameterDecl} {ds : List ParameterDecl} {all : List Term} {v : Bool} → (out-ParameterDecl d).variadic ≡ false → OfParameters E (d ∷ ds) all v → (more : List Term) × OfParameters E ds more v
-  split_more plain (parameters_more e h more) = (_, more)
-  split_more plain (parameters_variadic e n h) = absurd (true≢false (sym e ∙ plain))
-
-  -- the type of the first declaration
-  pub first_type : {d : ParameterDecl} {ds : List ParameterDecl} {all : List Term} {v : Bool} → OfParameters E (d ∷ ds) all v → (u : Term) × OfType E (out-ParameterDecl d).type_ u
-  first_type (parameters_more e h more) = (_, h)
-  first_type (parameters_variadic e n h) = (_, h)
-
-  -- a variadic declaration is the last one, with at most one name
-  pub not_last : {d e : ParameterDecl} {ds : List ParameterDecl} {all : List Term} {v : Bool} → (out-ParameterDecl d).variadic ≡ true → OfParameters E (d ∷ e ∷ ds) all v → ⊥
-  not_last dots (parameters_more e h more) = true≢false (sym dots ∙ e)
-
-  pub too_many : {d : ParameterDecl} {ds : List ParameterDecl} {all : List Term} {v : Bool} → (out-ParameterDecl d).variadic ≡ true → 1 < length (out-ParameterDecl d).names → OfParameters E (d ∷ ds) all v → ⊥
-  too_many dots n (parameters_more e h more) = true≢false (sym dots ∙ e)
-  too_many dots n (parameters_variadic e m h) = absurd (omega arith)
+  -- results in parentheses aren't variadic
+  pub not_results : (ds : List ParameterDecl) (ts : List Term) (v : Bool) → OfParameters E ds ts v → v ≡ true → (us : List Term) → OfParameters E ds us false → ⊥
+  not_results ds ts v h e us k = true≢false (sym e ∙ (parameters_once E h k).1)
 
   -- results
   pub to_result : {ds : List ParameterDecl} {us : List Term} → OfParameters E ds us false → OfResult E (FuncResult-F.Parameters ds) us
@@ -57,3 +58,9 @@ module _ {E : Env} where
   pub in_signature : {ds : List ParameterDecl} (r : Option FuncResult) {g : Signature} → OfSignature E ds r g → (ts : List Term) × (v : Bool) × (us : List Term) × OfParameters E ds ts v × OfResults E r us
   in_signature r (signature_alone p) = (_, _, [], p, refl)
   in_signature r (signature_result p h) = (_, _, _, p, h)
+
+  pub parameters_in : {ds : List ParameterDecl} (r : Option FuncResult) {g : Signature} → OfSignature E ds r g → (ts : List Term) × (v : Bool) × OfParameters E ds ts v
+  parameters_in r h = let i = in_signature r h in (i.0, i.1, i.3)
+
+  pub results_in : {ds : List ParameterDecl} (r : Option FuncResult) {g : Signature} → OfSignature E ds r g → (us : List Term) × OfResults E r us
+  results_in r h = let i = in_signature r h in (i.2, i.4)

@@ -3,3 +3,4 @@ pub mod Lengths
 pub mod Loudness
 pub mod Members
 pub mod Results
+pub mod inner

@@ -1,13 +1,12 @@
 -- The fields and methods that one declaration gives, and the methods of an interface in order.
 -- Public source: Go specification, "Struct types" and "Interface types".
-use Rattle.std.specs.Prelude.{◌≡◌, Bool, true, false, List, [], ◌∷◌, map, Option, None, Some}
+use Rattle.std.specs.Prelude.{◌≡◌, true, false, List, [], ◌∷◌, map}
 use Rattle.std.specs.List.Sorted.{IsStrictlySortedBy}
-use denote.Ref.{Bor}
 use Rattle.go_base.specs.Lists.{Has as In}
 use Rattle.go_model.specs.declared.types.term.Field.{Field}
 use Rattle.go_model.specs.declared.types.term.Method.{Method, roll-Method}
 use Rattle.go_model.specs.declared.types.term.Signature.{Signature}
-use Rattle.go_model.specs.declared.types.term.Term.{Term, Term-F}
+use Rattle.go_model.specs.declared.types.term.Term.{Term, Term-F, roll-Term}
 use Rattle.go_model.specs.types.MethodSets.{method_sel, sel_order}
 use Rattle.go_model.specs.types.Underlying.{under}
 use Rattle.go_syntax.specs.declared.types.FieldDecl.{FieldDecl-F}
@@ -34,7 +33,6 @@ pub record IsOrdered (all ms : List Method) : Type 0 where
   pub among : (m : Method) → In ms m → In all m
   pub each : (m : Method) → In all m → In ms m
 
--- the list that was borrowed
-abbrev pub list_of : {A : Type 0} → Option (Bor (List A)) → Option (List A)
-list_of None = None
-list_of (Some xs) = Some xs.now
+-- the interface type of these methods
+abbrev pub IsInterfaceOf : List Method → Term → Type 0
+IsInterfaceOf all t = (ms : List Method) × IsOrdered all ms × (t ≡ roll-Term (Term-F.Interface ms))

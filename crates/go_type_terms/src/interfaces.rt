@@ -1,56 +1,50 @@
 //! Methods of interface types.
-ghost use Rattle.std.specs.Prelude.{◌≡◌, ◌∷◌, [], IfOk};
+ghost use Rattle.std.specs.Prelude.{◌≡◌, ◌∷◌, []};
+ghost use Rattle.go_base.specs.Keys.{item_of};
 ghost use Rattle.go_rules.specs.Expressions.{OfForm, OfMethods};
 ghost use Rattle.go_rules.specs.Nodes.{elem_parts, elems_parts, signature as signature_node};
 ghost use Rattle.go_model.specs.declared.types.term.Term.{Term-F, out-Term};
+ghost use Rattle.go_model.specs.types.Underlying.{under};
 ghost use Rattle.go_syntax.specs.declared.types.InterfaceElem.{InterfaceElem-F, out-InterfaceElem};
 ghost use Rattle.go_syntax.specs.declared.types.«Type».{«Type-F» as Typ-F};
 ghost use Rattle.go_usability.specs.Answers.{Gives};
 ghost use Rattle.go_type_terms.specs.Answers.{Tells, Types, TypesBelow, env_in};
-ghost use Rattle.go_type_terms.specs.Members.{IsOrdered, OfElement, list_of};
+ghost use Rattle.go_type_terms.specs.Members.{IsInterfaceOf, OfElement};
 
 use crate::error::ExprError;
 use crate::lists::push_all;
 use crate::loud::either;
+use crate::ordered::{copied_all, ordered};
 use crate::part::{Answer, Part};
 use crate::type_names::type_named;
 use crate::typing::Typing;
 use go_base::list::List;
-use go_base::memory::NoMemory;
-use go_model::types::names::Sel;
 use go_model::types::term::{Method, Term};
-use go_selectors::identity::same_signature;
 use go_syntax::name::{Name, QualifiedName};
 use go_syntax::types::{InterfaceElem, Signature};
 use go_usability::context::Context;
 use std::alloc::Global;
-use std::collections::BTreeMap;
-
-fn copied(alloc: Global, method: &Method) -> Result<Method, NoMemory>
-    ensures { IfOk result (λ m. m ≡ method.now) }
-{
-    Ok(Method {
-        sel: method.sel.copy(alloc)?,
-        signature: method.signature.copy(alloc)?,
-    })
-}
-
-fn copied_all(alloc: Global, methods: &[Method]) -> Result<List<Method>, NoMemory>
-    ensures { IfOk result (λ ms. ms ≡ methods.now) }
-{
-    let mut copies = List::new(alloc);
-    for method in methods {
-        copies.push(copied(alloc, method)?)?;
-    }
-    Ok(copies)
-}
 
 fn methods_of(term: &Term) -> Option<&[Method]>
-    ensures { Gives (λ ms. out-Term term.now ≡ Term-F.Interface ms) (list_of result) }
+    ensures { Gives (λ ms. out-Term term.now ≡ Term-F.Interface ms) (item_of result) }
 {
     match term {
         Term::Interface(methods) => Some(methods.items()),
         _ => None,
+    }
+}
+
+// The methods of an interface that is underneath a type.
+fn methods_under(
+    context: &Context<'_>,
+    alloc: Global,
+    term: &Term,
+) -> Result<List<Method>, ExprError>
+    ensures { Tells (λ ms. under (env_in context.now).table term.now ≡ Term-F.Interface ms) result }
+{
+    match methods_of(context.under(term)) {
+        Some(methods) => Ok(copied_all(alloc, methods)?),
+        None => Err(ExprError::Untyped),
     }
 }
 
@@ -63,42 +57,17 @@ fn embedded_methods(
     ensures { Tells (OfElement (env_in context.now) (InterfaceElem-F.«InterfaceElem::Embedded» name.now)) result }
 {
     let term = type_named(context, alloc, name)?;
-    match methods_of(context.under(&term)) {
-        Some(methods) => Ok(copied_all(alloc, methods)?),
+    methods_under(context, alloc, &term)
+}
+
+// The interface type of methods.
+fn interface_of(alloc: Global, methods: &[Method]) -> Result<Term, ExprError>
+    ensures { Tells (IsInterfaceOf methods.now) result }
+{
+    match ordered(alloc, methods)? {
+        Some(each) => Ok(Term::Interface(each)),
         None => Err(ExprError::Untyped),
     }
-}
-
-// Notes a method by its selector; false where another one has it with another signature.
-fn note<'m>(
-    alloc: Global,
-    noted: &mut BTreeMap<Sel, &'m Method>,
-    method: &'m Method,
-) -> Result<bool, NoMemory> {
-    if let Some(known) = noted.get(&method.sel) {
-        return Ok(same_signature(&known.signature, &method.signature));
-    }
-    let sel = method.sel.copy(alloc)?;
-    noted.insert(sel, method)?;
-    Ok(true)
-}
-
-// The methods in the order of their selectors, each once; None where two have one selector and other
-// signatures.
-fn ordered(alloc: Global, methods: &[Method]) -> Result<Option<List<Method>>, NoMemory>
-    ensures { IfOk result (Gives (IsOrdered methods.now)) }
-{
-    let mut noted = BTreeMap::new(alloc);
-    for method in methods {
-        if !note(alloc, &mut noted, method)? {
-            return Ok(None);
-        }
-    }
-    let mut each = List::new(alloc);
-    for method in noted.values() {
-        each.push(copied(alloc, method)?)?;
-    }
-    Ok(Some(each))
 }
 
 impl<'a, F: Fn(&Context<'_>, Global, usize, Part<'_>) -> Result<Answer, ExprError>> Typing<'a, F> {
@@ -156,9 +125,7 @@ impl<'a, F: Fn(&Context<'_>, Global, usize, Part<'_>) -> Result<Answer, ExprErro
         ensures { Types (env_in self.now.context.now) (OfForm (env_in self.now.context.now) (Typ-F.Interface elements.now)) (elems_parts elements.now) result }
     {
         let (methods, loud) = self.methods(elements)?;
-        match ordered(self.alloc, methods.items())? {
-            Some(each) => Ok((Term::Interface(each), loud)),
-            None => Err(ExprError::Untyped),
-        }
+        let term = interface_of(self.alloc, methods.items())?;
+        Ok((term, loud))
     }
 }

@@ -1,5 +1,5 @@
 //! Lengths of arrays.
-ghost use Rattle.std.specs.Prelude.{◌≡◌, ◌⊎◌};
+ghost use Rattle.std.specs.Prelude.{◌≡◌, ◌⊎◌, ℕ, pos, ◌<◌, ◌^◌, MatchOption};
 ghost use Rattle.go_usability.specs.Answers.{Gives};
 ghost use Rattle.go_type_terms.specs.Lengths.{IsLength, IsLengthValue};
 
@@ -7,17 +7,27 @@ use go_const::representation::representable;
 use go_model::constants::value::{Basic, Value};
 use go_rules::operand::{Mode, Operand, Shape};
 
+// The number from 0, where it fits into 64 bits.
+fn natural(number: i128) -> Option<u64>
+    ensures { MatchOption result ((n : ℕ) → n < 2 ^ 64 → number ≡ pos n → ⊥) (λ n. number ≡ pos n) }
+{
+    if number < 0 || number > u64::MAX as i128 {
+        None
+    } else {
+        Some(number as u64)
+    }
+}
+
+// The whole number from 0 that is representable in int.
 fn length_of(bits: u32, value: &Value) -> Option<u64>
     requires { (bits ≡ 32) ⊎ (bits ≡ 64) }
     ensures { Gives (IsLengthValue bits value.now) result }
 {
+    if !representable(value, Basic::Int, bits) {
+        return None;
+    }
     match value {
-        Value::Int(number) => {
-            if !representable(value, Basic::Int, bits) {
-                return None;
-            }
-            u64::try_from(*number).ok()
-        }
+        Value::Int(number) => natural(*number),
         Value::Str(_) => None,
         Value::Truth(_) => None,
     }

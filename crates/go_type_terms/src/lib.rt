@@ -6,6 +6,7 @@ mod interfaces;
 mod lengths;
 mod lists;
 pub mod loud;
+mod ordered;
 pub mod part;
 pub mod signatures;
 mod structs;

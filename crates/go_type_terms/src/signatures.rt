@@ -1,12 +1,14 @@
 //! Parameters and results of function types.
 ghost use Rattle.std.specs.Prelude.{◌≡◌, [], ◌∷◌, false, IfOk};
-ghost use Rattle.go_rules.specs.Expressions.{OfForm, OfParameters, OfResult, OfSignature, for_names};
+ghost use Rattle.go_rules.specs.Expressions.{OfForm, OfParameters, OfResult, OfSignature, for_names, slice_of};
 ghost use Rattle.go_type_terms.specs.Results.{OfResults};
-ghost use Rattle.go_rules.specs.Nodes.{optional_result_parts, parameter_parts, signature as signature_node, type as type_node};
-ghost use Rattle.go_syntax.specs.declared.types.FuncResult.{FuncResult-F};
+ghost use Rattle.go_rules.specs.Nodes.{optional_result_parts, parameter_parts, result_parts, signature as signature_node, type as type_node};
+ghost use Rattle.go_syntax.specs.declared.types.FuncResult.{FuncResult-F, out-FuncResult};
+ghost use Rattle.go_syntax.specs.declared.types.ParameterDecl.{out-ParameterDecl};
 ghost use Rattle.go_syntax.specs.declared.types.Signature.{out-Signature};
 ghost use Rattle.go_syntax.specs.declared.types.«Type».{«Type-F» as Typ-F};
-ghost use Rattle.go_type_terms.specs.Answers.{Types, TypesBelow, env_in};
+ghost use Rattle.go_type_terms.specs.Answers.{Tells, Types, TypesBelow, env_in};
+ghost use Rattle.go_type_terms.specs.inner.Parameters.{GivesTerms, OfParameter};
 ghost use Rattle.go_type_terms.specs.declared.signatures.Parameters.{Parameters};
 
 use crate::error::ExprError;
@@ -23,11 +25,11 @@ use go_syntax::types::{FuncResult, ParameterDecl, Signature, Type};
 use go_usability::context::Context;
 use std::alloc::Global;
 
-/// The types of parameters, and whether the last one is variadic.
+// The types of parameters, and whether the last one is variadic.
 #[derive(Drop)]
-pub(crate) struct Parameters {
-    pub(crate) terms: List<Term>,
-    pub(crate) variadic: bool,
+struct Parameters {
+    terms: List<Term>,
+    variadic: bool,
 }
 
 // The type of a parameter declaration, once for each of its names, and once where it has none.
@@ -45,44 +47,58 @@ fn for_names(alloc: Global, names: &[Name], term: Term) -> Result<List<Term>, No
     Ok(terms)
 }
 
+// The slice type of a variadic parameter.
+fn variadic_terms(alloc: Global, term: Term) -> Result<List<Term>, NoMemory>
+    ensures { IfOk result (λ ts. ts ≡ slice_of term ∷ []) }
+{
+    let mut terms = List::new(alloc);
+    terms.push(Term::Slice(Box::new(alloc, term)?))?;
+    Ok(terms)
+}
+
+// The types of the parameters of a declaration that has this type.
+fn terms_of(alloc: Global, decl: &ParameterDecl, term: Term) -> Result<List<Term>, ExprError>
+    ensures { Tells (GivesTerms (out-ParameterDecl decl.now).variadic (out-ParameterDecl decl.now).names term) result }
+{
+    if !decl.variadic {
+        return Ok(for_names(alloc, decl.names.items(), term)?);
+    }
+    if decl.names.items().len() > 1 {
+        return Err(ExprError::Untyped);
+    }
+    Ok(variadic_terms(alloc, term)?)
+}
+
 impl<'a, F: Fn(&Context<'_>, Global, usize, Part<'_>) -> Result<Answer, ExprError>> Typing<'a, F> {
-    /// The types of parameters.
-    pub(crate) fn parameters(
-        &self,
-        decls: &[ParameterDecl],
-    ) -> Result<(Parameters, bool), ExprError>
+    // The types of the parameters of a declaration.
+    fn parameter(&self, decl: &ParameterDecl) -> Result<(List<Term>, bool), ExprError>
+        requires { TypesBelow self.now.context.now self.now.height (F.pre self.now.below) (F.post self.now.below) }
+        ensures { Types (env_in self.now.context.now) (OfParameter (env_in self.now.context.now) decl.now) (type_node (out-ParameterDecl decl.now).type_ ∷ []) result }
+    {
+        let (term, loud) = self.type_below(&decl.type_)?;
+        let terms = terms_of(self.alloc, decl, term)?;
+        Ok((terms, loud))
+    }
+
+    // The types of parameters.
+    fn parameters(&self, decls: &[ParameterDecl]) -> Result<(Parameters, bool), ExprError>
         requires { TypesBelow self.now.context.now self.now.height (F.pre self.now.below) (F.post self.now.below) }
         ensures { Types (env_in self.now.context.now) (λ (p : Parameters). OfParameters (env_in self.now.context.now) decls.now p.terms p.variadic) (parameter_parts decls.now) result }
     {
         let mut terms = List::new(self.alloc);
+        let mut variadic = false;
         let mut loud = false;
-        for at in 0..decls.len() {
-            let decl = &decls[at];
-            let (term, louder) = self.type_below(&decl.type_)?;
-            if decl.variadic {
-                if at + 1 < decls.len() || decl.names.items().len() > 1 {
-                    return Err(ExprError::Untyped);
-                }
-                terms.push(Term::Slice(Box::new(self.alloc, term)?))?;
-                return Ok((
-                    Parameters {
-                        terms,
-                        variadic: true,
-                    },
-                    either(loud, louder),
-                ));
+        for decl in decls {
+            // Only the last one may be variadic.
+            if variadic {
+                return Err(ExprError::Untyped);
             }
-            let more = for_names(self.alloc, decl.names.items(), term)?;
+            let (more, louder) = self.parameter(decl)?;
             push_all(&mut terms, more)?;
+            variadic = decl.variadic;
             loud = either(loud, louder);
         }
-        Ok((
-            Parameters {
-                terms,
-                variadic: false,
-            },
-            loud,
-        ))
+        Ok((Parameters { terms, variadic }, loud))
     }
 
     // The types of results that stand in parentheses.
@@ -108,6 +124,17 @@ impl<'a, F: Fn(&Context<'_>, Global, usize, Part<'_>) -> Result<Answer, ExprErro
         Ok((terms, loud))
     }
 
+    // The types of a result.
+    fn written_result(&self, written: &FuncResult) -> Result<(List<Term>, bool), ExprError>
+        requires { TypesBelow self.now.context.now self.now.height (F.pre self.now.below) (F.post self.now.below) }
+        ensures { Types (env_in self.now.context.now) (OfResult (env_in self.now.context.now) (out-FuncResult written.now)) (result_parts (out-FuncResult written.now)) result }
+    {
+        match written {
+            FuncResult::Parameters(decls) => self.result_parameters(decls.items()),
+            FuncResult::Type(form) => self.result_type(form),
+        }
+    }
+
     // The types of results.
     fn results(&self, written: &Option<FuncResult>) -> Result<(List<Term>, bool), ExprError>
         requires { TypesBelow self.now.context.now self.now.height (F.pre self.now.below) (F.post self.now.below) }
@@ -115,8 +142,7 @@ impl<'a, F: Fn(&Context<'_>, Global, usize, Part<'_>) -> Result<Answer, ExprErro
     {
         match written {
             None => Ok((List::new(self.alloc), false)),
-            Some(FuncResult::Parameters(decls)) => self.result_parameters(decls.items()),
-            Some(FuncResult::Type(form)) => self.result_type(form),
+            Some(written) => self.written_result(written),
         }
     }
 
@@ -127,14 +153,12 @@ impl<'a, F: Fn(&Context<'_>, Global, usize, Part<'_>) -> Result<Answer, ExprErro
     {
         let (parameters, loud) = self.parameters(signature.parameters.items())?;
         let (results, louder) = self.results(&signature.result)?;
-        Ok((
-            Signed {
-                params: parameters.terms,
-                variadic: parameters.variadic,
-                results,
-            },
-            either(loud, louder),
-        ))
+        let signed = Signed {
+            params: parameters.terms,
+            variadic: parameters.variadic,
+            results,
+        };
+        Ok((signed, either(loud, louder)))
     }
 
     /// The function type of a signature.

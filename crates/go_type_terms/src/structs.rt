@@ -1,5 +1,5 @@
 //! Fields of struct types.
-ghost use Rattle.std.specs.Prelude.{◌≡◌, ◌∷◌, [], map, false, IfOk};
+ghost use Rattle.std.specs.Prelude.{◌≡◌, ◌∷◌, [], map, true, false, IfOk};
 ghost use Rattle.go_rules.specs.Expressions.{OfFields, OfForm, field_of, starred, tag_of};
 ghost use Rattle.go_rules.specs.Nodes.{field_parts, fields_parts, type as type_node};
 ghost use Rattle.go_rules.specs.Scopes.{env_of};
@@ -84,6 +84,24 @@ fn fields_named(
     Ok(fields)
 }
 
+// The field of a type's name.
+fn embedded_list(
+    env: &Env<'_>,
+    alloc: Global,
+    star: bool,
+    term: Term,
+    tag: &Option<Text>,
+    name: &Name,
+) -> Result<List<Field>, NoMemory>
+    ensures { IfOk result (λ fs. fs ≡ field_of (env_of env.now) true (starred star term) tag.now name.now ∷ []) }
+{
+    let term = starred(alloc, star, term)?;
+    let field = field(env, alloc, true, term, tag, name)?;
+    let mut fields = List::new(alloc);
+    fields.push(field)?;
+    Ok(fields)
+}
+
 // The field that an embedded type declares.
 fn embedded_field(
     context: &Context<'_>,
@@ -95,10 +113,7 @@ fn embedded_field(
     ensures { Tells (OfField (env_in context.now) (FieldDecl-F.«FieldDecl::Embedded» star name.now tag.now)) result }
 {
     let term = type_named(context, alloc, name)?;
-    let term = starred(alloc, star, term)?;
-    let field = field(context.env, alloc, true, term, tag, &name.name)?;
-    let mut fields = List::new(alloc);
-    fields.push(field)?;
+    let fields = embedded_list(context.env, alloc, star, term, tag, &name.name)?;
     Ok(fields)
 }
 

@@ -16,6 +16,7 @@ use go_base::boxed::Box;
 use go_model::types::bounds::is_within_bounds;
 use go_model::types::term::{Direction, Term};
 use go_syntax::expression::Expr;
+use go_syntax::name::QualifiedName;
 use go_syntax::types::Type;
 use go_usability::context::Context;
 use std::alloc::Global;
@@ -28,6 +29,21 @@ impl<'a, F: Fn(&Context<'_>, Global, usize, Part<'_>) -> Result<Answer, ExprErro
     {
         let (term, loud) = self.type_below(form)?;
         Ok((Box::new(self.alloc, term)?, loud))
+    }
+
+    fn named(&self, name: &QualifiedName) -> Result<(Term, bool), ExprError>
+        ensures { Types (env_in self.now.context.now) (OfForm (env_in self.now.context.now) (Typ-F.«Type::Named» name.now)) [] result }
+    {
+        let term = type_named(self.context, self.alloc, name)?;
+        Ok((term, false))
+    }
+
+    fn parenthesized(&self, inner: &Type) -> Result<(Term, bool), ExprError>
+        requires { TypesBelow self.now.context.now self.now.height (F.pre self.now.below) (F.post self.now.below) }
+        ensures { Types (env_in self.now.context.now) (OfForm (env_in self.now.context.now) (Typ-F.«Type::Paren» inner.now)) (type_node inner.now ∷ []) result }
+    {
+        let (term, loud) = self.type_below(inner)?;
+        Ok((term, loud))
     }
 
     fn pointer(&self, base: &Type) -> Result<(Term, bool), ExprError>
@@ -83,8 +99,8 @@ impl<'a, F: Fn(&Context<'_>, Global, usize, Part<'_>) -> Result<Answer, ExprErro
         ensures { Types (env_in self.now.context.now) (OfForm (env_in self.now.context.now) (out-Typ form.now)) (type_parts (out-Typ form.now)) result }
     {
         match form {
-            Type::Named(name) => Ok((type_named(self.context, self.alloc, name)?, false)),
-            Type::Paren(inner) => self.type_below(inner.value()),
+            Type::Named(name) => self.named(name),
+            Type::Paren(inner) => self.parenthesized(inner.value()),
             Type::Pointer(base) => self.pointer(base.value()),
             Type::Slice(element) => self.slice(element.value()),
             Type::Array(length, element) => self.array(length.value(), element.value()),
