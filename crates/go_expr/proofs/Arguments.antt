@@ -8,7 +8,7 @@ use Rattle.go_rules.specs.Expressions.{Has, has_operand, HasEach, each_none, eac
 use Rattle.go_rules.specs.Nodes.{ExprLayer, TypeLayer, expression}
 use Rattle.go_rules.specs.Operands.{type_name}
 use Rattle.go_rules.specs.declared.operand.Operand.{Operand}
-use Rattle.go_rules.proofs.OneOperand.{has_once}
+use Rattle.go_rules.proofs.OneOperand.{has_once, type_once}
 use Rattle.go_syntax.specs.declared.expression.Expr.{Expr, Expr-F, out-Expr}
 use Rattle.go_syntax.specs.declared.expression.Expr.TheVariants.{«outs-Expr::Type»}
 use Rattle.go_syntax.specs.declared.types.«Type».{«Type» as Typ, «Type-F» as Typ-F, «out-Type» as out-Typ}
@@ -98,3 +98,9 @@ module _ (E : Env) where
 
   pub in_receive_type : (t : Typ) (o : Operand) → Has E (receive_type t) o → (u : Term) × IsChannelOf E direction.ReceiveOnly t u × IsWithinBounds u
   in_receive_type t o (has_operand f w) = let y = type_form (subst (λ (l : ExprLayer). HasForm E l o) («outs-Expr::Type» (type.ReceiveChan t)) f) in let z = typed y.1 in (y.0, z.0, z.1)
+
+  channel_once : (t : Typ) (u v : Term) → IsChannelOf E direction.ReceiveOnly t u → IsChannelOf E direction.ReceiveOnly t v → u ≡ v
+  channel_once t u v c d = c.2 ∙ ap (channel_of direction.ReceiveOnly) (type_once E c.1 d.1) ∙ sym d.2
+
+  pub receive_type_out : (t : Typ) (u : Term) → IsChannelOf E direction.ReceiveOnly t u → (IsWithinBounds u → ⊥) → (o : Operand) → Has E (receive_type t) o → ⊥
+  receive_type_out t u c none o h = let y = in_receive_type t o h in none (subst IsWithinBounds (channel_once t y.0 u y.1 c) y.2)

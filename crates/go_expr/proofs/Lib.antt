@@ -4,6 +4,5 @@ pub mod Forms
 pub mod Imports
 pub mod LoudPosts
 pub mod Parts
-pub mod Posts
 pub mod Primary
 pub mod Running

@@ -75,12 +75,12 @@ impl<'a, F: Fn(&Context<'_>, Global, usize, Part<'_>) -> Result<Answer, ExprErro
         requires { TypesBelow self.now.literals.operations.typing.context.now self.now.literals.operations.typing.height (F.pre self.now.literals.operations.typing.below) (F.post self.now.literals.operations.typing.below) }
         ensures { (e : Expr) → out-Expr e ≡ Expr-F.Primary operand.now posts.now → Types (env_in self.now.literals.operations.typing.context.now) (HasForm (env_in self.now.literals.operations.typing.context.now) (Expr-F.Primary operand.now posts.now)) (expression e ∷ []) result }
     {
-        let (post, others) = match posts.split_first() {
-            Some(split) => split,
+        let post = match posts.first() {
+            Some(post) => post,
             None => return self.unqualified(operand, posts),
         };
         match imported_name(self.literals.operations.typing.context, operand, post) {
-            Some((package, name)) => self.qualified(package, name, others),
+            Some((package, name)) => self.qualified(package, name, &posts[1..]),
             None => self.unqualified(operand, posts),
         }
     }
