@@ -1,8 +1,8 @@
-pub mod Arguments
+pub mod Arguing
+pub mod ByForm
 pub mod CallKinds
-pub mod Forms
-pub mod Imports
+pub mod ImportedNames
 pub mod LoudPosts
 pub mod Parts
-pub mod Primary
+pub mod PrimaryExprs
 pub mod Running

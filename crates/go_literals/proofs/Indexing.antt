@@ -21,7 +21,7 @@ use Rattle.go_operations.proofs.Typed.{none_some, one_some}
 use Rattle.go_operations.proofs.Walks.{Walk, set_out, walk_on, arrived}
 use Rattle.go_literals.specs.Elements.{IndexedFits, IndexedFrom, IsKeyIndex, IsPlace, IsPlaceWithin, parts_of}
 use Rattle.go_literals.proofs.Parts.{parts_join}
-use Rattle.go_literals.proofs.Values.{one_expr}
+use Rattle.go_literals.proofs.ElementValues.{one_expr}
 
 module _ (E : Env) where
   -- ---- places

@@ -22,7 +22,7 @@ use Rattle.go_literals.specs.Elements.{EachKeyed, keyed_end, keyed_next, ExprFit
 use Rattle.go_literals.specs.Keys.{KeysAre, keys_none, keys_more, KeyedOnce}
 use Rattle.go_literals.specs.Structs.{AreKeyed}
 use Rattle.go_literals.proofs.Parts.{parts_join}
-use Rattle.go_literals.proofs.Values.{one_expr}
+use Rattle.go_literals.proofs.ElementValues.{one_expr}
 
 module _ (E : Env) where
   -- ---- fields that take an operand

@@ -1,9 +1,9 @@
+pub mod ByType
+pub mod ElementValues
 pub mod Indexing
+pub mod KeyNames
 pub mod KeyedFields
-pub mod Keys
 pub mod Pairing
 pub mod Parts
-pub mod Structs
+pub mod StructElements
 pub mod TextSets
-pub mod Types
-pub mod Values

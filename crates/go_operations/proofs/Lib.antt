@@ -1,8 +1,8 @@
 pub mod Chaining
-pub mod Literals
+pub mod LiteralForms
 pub mod LoudForms
-pub mod Names
+pub mod Meanings
+pub mod PredeclaredNames
 pub mod Prefixed
 pub mod Typed
-pub mod Universe
 pub mod Walks

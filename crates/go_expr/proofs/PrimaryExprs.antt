@@ -18,7 +18,7 @@ use Rattle.go_type_terms.specs.declared.error.ExprError.TheVariants.{NoMemory, U
 use Rattle.go_operations.proofs.Typed.{none_some, one_some}
 use Rattle.go_expr.specs.Imports.{ImportedWithin, IsQualified}
 use Rattle.go_expr.specs.Posts.{QualifiedTyped, UnqualifiedTyped, Ran}
-use Rattle.go_expr.proofs.Imports.{one_name, one_selector}
+use Rattle.go_expr.proofs.ImportedNames.{one_name, one_selector}
 use Rattle.go_expr.proofs.LoudPosts.{imported_loud, primary_loud}
 use Rattle.go_expr.proofs.Parts.{selector_quiet}
 use Rattle.go_expr.proofs.Running.{ran_posts}

@@ -11,7 +11,7 @@ use Rattle.go_syntax.specs.declared.expression.Expr.{Expr, Expr-F, out-Expr}
 use Rattle.go_syntax.specs.declared.name.Name.{Name}
 use Rattle.go_operations.proofs.Typed.{none_some, one_some}
 use Rattle.go_literals.specs.Keys.{KeysAre, keys_none, keys_more, KeyedOnce}
-use Rattle.go_literals.proofs.Values.{one_expr}
+use Rattle.go_literals.proofs.ElementValues.{one_expr}
 
 -- ---- the key of an element
 
