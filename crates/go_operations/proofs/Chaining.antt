@@ -1,5 +1,5 @@
 -- Chains of operators, operand by operand.
-use Rattle.std.proofs.Common.{◌≡◌, ◌×◌, ◌<◌, ◌≤◌, ◌+◌, ℕ, zero, suc, List, [], ◌∷◌, ◌++◌, length, drop, get_or, map, refl, sym, ap, ◌∙◌, subst, Bool, true, false, ◌||◌, Option, Some, None, arith}
+use Rattle.std.proofs.Common.{◌≡◌, ◌<◌, ◌≤◌, ◌+◌, ℕ, zero, suc, List, [], ◌∷◌, ◌++◌, length, drop, get_or, map, refl, sym, ap, ◌∙◌, subst, Bool, true, false, ◌||◌, Option, Some, None, IsTrue, ◌↔◌, arith}
 use Rattle.std.specs.List.{slice_get}
 use Rattle.std.specs.Prelude.{replicate}
 use Rattle.std.proofs.lemmas.List.{drop_more}
@@ -16,6 +16,7 @@ use Rattle.go_rules.specs.declared.operand.Operand.{Operand}
 use Rattle.go_rules.proofs.OneOperand.{has_once}
 use Rattle.go_rules.proofs.OneResult.{one_comparison, one_computes, one_product}
 use Rattle.go_syntax.specs.declared.expression.Expr.{Expr, Expr-F}
+use Rattle.go_usability.specs.Answers.{Gives}
 use Rattle.go_type_terms.specs.Loudness.{AreLoud}
 use Rattle.go_type_terms.proofs.LoudTrees.{none_loud}
 use Rattle.go_operations.specs.Chains.{Chains, chain_none, chain_more, ChainsFrom, Combines, Steps}
@@ -53,6 +54,9 @@ module _ (E : Env) where
   pub no_step : (op : Operator) (l : Operand) (e : Expr) (o : Operand) → Has E e o → ((r : Operand) → Combines E op l o r → ⊥) → (r : Operand) → Steps E (Some op) l e r → ⊥
   no_step op l e o h none r s = none r (subst (λ (q : Operand). Combines E op l q r) (has_once E s.1 h) s.2)
 
+  pub no_step_of : (m : Option Operator) (op : Operator) → m ≡ Some op → (l : Operand) (e : Expr) (o : Operand) → Has E e o → (q : Option Operand) → q ≡ None → Gives (Combines E op l o) q → (r : Operand) → Steps E m l e r → ⊥
+  no_step_of m op i l e o h q j g r s = no_step op l e o h (subst (Gives (Combines E op l o)) j g) r (subst (λ (x : Option Operator). Steps E x l e r) i s)
+
   first_step : {ops : List Operator} {op : Operator} {o s : Operand} {e : Expr} {es : List Expr} → Chains E (op ∷ ops) o (e ∷ es) s → (r : Operand) × Steps E (Some op) o e r × Chains E ops r es s
   first_step (chain_more h k) = (_, h, k)
 
@@ -80,12 +84,6 @@ module _ (E : Env) where
   pub chain_ends : (ops : List Operator) (first : Operand) (es : List Expr) (left : Operand) (loud : Bool) → Goes ops first es [] left [] loud → Chains E ops first es left × AreLoud E (map expression es) loud
   chain_ends ops first es left loud g = arrived E (map expression) Onward (ops, first) es ([], left) loud left chain_none (none_loud E) g
 
-  -- no chain, where the next operator or operand makes nothing
-  pub chain_stops : (ops : List Operator) (first : Operand) (es : List Expr) (op : Option Operator) (later : List Operator) (left : Operand) (e : Expr) (rest : List Expr) (loud : Bool)
-      → Before op later → ((r : Operand) → Steps E op left e r → ⊥) → Goes ops first es later left (e ∷ rest) loud → (r : Operand) → Chains E ops first es r → ⊥
-  chain_stops ops first es None later left e rest loud before none g r h = no_operators (subst (λ (x : List Operator). Chains E x left (e ∷ rest) r) before (g.from r h))
-  chain_stops ops first es (Some op) later left e rest loud before none g r h = let f = first_step (subst (λ (x : List Operator). Chains E x left (e ∷ rest) r) before.1 (g.from r h)) in none f.0 f.1
-
   pub chain_too_long : (ops : List Operator) (first : Operand) (es : List Expr) (op : Operator) (later : List Operator) (left : Operand) (loud : Bool) → Goes ops first es (op ∷ later) left [] loud → (r : Operand) → Chains E ops first es r → ⊥
   chain_too_long ops first es op later left loud g r h = no_operands (g.from r h)
 
@@ -108,11 +106,6 @@ module _ (E : Env) where
   chain_next ops first es i None left next e loud b within at is s l g = absurd s
   chain_next ops first es i (Some op) left next e loud b within at is s l g =
       on_from ops first es (drop i ops) (drop (i + 1) ops) left next e (drop i es) (drop (i + 1) es) loud b op (next_at ops i op (sym at)) (next_expr es i e within is) s l g
-
-  pub chain_stuck : (ops : List Operator) (first : Operand) (es : List Expr) (i : ℕ) (op : Option Operator) (left : Operand) (e : Expr) (loud : Bool)
-      → i < length es → op ≡ slice_get ops i → e ≡ get_or es i e → ((r : Operand) → Steps E op left e r → ⊥) → Goes ops first es (drop i ops) left (drop i es) loud → (r : Operand) → Chains E ops first es r → ⊥
-  chain_stuck ops first es i op left e loud within at is none g =
-      chain_stops ops first es op (drop i ops) left e (drop (i + 1) es) loud (before_at ops i op at) none (subst (λ (x : List Expr). Goes ops first es (drop i ops) left x loud) (next_expr es i e within is) g)
 
   done : {A : Type 0} (xs : List A) (i : ℕ) → length xs ≤ i → drop i xs ≡ []
   done [] zero h = refl
@@ -137,10 +130,30 @@ module _ (E : Env) where
       let o = left_over ops i none in
       chain_too_long ops first es o.0 o.1 left loud (subst (λ (x : List Expr). Goes ops first es (o.0 ∷ o.1) left x loud) (done es i h) (subst (λ (x : List Operator). Goes ops first es x left (drop i es) loud) o.2 g))
 
+  pub chain_first : (ops : List Operator) (first : Operand) (es : List Expr) (i : ℕ) (op : Option Operator) (left : Operand) (e : Expr) (loud : Bool)
+      → i < length es → op ≡ slice_get ops i → e ≡ get_or es i e → Goes ops first es (drop i ops) left (drop i es) loud → (r : Operand) → Chains E ops first es r → (s : Operand) × Steps E op left e s
+  chain_first ops first es i op left e loud within at is g r h =
+      first_in op (drop i ops) (before_at ops i op at) (subst (λ (x : List Expr). Chains E (drop i ops) left x r) (next_expr es i e within is) (g.from r h))
+    where
+      first_in : (m : Option Operator) (later : List Operator) → Before m later → Chains E later left (e ∷ drop (i + 1) es) r → (s : Operand) × Steps E m left e s
+      first_in None later b c = absurd (no_operators (subst (λ (x : List Operator). Chains E x left (e ∷ drop (i + 1) es) r) b c))
+      first_in (Some o) later b c = let f = first_step (subst (λ (x : List Operator). Chains E x left (e ∷ drop (i + 1) es) r) b.1 c) in (f.0, f.1)
+
+  pub chain_over : (ops : List Operator) (first : Operand) (es : List Expr) (i : ℕ) (left : Operand) (loud : Bool)
+      → i ≡ length es → (IsTrue false ↔ (length ops ≤ length es)) → Goes ops first es (drop i ops) left (drop i es) loud → (r : Operand) → Chains E ops first es r → ⊥
+  chain_over ops first es i left loud k d g = chain_left_over ops first es i left loud (omega arith) (λ h. not_true (d.1 (omega arith))) g
+    where
+      not_true : IsTrue false → ⊥
+      not_true h = absurd (cc)
+
+  pub chain_whole : (ops : List Operator) (first : Operand) (es : List Expr) (i : ℕ) (left : Operand) (loud : Bool)
+      → i ≡ length es → (IsTrue true ↔ (length ops ≤ length es)) → Goes ops first es (drop i ops) left (drop i es) loud → Chains E ops first es left × AreLoud E (map expression es) loud
+  chain_whole ops first es i left loud k d g = let h = d.0 refl in chain_done ops first es i left loud (omega arith) (omega arith) g
+
   -- ---- with the first operand
 
-  pub from_operand : (ops : List Operator) (e : Expr) (es : List Expr) (o : Operand) → Has E e o → ((r : Operand) → Chains E ops o es r → ⊥) → (r : Operand) → ChainsFrom E ops e es r → ⊥
-  from_operand ops e es o h none r c = none r (subst (λ (q : Operand). Chains E ops q es r) (has_once E c.1 h) c.2)
+  pub chain_from : (ops : List Operator) (e : Expr) (es : List Expr) (o : Operand) → Has E e o → (r : Operand) → ChainsFrom E ops e es r → (s : Operand) × Chains E ops o es s
+  chain_from ops e es o h r c = (r, subst (λ (q : Operand). Chains E ops q es r) (has_once E c.1 h) c.2)
 
   -- ---- the chains of each operator
 

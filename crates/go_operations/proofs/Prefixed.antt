@@ -1,5 +1,5 @@
 -- Operators before an operand, by what the operand is.
-use Rattle.std.proofs.Common.{◌≡◌, ◌×◌, refl, sym, ap, ◌∙◌, subst, Bool, true, false, Some}
+use Rattle.std.proofs.Common.{◌≡◌, refl, sym, ap, ◌∙◌, subst, Bool, true, false, List, Some}
 use Rattle.go_base.specs.declared.operator.PrefixOperator.{PrefixOperator}
 use Rattle.go_base.specs.declared.operator.PrefixOperator.TheVariants as prefix
 use Rattle.go_model.specs.declared.constants.value.UnaryOp.{UnaryOp}
@@ -11,7 +11,9 @@ use Rattle.go_rules.specs.declared.operand.Operand.{Operand}
 use Rattle.go_rules.proofs.OneOperand.{has_once}
 use Rattle.go_operators.specs.Prefixes.{Addresses, addresses_variable, addresses_literal, Changes, changes_constant, changes_value, Dereferences, dereferences_value, dereferences_type, Prefixes, Receives, receives_element}
 use Rattle.go_selectors.specs.Answers.{Decides}
+use Rattle.go_syntax.specs.declared.expression.Element.{Element}
 use Rattle.go_syntax.specs.declared.expression.Expr.{Expr, Expr-F, out-Expr}
+use Rattle.go_syntax.specs.declared.types.«Type».{«Type» as Typ}
 use Rattle.go_operations.proofs.Typed.{none_some, one_some}
 
 -- the operators that change a value
@@ -79,14 +81,24 @@ module _ (E : Env) (e : Expr) (b : Bool) (d : Decides (IsComposite e) b) where
 
 -- ---- composite literals
 
+abbrev paren_in : ExprLayer → Expr → Expr
+paren_in (Expr-F.«Expr::Paren» x) d = x
+paren_in l d = d
+
+inner : {e x : Expr} → out-Expr e ≡ Expr-F.«Expr::Paren» x → IsComposite e → IsComposite x
+inner i (composite j) = absurd (apart (sym j ∙ i))
+  where
+    apart : {t : Typ} {xs : List Element} {x : Expr} → ◌≡◌ {A = ExprLayer} (Expr-F.Composite t xs) (Expr-F.«Expr::Paren» x) → ⊥
+    apart k = absurd (cc)
+inner i (composite_array j) = absurd (apart (sym j ∙ i))
+  where
+    apart : {t : Typ} {xs : List Element} {x : Expr} → ◌≡◌ {A = ExprLayer} (Expr-F.CompositeArray t xs) (Expr-F.«Expr::Paren» x) → ⊥
+    apart k = absurd (cc)
+inner {x = x} i (composite_paren {x = y} j h) = subst IsComposite (ap (λ (l : ExprLayer). paren_in l y) (sym j ∙ i)) h
+
 pub paren_composite : (e x : Expr) → out-Expr e ≡ Expr-F.«Expr::Paren» x → (b : Bool) → Decides (IsComposite x) b → Decides (IsComposite e) b
 paren_composite e x i true d = composite_paren i d
 paren_composite e x i false d = λ h. d (inner i h)
-  where
-    inner : {e x : Expr} → out-Expr e ≡ Expr-F.«Expr::Paren» x → IsComposite e → IsComposite x
-    inner i (composite j) = absurd (cc)
-    inner i (composite_array j) = absurd (cc)
-    inner {x = x} i (composite_paren {x = y} j h) = subst IsComposite (same (sym j ∙ i)) h
-      where
-        same : {y x : Expr} → ◌≡◌ {A = ExprLayer} (Expr-F.«Expr::Paren» y) (Expr-F.«Expr::Paren» x) → y ≡ x
-        same k = cc
+
+pub paren_is : (e x y : Expr) (b : Bool) → out-Expr e ≡ Expr-F.«Expr::Paren» x → y ≡ x → Decides (IsComposite y) b → Decides (IsComposite e) b
+paren_is e x y b i j d = paren_composite e x i b (subst (λ (z : Expr). Decides (IsComposite z) b) j d)

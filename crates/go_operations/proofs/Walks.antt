@@ -1,5 +1,5 @@
 -- What is done part by part along a list, and whether its parts are loud.
-use Rattle.std.proofs.Common.{◌≡◌, ◌×◌, List, [], ◌∷◌, ◌++◌, refl, sym, ap, ◌∙◌, subst, Bool, true, false, ◌||◌}
+use Rattle.std.proofs.Common.{◌≡◌, List, [], ◌∷◌, ◌++◌, refl, sym, ap, ◌∙◌, subst, Bool, true, false, ◌||◌}
 use Rattle.go_rules.specs.Environments.{Env}
 use Rattle.go_rules.specs.Nodes.{Node}
 use Rattle.go_type_terms.specs.Loudness.{AreLoud}
