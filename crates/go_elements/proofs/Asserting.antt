@@ -1,5 +1,5 @@
 -- Type assertions: what they make, and where they make nothing.
-use Rattle.std.proofs.Common.{◌≡◌, Bool, true, false, Some, None, subst, if◌then◌else◌, ◌⊎◌, inl, inr, List}
+use Rattle.std.proofs.Common.{◌≡◌, Bool, true, false, Some, None, subst, if◌then◌else◌, inl, inr, List}
 use Rattle.go_model.specs.declared.types.term.Method.{Method}
 use Rattle.go_model.specs.declared.types.term.Term.{Term, Term-F}
 use Rattle.go_model.specs.types.Underlying.{under}

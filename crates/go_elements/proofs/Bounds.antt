@@ -1,19 +1,17 @@
 -- The indices of slice expressions: what they make of a slice, and where they make nothing.
-use Rattle.std.proofs.Common.{◌≡◌, ℕ, Bool, true, false, Option, Some, None, subst, if◌then◌else◌, [], ◌∷◌}
+use Rattle.std.proofs.Common.{◌≡◌, ℕ, true, false, Option, subst, [], ◌∷◌}
 use Rattle.go_rules.specs.Environments.{Env}
 use Rattle.go_rules.specs.Expressions.{Ascend, IsIndex, Slices}
 use Rattle.go_rules.specs.declared.operand.Operand.{Operand}
-use Rattle.go_rules.proofs.OneResult.{one_index, one_limit, one_sliced}
-use Rattle.go_selectors.specs.Answers.{Decides}
-use Rattle.go_usability.specs.Answers.{Gives}
+use Rattle.go_rules.proofs.OneResult.{one_index, one_limit}
 use Rattle.go_elements.specs.SliceExpressions.{IsOptionalIndex, SlicesSimply, slices_simply, SlicesFully, slices_fully}
-use Rattle.go_elements.proofs.Indices.{one_optional}
+use Rattle.go_elements.proofs.IndexValues.{one_optional}
 use Rattle.go_elements.proofs.Slicing.{Pair}
 
-abbrev Ascends : Option ℕ → Option ℕ → Option ℕ → Type 0
+abbrev pub Ascends : Option ℕ → Option ℕ → Option ℕ → Type 0
 Ascends i j n = Ascend (i ∷ j ∷ []) n
 
-abbrev AscendThrough : Option ℕ → Option ℕ → Option ℕ → Option ℕ → Type 0
+abbrev pub AscendThrough : Option ℕ → Option ℕ → Option ℕ → Option ℕ → Type 0
 AscendThrough i j k n = Ascend (i ∷ j ∷ k ∷ []) n
 
 ascends_so : {h i j k m n : Option ℕ} → h ≡ i → j ≡ k → m ≡ n → Ascends h j m → Ascends i k n
@@ -27,23 +25,11 @@ through_so {g = g} {h = h} {i = i} {j = j} {k = k} {m = m} {n = n} p q r s a =
 module _ (E : Env) (o : Operand) (low : Option Operand) where
   -- ---- two indices
 
-  simple_low : {high : Option Operand} {r : Operand} → SlicesSimply E o low high r → (i : Option ℕ) × IsOptionalIndex E low i
-  simple_low (slices_simply s a b d) = (_, a)
-
-  simple_high : {high : Option Operand} {r : Operand} → SlicesSimply E o low high r → (i : Option ℕ) × IsOptionalIndex E high i
-  simple_high (slices_simply s a b d) = (_, b)
-
   simple_slice : {high : Option Operand} {r : Operand} → SlicesSimply E o low high r → (p : Pair) × Slices E true o p.0 p.1
   simple_slice (slices_simply {r = r} {n = n} s a b d) = ((n, r), s)
 
   simple_ascends : {high : Option Operand} {r s : Operand} {i j n : Option ℕ} → Slices E true o n r → IsOptionalIndex E low i → IsOptionalIndex E high j → SlicesSimply E o low high s → Ascends i j n
   simple_ascends t x y (slices_simply s a b d) = ascends_so (one_optional E a x) (one_optional E b y) (one_limit s t) d
-
-  pub simple_no_low : (high : Option Operand) → ((i : Option ℕ) → IsOptionalIndex E low i → ⊥) → (r : Operand) → SlicesSimply E o low high r → ⊥
-  simple_no_low high none r x = none _ (simple_low x).1
-
-  pub simple_no_high : (high : Option Operand) → ((i : Option ℕ) → IsOptionalIndex E high i → ⊥) → (r : Operand) → SlicesSimply E o low high r → ⊥
-  simple_no_high high none r x = none _ (simple_high x).1
 
   pub simple_no_slice : (high : Option Operand) → ((p : Pair) → Slices E true o p.0 p.1 → ⊥) → (r : Operand) → SlicesSimply E o low high r → ⊥
   simple_no_slice high none r x = none _ (simple_slice x).1
@@ -56,12 +42,6 @@ module _ (E : Env) (o : Operand) (low : Option Operand) where
 
   -- ---- three indices
 
-  full_low : {high bound r : Operand} → SlicesFully E o low high bound r → (i : Option ℕ) × IsOptionalIndex E low i
-  full_low (slices_fully s a b c d) = (_, a)
-
-  full_high : {high bound r : Operand} → SlicesFully E o low high bound r → (i : Option ℕ) × IsIndex E high i
-  full_high (slices_fully s a b c d) = (_, b)
-
   full_bound : {high bound r : Operand} → SlicesFully E o low high bound r → (i : Option ℕ) × IsIndex E bound i
   full_bound (slices_fully s a b c d) = (_, c)
 
@@ -72,12 +52,6 @@ module _ (E : Env) (o : Operand) (low : Option Operand) where
   full_ascends t x y z (slices_fully s a b c d) = through_so (one_optional E a x) (one_index b y) (one_index c z) (one_limit s t) d
 
   module _ (high bound : Operand) where
-    pub full_no_low : ((i : Option ℕ) → IsOptionalIndex E low i → ⊥) → (r : Operand) → SlicesFully E o low high bound r → ⊥
-    full_no_low none r x = none _ (full_low x).1
-
-    pub full_no_high : ((i : Option ℕ) → IsIndex E high i → ⊥) → (r : Operand) → SlicesFully E o low high bound r → ⊥
-    full_no_high none r x = none _ (full_high x).1
-
     pub full_no_bound : ((i : Option ℕ) → IsIndex E bound i → ⊥) → (r : Operand) → SlicesFully E o low high bound r → ⊥
     full_no_bound none r x = none _ (full_bound x).1
 

@@ -1,10 +1,9 @@
-pub mod Arrays
+pub mod ArrayLengths
 pub mod Asserting
 pub mod Bounds
-pub mod Elements
-pub mod Indices
-pub mod LevelParts
+pub mod IndexValues
+pub mod Indexing
 pub mod Posts
 pub mod Selecting
 pub mod Slicing
-pub mod Strings
+pub mod StringLengths

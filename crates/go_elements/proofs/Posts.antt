@@ -1,8 +1,8 @@
 -- What follows an operand in a tree, by the operands in it.
-use Rattle.std.proofs.Common.{◌≡◌, ℕ, Option, Some, None, [], ◌∷◌}
+use Rattle.std.proofs.Common.{ℕ, true, false, Option, Some, None, [], ◌∷◌}
 use Rattle.go_model.specs.declared.types.term.Term.{Term}
 use Rattle.go_rules.specs.Environments.{Env}
-use Rattle.go_rules.specs.Expressions.{Ascend, Below, Has, HasOptional, optional_none, optional_some, HasPost, post_field, post_method, post_method_expression, post_assertion, post_array, post_array_pointer, post_slice_index, post_string, post_map, post_slice, post_full_slice, post_conversion, post_call, post_builtin, IsIndex, OfType, Slices}
+use Rattle.go_rules.specs.Expressions.{Ascend, Has, HasOptional, optional_none, optional_some, HasPost, post_field, post_method, post_method_expression, post_assertion, post_array, post_array_pointer, post_slice_index, post_string, post_map, post_slice, post_full_slice, post_conversion, post_call, post_builtin, IsIndex, OfType, Slices}
 use Rattle.go_rules.specs.declared.operand.Operand.{Operand}
 use Rattle.go_syntax.specs.declared.expression.Expr.{Expr}
 use Rattle.go_syntax.specs.declared.expression.Post.{Post-F}
@@ -13,15 +13,15 @@ use Rattle.go_elements.specs.Indexes.{Indexes, indexes_array, indexes_array_poin
 use Rattle.go_elements.specs.Selections.{Selects, selects_field, selects_method, selects_function}
 use Rattle.go_elements.specs.SliceExpressions.{HasWhere, where_left_out, where_given, IsOptionalIndex, index_left_out, index_given, SlicesSimply, slices_simply, SlicesFully, slices_fully}
 
-module _ {E : Env} {o r : Operand} where
+module _ {E : Env} where
   -- ---- selectors
 
-  pub selects_post : {n : Name} → Selects E n.text o r → HasPost E o (Post-F.Selector n) r
+  pub selects_post : {o r : Operand} {n : Name} → Selects E n.text o r → HasPost E o (Post-F.Selector n) r
   selects_post (selects_field b h f) = post_field b h f
   selects_post (selects_method b h m) = post_method b h m
   selects_post (selects_function b m) = post_method_expression b m
 
-  pub post_selects : {n : Name} → HasPost E o (Post-F.Selector n) r → Selects E n.text o r
+  pub post_selects : {o r : Operand} {n : Name} → HasPost E o (Post-F.Selector n) r → Selects E n.text o r
   post_selects (post_field b h f) = selects_field b h f
   post_selects (post_method b h m) = selects_method b h m
   post_selects (post_method_expression b m) = selects_function b m
@@ -31,14 +31,14 @@ module _ {E : Env} {o r : Operand} where
 
   -- ---- indices
 
-  pub indexes_post : {x : Expr} {i : Operand} → Has E x i → Indexes E o i r → HasPost E o (Post-F.Index x) r
+  pub indexes_post : {o r : Operand} {x : Expr} {i : Operand} → Has E x i → Indexes E o i r → HasPost E o (Post-F.Index x) r
   indexes_post a (indexes_array h e i b) = post_array h e a i b
   indexes_post a (indexes_array_pointer h e f i b) = post_array_pointer h e f a i b
   indexes_post a (indexes_slice h e i) = post_slice_index h e a i
   indexes_post a (indexes_string s i b) = post_string s a i b
   indexes_post a (indexes_map h e u) = post_map h e a u
 
-  pub post_indexes : {x : Expr} → HasPost E o (Post-F.Index x) r → (i : Operand) × Has E x i × Indexes E o i r
+  pub post_indexes : {o r : Operand} {x : Expr} → HasPost E o (Post-F.Index x) r → (i : Operand) × Has E x i × Indexes E o i r
   post_indexes (post_array h e a i b) = (_, a, indexes_array h e i b)
   post_indexes (post_array_pointer h e f a i b) = (_, a, indexes_array_pointer h e f i b)
   post_indexes (post_slice_index h e a i) = (_, a, indexes_slice h e i)
@@ -50,18 +50,17 @@ module _ {E : Env} {o r : Operand} where
 
   -- ---- type assertions
 
-  pub asserts_post : {x : Typ} {u : Term} → OfType E x u → Asserts E o u r → HasPost E o (Post-F.TypeAssertion x) r
+  pub asserts_post : {o r : Operand} {x : Typ} {u : Term} → OfType E x u → Asserts E o u r → HasPost E o (Post-F.TypeAssertion x) r
   asserts_post t (asserts h e m) = post_assertion h e t m
 
-  pub post_asserts : {x : Typ} → HasPost E o (Post-F.TypeAssertion x) r → (u : Term) × OfType E x u × Asserts E o u r
+  pub post_asserts : {o r : Operand} {x : Typ} → HasPost E o (Post-F.TypeAssertion x) r → (u : Term) × OfType E x u × Asserts E o u r
   post_asserts (post_assertion h e t m) = (_, t, asserts h e m)
   post_asserts (post_conversion c h v) = elim c [ ]
   post_asserts (post_call c h e a f) = elim c [ ]
   post_asserts (post_builtin c b) = elim c [ ]
 
--- ---- slice expressions
+  -- ---- slice expressions
 
-module _ {E : Env} where
   optional_has : {e : Option Expr} {q : Option Operand} {c : Option ℕ} → HasWhere E e q → IsOptionalIndex E q c → HasOptional E e c
   optional_has where_left_out index_left_out = optional_none
   optional_has (where_given h) (index_given i) = optional_some h i

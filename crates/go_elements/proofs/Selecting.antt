@@ -3,12 +3,10 @@ use Rattle.std.proofs.Common.{◌≡◌, ℕ, Bool, true, false, Option, Some, N
 use Rattle.go_model.specs.declared.types.found.FieldFound.{FieldFound}
 use Rattle.go_model.specs.declared.types.found.Found.{Found as Find}
 use Rattle.go_model.specs.declared.types.found.Found.TheVariants as find
-use Rattle.go_model.specs.declared.types.found.MethodFound.{MethodFound}
 use Rattle.go_model.specs.declared.types.names.Sel.{Sel}
-use Rattle.go_model.specs.declared.types.names.TypeName.{TypeName}
 use Rattle.go_model.specs.declared.types.term.Signature.{Signature}
 use Rattle.go_model.specs.declared.types.term.Term.{Term}
-use Rattle.go_model.specs.types.Selectors.{field, method}
+use Rattle.go_model.specs.types.Selectors.{field}
 use Rattle.go_rules.specs.Environments.{Env, Found, HasMethod, selector_of}
 use Rattle.go_rules.specs.Expressions.{is_blank, reached, with_receiver}
 use Rattle.go_rules.specs.Operands.{IsTyped, function_of, is_variable, plain, type_name, value_of}
@@ -16,10 +14,9 @@ use Rattle.go_rules.specs.declared.operand.Operand.{Operand}
 use Rattle.go_rules.proofs.OneFound.{field_or_method, one_found}
 use Rattle.go_rules.proofs.OneForm.{typed_no_type}
 use Rattle.go_rules.proofs.OneKind.{no_truth, one_type}
-use Rattle.go_usability.specs.Answers.{FindsIn, FindsNone, Gives}
+use Rattle.go_usability.specs.Answers.{FindsIn, Gives}
 use Rattle.go_elements.specs.Selections.{Selects, selects_field, selects_method, selects_function}
 use Rattle.go_elements.specs.inner.Selected.{SelectsFunction, selects_expression, SelectsMethod, selects_value, SelectsIn, in_field, in_method}
-use Rattle.go_operators.proofs.Answers.{false_true}
 
 module _ (E : Env) (s : Sel) where
   function_in : {t : Term} {r : Operand} → SelectsFunction E s t r → (g : Signature) × HasMethod E false t s g
@@ -28,8 +25,8 @@ module _ (E : Env) (s : Sel) where
   pub function_none : (t : Term) → ((g : Signature) → HasMethod E false t s g → ⊥) → (r : Operand) → SelectsFunction E s t r → ⊥
   function_none t none r x = none _ (function_in x).1
 
-  pub function_some : (t : Term) (g : Signature) → HasMethod E false t s g → SelectsFunction E s t (plain (function_of (with_receiver t g)))
-  function_some t g m = selects_expression m
+  pub function_some : (t : Term) (g h : Signature) (r : Operand) → HasMethod E false t s g → h ≡ with_receiver t g → r ≡ plain (function_of h) → SelectsFunction E s t r
+  function_some t g h r m e f = subst (SelectsFunction E s t) (sym (f ∙ ap (λ (x : Signature). plain (function_of x)) e)) (selects_expression m)
 
   method_in : {a : Bool} {t : Term} {r : Operand} → SelectsMethod E s a t r → (g : Signature) × HasMethod E a t s g
   method_in (selects_value m) = (_, m)
@@ -37,47 +34,30 @@ module _ (E : Env) (s : Sel) where
   pub method_none : (a : Bool) (t : Term) → ((g : Signature) → HasMethod E a t s g → ⊥) → (r : Operand) → SelectsMethod E s a t r → ⊥
   method_none a t none r x = none _ (method_in x).1
 
-  pub method_some : (a : Bool) (t : Term) (g : Signature) → HasMethod E a t s g → SelectsMethod E s a t (plain (function_of g))
-  method_some a t g m = selects_value m
+  pub method_some : (a : Bool) (t : Term) (g : Signature) (r : Operand) → HasMethod E a t s g → r ≡ plain (function_of g) → SelectsMethod E s a t r
+  method_some a t g r m e = subst (SelectsMethod E s a t) (sym e) (selects_value m)
 
-  pub in_some_field : (a : Bool) (t : Term) (f : FieldFound) (o : Option Find) → o ≡ Some (find.FieldAt f) → FindsIn E s t o → SelectsIn E s a t (value_of (reached (if f.through_pointer then true else a)) f.term)
-  in_some_field a t f o e d = in_field (subst (FindsIn E s t) e d).0
+  pub field_some : (a : Bool) (t : Term) (f : FieldFound) (o : Option Find) (r : Operand) → o ≡ Some (find.FieldAt f) → FindsIn E s t o → r ≡ value_of (reached (if f.through_pointer then true else a)) f.term → SelectsIn E s a t r
+  field_some a t f o r e d q = subst (SelectsIn E s a t) (sym q) (in_field (subst (FindsIn E s t) e d).0)
 
-  not_field : {a : Bool} {t : Term} {r : Operand} {through pointer : Bool} {owner : Option TypeName} {g : Signature} → Found E s t (record { through = through; target = method owner pointer g }) → SelectsIn E s a t r → SelectsMethod E s a t r
-  not_field f (in_field h) = absurd (field_or_method (one_found h f))
-  not_field f (in_method m) = m
+  no_field : {t u : Term} {through : Bool} (o : Option Find) → FindsIn E s t o → ((f : FieldFound) → o ≡ Some (find.FieldAt f) → ⊥) → Found E s t (record { through = through; target = field u }) → ⊥
+  no_field None d none h = d.no_field _ _ h
+  no_field (Some (find.FieldAt f)) d none h = none f refl
+  no_field (Some (find.MethodAt m)) d none h = field_or_method (one_found h d.0)
+  no_field (Some find.Ambiguous) d none h = d
+  no_field (Some find.Nothing) d none h = d
 
-  found_method : {t : Term} {m : MethodFound} → FindsIn E s t (Some (find.MethodAt m)) → Found E s t (record { through = m.through_pointer; target = method m.owner m.pointer_receiver m.signature })
-  found_method d = d.0
+  to_method : {a : Bool} {t : Term} {r : Operand} (o : Option Find) → FindsIn E s t o → ((f : FieldFound) → o ≡ Some (find.FieldAt f) → ⊥) → SelectsIn E s a t r → SelectsMethod E s a t r
+  to_method o d none (in_field h) = absurd (no_field o d none h)
+  to_method o d none (in_method m) = m
 
-  pub in_some_method : (a : Bool) (t : Term) (m : MethodFound) (o : Option Find) (r : Option Operand) → o ≡ Some (find.MethodAt m) → FindsIn E s t o → Gives (SelectsMethod E s a t) r → Gives (SelectsIn E s a t) r
-  in_some_method a t m o (Some r) e d g = in_method g
-  in_some_method a t m o None e d g = λ r x. g r (not_field (found_method (subst (FindsIn E s t) e d)) x)
-
-  finds_none : {a : Bool} {t : Term} {r : Operand} → FindsNone E s t → SelectsIn E s a t r → ⊥
-  finds_none none (in_field h) = none.no_field _ _ h
-  finds_none none (in_method m) = none.no_method _ _ _ _ (method_in m).1.found (method_in m).1.counts
-
-  pub in_nothing : (a : Bool) (t : Term) (o : Option Find) → o ≡ None → FindsIn E s t o → (r : Operand) → SelectsIn E s a t r → ⊥
-  in_nothing a t o e d r x = finds_none (subst (FindsIn E s t) e d) x
-
-  pub in_ambiguous : (a : Bool) (t : Term) (o : Option Find) → o ≡ Some find.Ambiguous → FindsIn E s t o → (r : Operand) → SelectsIn E s a t r → ⊥
-  in_ambiguous a t o e d r x = subst (FindsIn E s t) e d
-
-  pub in_missing : (a : Bool) (t : Term) (o : Option Find) → o ≡ Some find.Nothing → FindsIn E s t o → (r : Operand) → SelectsIn E s a t r → ⊥
-  in_missing a t o e d r x = subst (FindsIn E s t) e d
+  pub method_gives : (a : Bool) (t : Term) (o : Option Find) (r : Option Operand) → FindsIn E s t o → ((f : FieldFound) → o ≡ Some (find.FieldAt f) → ⊥) → Gives (SelectsMethod E s a t) r → Gives (SelectsIn E s a t) r
+  method_gives a t o (Some r) d none g = in_method g
+  method_gives a t o None d none g = λ r x. g r (to_method o d none x)
 
 -- ---- the result
 
 module _ (E : Env) (name : List ℕ) where
-  not_blank : {o r : Operand} → Selects E name o r → is_blank name ≡ false
-  not_blank (selects_field b h f) = b
-  not_blank (selects_method b h m) = b
-  not_blank (selects_function b m) = b
-
-  pub select_blank : (o : Operand) → is_blank name ≡ true → (r : Operand) → Selects E name o r → ⊥
-  select_blank o e r x = false_true (sym (not_blank x) ∙ e)
-
   of_function : {t : Term} {r : Operand} → is_blank name ≡ false → SelectsFunction E (selector_of E name) t r → Selects E name (type_name t) r
   of_function b (selects_expression m) = selects_function b m
 
@@ -112,8 +92,8 @@ module _ (E : Env) (name : List ℕ) where
   value_gives o t (Some r) b h g = of_in b h g
   value_gives o t None b h g = λ r x. g r (to_in h x)
 
-  pub select_value : (o : Operand) (t : Term) (s : Sel) (r : Option Operand) → is_blank name ≡ false → IsTyped o t → s ≡ selector_of E name → Gives (SelectsIn E s (is_variable o.mode) t) r → Gives (Selects E name o) r
-  select_value o t s r b h f g = value_gives o t r b h (subst (λ (x : Sel). Gives (SelectsIn E x (is_variable o.mode) t) r) f g)
+  pub select_value : (o : Operand) (t : Term) (s : Sel) (a : Bool) (r : Option Operand) → is_blank name ≡ false → IsTyped o t → s ≡ selector_of E name → a ≡ is_variable o.mode → Gives (SelectsIn E s a t) r → Gives (Selects E name o) r
+  select_value o t s a r b h f e g = value_gives o t r b h (subst (λ (x : Bool). Gives (SelectsIn E (selector_of E name) x t) r) e (subst (λ (x : Sel). Gives (SelectsIn E x a t) r) f g))
 
   selected : {o r : Operand} → ((t : Term) → o ≡ type_name t → ⊥) → ((t : Term) → IsTyped o t → ⊥) → Selects E name o r → ⊥
   selected no_name none (selects_field b g f) = none _ g

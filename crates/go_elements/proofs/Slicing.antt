@@ -1,5 +1,5 @@
 -- What is sliced, and where there is no slice.
-use Rattle.std.proofs.Common.{◌≡◌, ℕ, Bool, true, false, Option, Some, None, refl, sym, ap, ◌∙◌, subst, length, List}
+use Rattle.std.proofs.Common.{◌≡◌, ℕ, Bool, true, false, Option, Some, None, refl, sym, ◌∙◌, subst, length}
 use Rattle.go_model.specs.declared.constants.value.Basic.TheVariants as basic
 use Rattle.go_model.specs.declared.constants.value.Value.{Value}
 use Rattle.go_model.specs.declared.constants.value.Value.TheVariants as value
@@ -9,10 +9,10 @@ use Rattle.go_model.specs.declared.types.term.Term.{Term, Term-F}
 use Rattle.go_model.specs.types.Terms.{Layer}
 use Rattle.go_model.specs.types.Underlying.{under}
 use Rattle.go_rules.specs.Environments.{Env}
-use Rattle.go_rules.specs.Expressions.{IsString, Slices, slices_string, slices_untyped, slices_array, slices_array_pointer, slices_slice, slice_of}
-use Rattle.go_rules.specs.Operands.{IsTyped, typed_value, untyped_constant, basic_term, constant_of, is_variable, plain, variable}
+use Rattle.go_rules.specs.Expressions.{Slices, slices_string, slices_untyped, slices_array, slices_array_pointer, slices_slice, slice_of}
+use Rattle.go_rules.specs.Operands.{IsTyped, typed_value, untyped_constant, basic_term, constant_of, plain, variable}
 use Rattle.go_rules.specs.declared.operand.Operand.{Operand}
-use Rattle.go_rules.proofs.OneKind.{const_in, one_type, typed_or_untyped, value_in}
+use Rattle.go_rules.proofs.OneKind.{one_type, typed_or_untyped}
 use Rattle.go_rules.proofs.OneResult.{string_under}
 use Rattle.go_usability.specs.Answers.{Gives}
 use Rattle.go_elements.specs.inner.Sliced.{IsUntypedText, SlicesAt, SlicesBase, SlicesUntyped}
@@ -25,9 +25,6 @@ Pair = Option ℕ × Operand
 
 -- ---- untyped strings
 
-constant_same : {b c : ConstTerm} {v w : Value} → constant_of b v ≡ constant_of c w → (b ≡ c) × (v ≡ w)
-constant_same e = (ap (λ (o : Operand). const_in o.shape) e, ap (λ (o : Operand). value_in o.shape) e)
-
 module _ (simple : Bool) (o : Operand) where
   pub untyped_not_simple : simple ≡ false → (p : Pair) → SlicesUntyped simple o p.0 p.1 → ⊥
   untyped_not_simple f p x = false_true (sym f ∙ x.by_two)
@@ -37,11 +34,6 @@ module _ (simple : Bool) (o : Operand) where
 
   pub untyped_some : (c : ConstTerm) (v : Value) (n : ℕ) (r : Operand) → simple ≡ true → o ≡ constant_of c v → IsUntypedText c v n → r ≡ plain (basic_term basic.Str) → SlicesUntyped simple o (Some n) r
   untyped_some c v n r e f t g = record { by_two = e; of = c; held = v; constant = f; size = n; text = t; limit = refl; is = g }
-
-  pub untyped_no_text : (c : ConstTerm) (v : Value) → o ≡ constant_of c v → ((n : ℕ) → IsUntypedText c v n → ⊥) → (p : Pair) → SlicesUntyped simple o p.0 p.1 → ⊥
-  untyped_no_text c v e none p x =
-      let s = constant_same (sym x.constant ∙ e) in
-      none x.size (subst (λ (y : Value). IsUntypedText c y x.size) s.1 (subst (λ (y : ConstTerm). IsUntypedText y x.held x.size) s.0 x.text))
 
 -- ---- typed values
 
@@ -60,16 +52,16 @@ module _ (E : Env) (simple : Bool) where
   of_layer (Term-F.Slice e) {o = o} {r = r} h u x = subst (λ (y : Option ℕ). Slices E simple o y r) (sym x.0) (subst (Slices E simple o None) (sym x.1) (slices_slice h u))
   of_layer l h u x = absurd x
 
-  at_layer : {o r : Operand} {t u : Term} {n : Option ℕ} {k : Layer} → IsTyped o t → IsTyped o u → under E.table u ≡ k → SlicesAt E simple o u k n r → SlicesAt E simple o t (under E.table t) n r
-  at_layer {o = o} {r = r} {u = u} {n = n} h g f x =
+  at_layer : (r : Operand) (n : Option ℕ) {o : Operand} {t u : Term} {k : Layer} → IsTyped o t → IsTyped o u → under E.table u ≡ k → SlicesAt E simple o u k n r → SlicesAt E simple o t (under E.table t) n r
+  at_layer r n {o = o} {u = u} h g f x =
       subst (λ (y : Term). SlicesAt E simple o y (under E.table y) n r) (one_type g h) (subst (λ (y : Layer). SlicesAt E simple o u y n r) (sym f) x)
 
   to_layer : {o r : Operand} {t : Term} {n : Option ℕ} → IsTyped o t → Slices E simple o n r → SlicesAt E simple o t (under E.table t) n r
-  to_layer h (slices_string s g i) = at_layer h g (string_under i g) (s, i, refl)
+  to_layer h (slices_string s g i) = at_layer _ _ h g (string_under i g) (s, i, refl)
   to_layer h (slices_untyped s) = absurd (typed_or_untyped h untyped_constant)
-  to_layer h (slices_array f) = at_layer h (typed_value refl) f (refl, refl, refl)
-  to_layer {r = r} h (slices_array_pointer {base = base} {n = m} g f p) = at_layer {k = Term-F.Pointer base} h g f (subst (λ (y : Layer). SlicesBase y (Some m) r) (sym p) (refl, refl))
-  to_layer h (slices_slice g f) = at_layer h g f (refl, refl)
+  to_layer h (slices_array f) = at_layer _ _ h (typed_value refl) f (refl, refl, refl)
+  to_layer {r = r} h (slices_array_pointer {base = base} {n = m} g f p) = at_layer r (Some m) {k = Term-F.Pointer base} h g f (subst (λ (y : Layer). SlicesBase y (Some m) r) (sym p) (refl, refl))
+  to_layer h (slices_slice g f) = at_layer _ _ h g f (refl, refl)
 
   pub slice_gives : (o : Operand) (t : Term) (l : Layer) (p : Option Pair) → IsTyped o t → l ≡ under E.table t → Gives (λ q. SlicesAt E simple o t l q.0 q.1) p → Gives (λ q. Slices E simple o q.0 q.1) p
   slice_gives o t l (Some p) h e g = of_layer l h (sym e) g

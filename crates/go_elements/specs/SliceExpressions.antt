@@ -1,6 +1,6 @@
 -- Slice expressions, over operands.
 -- Public source: Go specification, "Slice expressions".
-use Rattle.std.specs.Prelude.{ℕ, true, false, Option, Some, None, List, [], ◌∷◌}
+use Rattle.std.specs.Prelude.{ℕ, true, false, Option, Some, None, [], ◌∷◌}
 use Rattle.go_rules.specs.Environments.{Env}
 use Rattle.go_rules.specs.Expressions.{Ascend, Has, IsIndex, Slices}
 use Rattle.go_rules.specs.declared.operand.Operand.{Operand}

@@ -1,7 +1,9 @@
 //! Selectors after an operand.
-ghost use Rattle.std.specs.Prelude.{◌≡◌, ◌∷◌, IfOk};
-ghost use Rattle.go_rules.specs.Expressions.{is_blank, with_receiver};
-ghost use Rattle.go_rules.specs.Operands.{function_of, plain};
+ghost use Rattle.std.specs.Prelude.{◌≡◌, ◌∷◌, IfOk, Some, true, if◌then◌else◌};
+ghost use Rattle.go_base.specs.Keys.{item_of};
+ghost use Rattle.go_model.specs.declared.types.found.Found.TheVariants as find;
+ghost use Rattle.go_rules.specs.Expressions.{is_blank, reached, with_receiver};
+ghost use Rattle.go_rules.specs.Operands.{function_of, plain, value_of};
 ghost use Rattle.go_rules.specs.Scopes.{env_of};
 ghost use Rattle.go_usability.specs.Answers.{Gives};
 ghost use Rattle.go_elements.specs.Selections.{Selects};
@@ -10,7 +12,7 @@ ghost use Rattle.go_elements.specs.inner.Selected.{SelectsFunction, SelectsIn, S
 use crate::elements::reached;
 use go_base::list::List;
 use go_base::memory::NoMemory;
-use go_model::types::found::Found;
+use go_model::types::found::{FieldFound, Found};
 use go_model::types::names::Sel;
 use go_model::types::term::{Signature, Term};
 use go_operators::operands::{plain, value_of};
@@ -101,6 +103,24 @@ fn select_method(
     }
 }
 
+// The field that was found.
+fn field_in(found: &Option<Found>) -> Option<&FieldFound>
+    ensures { Gives (λ f. found.now ≡ Some (find.FieldAt f)) (item_of result) }
+{
+    match found {
+        Some(Found::FieldAt(field)) => Some(field),
+        _ => None,
+    }
+}
+
+// A field of this type that was found through a pointer or not.
+fn field_value(alloc: Global, addressable: bool, field: &FieldFound) -> Result<Operand, NoMemory>
+    ensures { IfOk result (λ value. value ≡ value_of (reached (if field.now.through_pointer then true else addressable)) field.now.term) }
+{
+    let mode = reached(field.through_pointer || addressable);
+    Ok(value_of(mode, field.term.copy(alloc)?))
+}
+
 // A field or method of a value of a type.
 fn select_in(
     context: &Context<'_>,
@@ -112,24 +132,12 @@ fn select_in(
     ensures { IfOk result (Gives (SelectsIn (env_of context.now.env.now) sel.now addressable term.now)) }
 {
     let answer = found(context, alloc, term, sel)?;
-    match &answer {
-        Some(Found::FieldAt(field)) => {
-            let mode = reached(if field.through_pointer {
-                true
-            } else {
-                addressable
-            });
-            let copied = field.term.copy(alloc)?;
-            Ok(Some(value_of(mode, copied)))
-        }
-        Some(Found::MethodAt(_)) => {
-            let method = select_method(context, alloc, addressable, term, sel)?;
-            Ok(method)
-        }
-        Some(Found::Ambiguous) => Ok(None),
-        Some(Found::Nothing) => Ok(None),
-        None => Ok(None),
+    if let Some(field) = field_in(&answer) {
+        let value = field_value(alloc, addressable, field)?;
+        return Ok(Some(value));
     }
+    let method = select_method(context, alloc, addressable, term, sel)?;
+    Ok(method)
 }
 
 /// What a selector makes of an operand: the field or method of a value, or a method of a type as a

@@ -1,5 +1,5 @@
 use Rattle.go_rules.specs.Scopes.{env_of}
-use Rattle.go_elements.proofs.Arrays.{length_gives}
+use Rattle.go_elements.proofs.ArrayLengths.{length_gives}
 use Rattle.go_elements.proofs.arrays.array_length.Goals as goal
 
 pub returns : goal.returns

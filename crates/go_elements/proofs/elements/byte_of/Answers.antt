@@ -1,7 +1,6 @@
-
 use Rattle.go_rules.specs.Scopes.{env_of}
 use Rattle.go_elements.specs.inner.Elements.{IsIndexBelow}
-use Rattle.go_elements.proofs.Elements.{answered_where, same_mode}
+use Rattle.go_elements.proofs.Indexing.{answered_where}
 use Rattle.go_elements.proofs.elements.byte_of.Goals as goal
 
 pub returns : goal.returns

@@ -2,7 +2,7 @@ use Rattle.std.proofs.Common.{Some, ap, ◌∙◌}
 use Rattle.go_rules.specs.Expressions.{reached}
 use Rattle.go_rules.specs.Scopes.{env_of}
 use Rattle.go_elements.specs.inner.Elements.{IsIndexBelow}
-use Rattle.go_elements.proofs.Elements.{answered_where, same_mode}
+use Rattle.go_elements.proofs.Indexing.{same_mode}
 use Rattle.go_elements.proofs.elements.element_of_array.Goals as goal
 
 pub returns : goal.returns

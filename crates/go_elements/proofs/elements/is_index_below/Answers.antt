@@ -1,5 +1,5 @@
 use Rattle.go_rules.specs.Scopes.{env_of}
-use Rattle.go_elements.proofs.Indices.{below_decides, below_no_index}
+use Rattle.go_elements.proofs.IndexValues.{below_decides, below_no_index}
 use Rattle.go_elements.proofs.elements.is_index_below.Goals as goal
 
 pub returns-in-Some : goal.returns-in-Some

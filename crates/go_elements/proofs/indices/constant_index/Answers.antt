@@ -1,5 +1,5 @@
 use Rattle.go_rules.specs.Scopes.{env_of}
-use Rattle.go_elements.proofs.Indices.{constant_index_kind, constant_index_gives}
+use Rattle.go_elements.proofs.IndexValues.{constant_index_kind, constant_index_gives}
 use Rattle.go_elements.proofs.indices.constant_index.Goals as goal
 
 pub returns-then-not-is_integer_kind : goal.returns-then-not-is_integer_kind

@@ -1,5 +1,5 @@
 use Rattle.go_rules.specs.Scopes.{env_of}
-use Rattle.go_elements.proofs.Indices.{index_of_number, index_of_no_number, index_of_value, index_of_nothing}
+use Rattle.go_elements.proofs.IndexValues.{index_of_number, index_of_no_number, index_of_value, index_of_nothing}
 use Rattle.go_elements.proofs.indices.index_of.Goals as goal
 
 pub returns-in-Some-constant_index : goal.returns-in-Some-constant_index

@@ -1,10 +1,10 @@
 use Rattle.std.proofs.Common.{sym}
 use Rattle.go_rules.specs.Scopes.{env_of}
-use Rattle.go_elements.proofs.Indices.{int_out, int_gives}
+use Rattle.go_elements.proofs.IndexValues.{int_out, int_gives}
 use Rattle.go_elements.proofs.indices.int_value.Goals as goal
 
 pub returns-then-not-representable : goal.returns-then-not-representable
 returns-then-not-representable c = int_out (env_of c.args.context.now.env.now) c.args.value.now c.bits.result c.bits.ensures.bits (sym c.if-not-representable.ensures)
 
-pub returns-in-Int : goal.returns-in-Int
-returns-in-Int c = int_gives (env_of c.args.context.now.env.now) c.args.value.now _ c.bits.result c.natural.result c.in-Int.is c.bits.ensures.bits c.bits.ensures.word (sym c.if-not-representable.ensures) c.natural.ensures
+pub returns : goal.returns
+returns c = int_gives (env_of c.args.context.now.env.now) c.args.value.now c.bits.result c.natural.result c.bits.ensures.bits c.bits.ensures.word (sym c.if-not-representable.ensures) c.natural.ensures

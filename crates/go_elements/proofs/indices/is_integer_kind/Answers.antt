@@ -1,5 +1,5 @@
 use Rattle.go_rules.specs.Scopes.{env_of}
-use Rattle.go_elements.proofs.Indices.{kind_decides, kind_untyped}
+use Rattle.go_elements.proofs.IndexValues.{kind_decides, kind_untyped}
 use Rattle.go_elements.proofs.indices.is_integer_kind.Goals as goal
 
 pub returns-in-OfTerm : goal.returns-in-OfTerm

@@ -1,7 +1,7 @@
 use Rattle.std.proofs.Common.{ap}
 use Rattle.go_base.specs.Keys.{item_of}
 use Rattle.go_rules.specs.Scopes.{env_of}
-use Rattle.go_elements.proofs.Indices.{optional_given, optional_left_out}
+use Rattle.go_elements.proofs.IndexValues.{optional_given, optional_left_out}
 use Rattle.go_elements.proofs.indices.optional_index.Goals as goal
 
 pub returns-in-Some : goal.returns-in-Some

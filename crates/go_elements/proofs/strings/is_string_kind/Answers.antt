@@ -1,5 +1,5 @@
 use Rattle.go_rules.specs.Scopes.{env_of}
-use Rattle.go_elements.proofs.Strings.{string_decides, string_of_kind}
+use Rattle.go_elements.proofs.StringLengths.{string_decides, string_of_kind}
 use Rattle.go_elements.proofs.strings.is_string_kind.Goals as goal
 
 pub returns-in-OfTerm : goal.returns-in-OfTerm

@@ -1,5 +1,5 @@
 use Rattle.go_rules.specs.Scopes.{env_of}
-use Rattle.go_elements.proofs.Strings.{string_of_text, string_of_no_text, string_of_value, string_of_nothing}
+use Rattle.go_elements.proofs.StringLengths.{string_of_text, string_of_no_text, string_of_value, string_of_nothing}
 use Rattle.go_elements.proofs.strings.string_length.Goals as goal
 
 pub returns-in-Some-constant_length : goal.returns-in-Some-constant_length

@@ -2,7 +2,9 @@
 use Rattle.std.proofs.Common.{◌≡◌, ℕ, Bool, true, false, Option, Some, None, refl, sym, ap, ◌∙◌, subst, if◌then◌else◌}
 use Rattle.go_model.specs.declared.constants.value.Basic.{Basic}
 use Rattle.go_model.specs.declared.constants.value.Basic.TheVariants as basic
-use Rattle.go_model.specs.declared.types.term.Term.{Term, Term-F}
+use Rattle.go_model.specs.declared.types.term.Term.{Term, Term-F, out-Term}
+use Rattle.go_model.specs.declared.types.term.Term.TheVariants as term
+use Rattle.go_model.specs.declared.types.term.Term.TheVariants.{outs-Array, outs-Slice}
 use Rattle.go_model.specs.types.Terms.{Layer}
 use Rattle.go_model.specs.types.Underlying.{under}
 use Rattle.go_rules.specs.Environments.{Env}
@@ -88,19 +90,32 @@ module _ (E : Env) where
   of_element (Term-F.Map k e) {o = o} {i = i} h u x = subst (Indexes E o i) (sym x.1) (indexes_map h u x.0)
   of_element l h u x = absurd x
 
-  at_layer : {o i r : Operand} {t u : Term} {k : Layer} → IsTyped o t → IsTyped o u → under E.table u ≡ k → ElementAt E o.mode i k r → ElementAt E o.mode i (under E.table t) r
-  at_layer {o = o} {i = i} {r = r} h g f x = subst (λ (y : Layer). ElementAt E o.mode i y r) (sym f ∙ ap (under E.table) (one_type g h)) x
+  at_layer : (i r : Operand) {o : Operand} {t u : Term} {k : Layer} → IsTyped o t → IsTyped o u → under E.table u ≡ k → ElementAt E o.mode i k r → ElementAt E o.mode i (under E.table t) r
+  at_layer i r {o = o} h g f x = subst (λ (y : Layer). ElementAt E o.mode i y r) (sym f ∙ ap (under E.table) (one_type g h)) x
 
   to_element : {o i r : Operand} {t : Term} → IsTyped o t → ((n : Option ℕ) → IsString E o n → ⊥) → Indexes E o i r → ElementAt E o.mode i (under E.table t) r
-  to_element h none (indexes_array g f x b) = at_layer h g f (index_below x b, refl)
-  to_element {i = i} {r = r} h none (indexes_array_pointer {base = base} g f p x b) = at_layer {k = Term-F.Pointer base} h g f (subst (λ (y : Layer). ElementOfBase E i y r) (sym p) (index_below x b, refl))
-  to_element h none (indexes_slice {c = c} g f x) = at_layer h g f (index_below x (below_any c), refl)
+  to_element h none (indexes_array g f x b) = at_layer _ _ h g f (index_below x b, refl)
+  to_element {i = i} {r = r} h none (indexes_array_pointer {base = base} g f p x b) = at_layer i r {k = Term-F.Pointer base} h g f (subst (λ (y : Layer). ElementOfBase E i y r) (sym p) (index_below x b, refl))
+  to_element h none (indexes_slice {c = c} g f x) = at_layer _ _ h g f (index_below x (below_any c), refl)
   to_element h none (indexes_string s x b) = absurd (none _ s)
-  to_element h none (indexes_map g f u) = at_layer h g f (u, refl)
+  to_element h none (indexes_map g f u) = at_layer _ _ h g f (u, refl)
 
   pub index_element : (o i : Operand) (t : Term) (l : Layer) (r : Option Operand) → IsTyped o t → l ≡ under E.table t → ((n : Option ℕ) → IsString E o n → ⊥) → Gives (ElementAt E o.mode i l) r → Gives (Indexes E o i) r
   index_element o i t l (Some r) h e none g = of_element l h (sym e) g
   index_element o i t l None h e none g = λ r x. g r (subst (λ (y : Layer). ElementAt E o.mode i y r) (sym e) (to_element h none x))
+
+  -- ---- as code has them
+
+  pub base_gives : (i : Operand) (v : Term) (n : ℕ) (e w : Term) (a : Option Operand) → v ≡ term.Array n e → w ≡ e → Gives (λ r. IsIndexBelow E i (Some n) × (r ≡ variable w)) a → Gives (ElementOfBase E i (out-Term v)) a
+  base_gives i v n e w a f g h = subst (λ (l : Layer). Gives (ElementOfBase E i l) a) (sym (ap out-Term f ∙ outs-Array n e)) (subst (λ (x : Term). Gives (λ r. IsIndexBelow E i (Some n) × (r ≡ variable x)) a) g h)
+
+  pub array_gives : (m : Mode) (i : Operand) (v : Term) (n : ℕ) (e w : Term) (a : Option Operand) → v ≡ term.Array n e → w ≡ e → Gives (ElementAt E m i (Term-F.Array n w)) a → Gives (ElementAt E m i (out-Term v)) a
+  array_gives m i v n e w a f g h = subst (λ (l : Layer). Gives (ElementAt E m i l) a) (sym (ap out-Term f ∙ outs-Array n e)) (subst (λ (x : Term). Gives (ElementAt E m i (Term-F.Array n x)) a) g h)
+
+  pub slice_gives : (m : Mode) (i : Operand) (v e w : Term) (a : Option Operand) → v ≡ term.Slice e → w ≡ e → Gives (λ r. IsIndexBelow E i None × (r ≡ variable w)) a → Gives (ElementAt E m i (out-Term v)) a
+  slice_gives m i v e w a f g h = subst (λ (l : Layer). Gives (ElementAt E m i l) a) (sym (ap out-Term f ∙ outs-Slice e)) (subst (λ (x : Term). Gives (λ r. IsIndexBelow E i None × (r ≡ variable x)) a) g h)
+
+  -- ---- values without a type
 
   no_element : {o i r : Operand} → ((t : Term) → IsTyped o t → ⊥) → ((n : Option ℕ) → IsString E o n → ⊥) → Indexes E o i r → ⊥
   no_element no_type none (indexes_array g f x b) = no_type _ g

@@ -1,5 +1,5 @@
 -- Indices: what they are, and where there are none.
-use Rattle.std.proofs.Common.{◌≡◌, ℕ, Bool, true, false, Option, Some, None, refl, sym, ap, ◌∙◌, subst, List, ◌<◌, ◌≤◌, ◌-◌, ◌^◌, ◌⊎◌, inl, inr, ◌&&◌, arith}
+use Rattle.std.proofs.Common.{◌≡◌, ℕ, Bool, true, false, Option, Some, None, refl, sym, ap, ◌∙◌, subst, ◌<◌, ◌≤◌, ◌-◌, ◌^◌, ◌⊎◌, inl, inr, ◌&&◌, arith}
 use Rattle.std.specs.Prelude.{ℤ, pos, neg_ℤ, int_le, nat_le, MatchOption}
 use Rattle.std.proofs.lemmas.Bool.{leb-true}
 use Rattle.go_model.specs.constants.Constants.{is_number_of, is_representable, lies_between}
@@ -98,8 +98,7 @@ module _ (E : Env) where
   index_of_value o i = value_index i
 
   pub index_of_nothing : (o : Operand) → ((c : ConstTerm) (v : Value) → o ≡ constant_of c v → ⊥) → (IsIntegerValue E o → ⊥) → (n : Option ℕ) → IsIndex E o n → ⊥
-  index_of_nothing o none no n x = no (index_integer_value none x)
-
+  index_of_nothing o none other n x = other (index_integer_value none x)
 
   -- ---- below a length
 
@@ -156,24 +155,10 @@ representable_small : (n m : ℕ) → (m ≡ 32) ⊎ (m ≡ 64) → is_represent
 unfolding is_representable
 representable_small n m w e = signed_small n m w e
 
-int_of_number : (E : Env) (v : Value) (x : ℤ) (n : ℕ) → v ≡ value.Int x → x ≡ pos n → Fits E v → IsInt E v n
-int_of_number E v x n e f r = record { number = e ∙ ap value.Int f; within = r }
+module _ (E : Env) where
+  int_some : (v : Value) (n : ℕ) → v ≡ value.Int (pos n) → Fits E v → IsInt E v n
+  int_some v n e r = record { number = e; within = r }
 
-same_number : {x y : ℤ} → ◌≡◌ {A = Value} (value.Int x) (value.Int y) → x ≡ y
-same_number e = cc
-
-pub int_gives : (E : Env) (v : Value) (x : ℤ) (m : ℕ) (r : Option ℕ) → v ≡ value.Int x → m ≡ E.bits → (m ≡ 32) ⊎ (m ≡ 64) → is_representable v basic.Int m ≡ true → MatchOption r ((n : ℕ) → n < 2 ^ 64 → x ≡ pos n → ⊥) (λ n. x ≡ pos n) → Gives (IsInt E v) r
-int_gives E v x m (Some n) e f w r g = int_of_number E v x n e g (subst (λ (y : ℕ). is_representable v basic.Int y ≡ true) f r)
-int_gives E v x m None e f w r g = λ n i. g n (representable_small n m w (subst (λ (y : Value). is_representable y basic.Int m ≡ true) i.number r)) (same_number (sym e ∙ i.number))
-
-text_no_number : {s : List ℕ} {x : ℤ} → ◌≡◌ {A = Value} (value.Str s) (value.Int x) → ⊥
-text_no_number e = absurd (cc)
-
-truth_no_number : {b : Bool} {x : ℤ} → ◌≡◌ {A = Value} (value.Truth b) (value.Int x) → ⊥
-truth_no_number e = absurd (cc)
-
-pub int_no_text : (E : Env) (v : Value) (s : List ℕ) → v ≡ value.Str s → (n : ℕ) → IsInt E v n → ⊥
-int_no_text E v s e n i = text_no_number (sym e ∙ i.number)
-
-pub int_no_truth : (E : Env) (v : Value) (b : Bool) → v ≡ value.Truth b → (n : ℕ) → IsInt E v n → ⊥
-int_no_truth E v b e n i = truth_no_number (sym e ∙ i.number)
+  pub int_gives : (v : Value) (m : ℕ) (r : Option ℕ) → m ≡ E.bits → (m ≡ 32) ⊎ (m ≡ 64) → is_representable v basic.Int m ≡ true → MatchOption r ((n : ℕ) → n < 2 ^ 64 → v ≡ value.Int (pos n) → ⊥) (λ n. v ≡ value.Int (pos n)) → Gives (IsInt E v) r
+  int_gives v m (Some n) f w r g = int_some v n g (subst (λ (y : ℕ). is_representable v basic.Int y ≡ true) f r)
+  int_gives v m None f w r g = λ n i. g n (representable_small n m w (subst (λ (y : Value). is_representable y basic.Int m ≡ true) i.number r)) i.number

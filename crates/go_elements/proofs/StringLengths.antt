@@ -10,18 +10,14 @@ use Rattle.go_model.specs.declared.types.term.Term.{Term, Term-F}
 use Rattle.go_model.specs.types.Underlying.{under}
 use Rattle.go_rules.specs.Environments.{Env}
 use Rattle.go_rules.specs.Expressions.{IsString, string_value, string_typed, string_untyped}
-use Rattle.go_rules.specs.Operands.{constant_of, variable}
+use Rattle.go_rules.specs.Operands.{constant_of}
 use Rattle.go_rules.specs.declared.operand.Operand.{Operand}
 use Rattle.go_rules.proofs.OneKind.{no_truth}
 use Rattle.go_selectors.specs.Answers.{Decides}
-use Rattle.go_elements.specs.inner.Indices.{IsStringKind}
+use Rattle.go_elements.specs.inner.Strings.{IsStringKind}
 use Rattle.go_operators.specs.inner.Values.{IsStringValue}
 
 module _ (E : Env) where
-  string_type : {t : Term} {v : Value} {n : Option ℕ} → IsString E (constant_of (constant.OfTerm t) v) n → under E.table t ≡ Term-F.Plain basic.Str
-  string_type (string_value n h e) = absurd (no_truth n)
-  string_type (string_typed e) = e
-
   string_kind : {c : ConstTerm} {v : Value} {n : Option ℕ} → IsString E (constant_of c v) n → IsStringKind E c
   string_kind (string_value n h e) = absurd (no_truth n)
   string_kind (string_typed e) = e
@@ -34,22 +30,14 @@ module _ (E : Env) where
   at_text (constant.OfTerm t) s i = string_typed i
   at_text (constant.OfKind k) s i = string_untyped
 
-  pub constant_length_text : (c : ConstTerm) (v : Value) (s : List ℕ) → IsStringKind E c → v ≡ value.Str s → IsString E (constant_of c v) (Some (length s))
-  constant_length_text c v s i e = subst (λ (x : Value). IsString E (constant_of c x) (Some (length s))) (sym e) (at_text c s i)
+  pub constant_length_text : (c : ConstTerm) (v : Value) (s b : List ℕ) → IsStringKind E c → v ≡ value.Str s → b ≡ s → IsString E (constant_of c v) (Some (length b))
+  constant_length_text c v s b i e f = subst (λ (x : List ℕ). IsString E (constant_of c v) (Some (length x))) (sym f) (subst (λ (x : Value). IsString E (constant_of c x) (Some (length s))) (sym e) (at_text c s i))
 
   pub string_decides : (c : ConstTerm) (t : Term) (b : Bool) → c ≡ constant.OfTerm t → Decides (under E.table t ≡ Term-F.Plain basic.Str) b → Decides (IsStringKind E c) b
   string_decides c t b e d = subst (λ (x : ConstTerm). Decides (IsStringKind E x) b) (sym e) d
 
   pub string_of_kind : (c : ConstTerm) (k : Untyped) → c ≡ constant.OfKind k → IsStringKind E c
   string_of_kind c k e = subst (IsStringKind E) (sym e) tt
-
-  string_text : {c : ConstTerm} {v : Value} {n : Option ℕ} → IsString E (constant_of c v) n → (s : List ℕ) × (v ≡ value.Str s)
-  string_text (string_value n h e) = absurd (no_truth n)
-  string_text (string_typed e) = (_, refl)
-  string_text string_untyped = (_, refl)
-
-  pub constant_length_no_text : (c : ConstTerm) (v : Value) → ((s : List ℕ) → v ≡ value.Str s → ⊥) → (n : ℕ) → IsString E (constant_of c v) (Some n) → ⊥
-  constant_length_no_text c v none n x = none _ (string_text x).1
 
   string_constant : {c : ConstTerm} {v : Value} {n : Option ℕ} → IsString E (constant_of c v) n → (m : ℕ) × (n ≡ Some m)
   string_constant (string_value n h e) = absurd (no_truth n)
@@ -74,4 +62,4 @@ module _ (E : Env) where
   string_is_value none string_untyped = absurd (none _ _ refl)
 
   pub string_of_nothing : (o : Operand) → ((c : ConstTerm) (v : Value) → o ≡ constant_of c v → ⊥) → (IsStringValue E o → ⊥) → (n : Option ℕ) → IsString E o n → ⊥
-  string_of_nothing o none no n x = no (string_is_value none x)
+  string_of_nothing o none other n x = other (string_is_value none x)
