@@ -1,7 +1,9 @@
 //! Keys of elements that are names.
-ghost use Rattle.std.specs.Prelude.{◌≡◌};
+ghost use Rattle.std.specs.Prelude.{◌≡◌, None};
 ghost use Rattle.go_base.specs.Keys.{item_of};
 ghost use Rattle.go_rules.specs.Expressions.{HasFieldKey};
+ghost use Rattle.go_selectors.specs.Answers.{Decides};
+ghost use Rattle.go_syntax.specs.declared.expression.Element.{out-Element};
 ghost use Rattle.go_syntax.specs.declared.expression.ElementValue.{ElementValue-F, out-ElementValue};
 ghost use Rattle.go_syntax.specs.declared.expression.Expr.{Expr-F, out-Expr};
 ghost use Rattle.go_usability.specs.Answers.{Gives};
@@ -39,5 +41,15 @@ pub(crate) fn field_key(element: &Element) -> Option<&Name>
     match expr_alone(key) {
         Some(expr) => name_alone(expr),
         None => None,
+    }
+}
+
+/// Whether an element has no key.
+pub(crate) fn is_without_key(element: &Element) -> bool
+    ensures { Decides ((out-Element element.now).key ≡ None) result }
+{
+    match &element.key {
+        Some(_) => false,
+        None => true,
     }
 }

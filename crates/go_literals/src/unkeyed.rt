@@ -7,7 +7,7 @@ ghost use Rattle.go_rules.specs.Nodes.{element_parts};
 ghost use Rattle.go_selectors.specs.Answers.{Decides};
 ghost use Rattle.go_type_terms.specs.Answers.{Holds, TypesBelow, env_in};
 
-use crate::keys::expr_alone;
+use crate::keys::{expr_alone, is_without_key};
 use crate::values::Literals;
 use go_model::types::term::Field;
 use go_syntax::expression::Element;
@@ -36,7 +36,7 @@ impl<'a, F: Fn(&Context<'_>, Global, usize, Part<'_>) -> Result<Answer, ExprErro
         requires { TypesBelow self.now.operations.typing.context.now self.now.operations.typing.height (F.pre self.now.operations.typing.below) (F.post self.now.operations.typing.below) }
         ensures { Holds (env_in self.now.operations.typing.context.now) (UnkeyedFits (env_in self.now.operations.typing.context.now) field.now element.now) (parts_of element.now) result }
     {
-        if element.key.is_some() {
+        if !is_without_key(element) {
             return Err(ExprError::Untyped);
         }
         if !is_reachable(self.operations.typing.context, field) {
