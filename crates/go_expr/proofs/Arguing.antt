@@ -1,5 +1,5 @@
 -- Arguments of calls, one after another.
-use Rattle.std.proofs.Common.{◌≡◌, List, [], ◌∷◌, ◌++◌, map, append_assoc, refl, sym, ap, ◌∙◌, subst, Bool, true, false, ◌||◌, Result}
+use Rattle.std.proofs.Common.{◌≡◌, ◌<◌, ◌≤◌, ◌+◌, ℕ, length, get_or, drop, List, [], ◌∷◌, ◌++◌, map, append_assoc, refl, sym, ap, ◌∙◌, subst, Bool, true, false, ◌||◌}
 use Rattle.go_model.specs.declared.types.term.Direction.TheVariants as direction
 use Rattle.go_model.specs.declared.types.term.Term.{Term}
 use Rattle.go_model.specs.types.Bounds.{IsWithinBounds}
@@ -9,8 +9,9 @@ use Rattle.go_rules.specs.Nodes.{ExprLayer, TypeLayer, expression}
 use Rattle.go_rules.specs.Operands.{type_name}
 use Rattle.go_rules.specs.declared.operand.Operand.{Operand}
 use Rattle.go_rules.proofs.OneOperand.{has_once, type_once}
+use Rattle.go_selectors.proofs.Lists.{drop_all, drop_next}
 use Rattle.go_syntax.specs.declared.expression.Expr.{Expr, Expr-F, out-Expr}
-use Rattle.go_syntax.specs.declared.expression.Expr.TheVariants.{«outs-Expr::Type»}
+use Rattle.go_syntax.specs.declared.expression.Expr.TheVariants.{outs-Type}
 use Rattle.go_syntax.specs.declared.types.«Type».{«Type» as Typ, «Type-F» as Typ-F, «out-Type» as out-Typ}
 use Rattle.go_syntax.specs.declared.types.«Type».TheVariants as type
 use Rattle.go_syntax.specs.declared.types.«Type».TheVariants.{outs-ReceiveChan}
@@ -48,16 +49,29 @@ module _ (E : Env) where
       let f = first_each k.1 in
       (f.1, f.3, k.2 ∙ ap (λ ys. now ++ ys) (f.4 ∙ ap (λ q. q ∷ f.1) (has_once E f.2 h)) ∙ sym (append_assoc now (o ∷ []) f.1))
 
-  pub arguing_on : (before : List Operand) (whole : List Expr) (now next : List Operand) (e : Expr) (rest : List Expr) (o : Operand) (loud b : Bool) → Has E e o → AreLoud E (expression e ∷ []) b → next ≡ now ++ o ∷ [] → Arguing before whole now (e ∷ rest) loud → Arguing before whole next rest (loud || b)
+  arguing_on : (before : List Operand) (whole : List Expr) (now next : List Operand) (e : Expr) (rest : List Expr) (o : Operand) (loud b : Bool) → Has E e o → AreLoud E (expression e ∷ []) b → next ≡ now ++ o ∷ [] → Arguing before whole now (e ∷ rest) loud → Arguing before whole next rest (loud || b)
   arguing_on before whole now next e rest o loud b h l i w =
       subst (λ (xs : List Operand). Arguing before whole xs rest (loud || b)) (sym i)
           (walk_on E (map expression) Onward before whole now (now ++ o ∷ []) e rest loud b (expression e ∷ []) refl l (joins now e rest o h) (splits now e rest o h) w)
 
-  pub arguing_stops : (before : List Operand) (whole : List Expr) (now : List Operand) (e : Expr) (rest : List Expr) (loud : Bool) → Arguing before whole now (e ∷ rest) loud → (all : List Operand) → HasEachAfter E before whole all → (o : Operand) × Has E e o
+  arguing_stops : (before : List Operand) (whole : List Expr) (now : List Operand) (e : Expr) (rest : List Expr) (loud : Bool) → Arguing before whole now (e ∷ rest) loud → (all : List Operand) → HasEachAfter E before whole all → (o : Operand) × Has E e o
   arguing_stops before whole now e rest loud w all h = let f = first_each (w.from all h).1 in (f.0, f.2)
 
-  pub arguing_ends : (before : List Operand) (whole : List Expr) (now : List Operand) (loud : Bool) → Arguing before whole now [] loud → HasEachAfter E before whole now × AreLoud E (map expression whole) loud
+  arguing_ends : (before : List Operand) (whole : List Expr) (now : List Operand) (loud : Bool) → Arguing before whole now [] loud → HasEachAfter E before whole now × AreLoud E (map expression whole) loud
   arguing_ends before whole now loud w = arrived E (map expression) Onward before whole now loud now ([], each_none, sym (append_none now)) (none_loud E) w
+
+  arguing_all : (before : List Operand) (whole : List Expr) (now : List Operand) (i : ℕ) (e : Expr) (loud : Bool) → i < length whole → e ≡ get_or whole i e → Arguing before whole now (drop i whole) loud → Arguing before whole now (e ∷ drop (i + 1) whole) loud
+  arguing_all before whole now i e loud h k w = subst (λ (xs : List Expr). Arguing before whole now xs loud) (drop_next i whole e h k) w
+
+  pub arguing_next : (before : List Operand) (whole : List Expr) (now next : List Operand) (i : ℕ) (e : Expr) (o : Operand) (loud b : Bool) → i < length whole → e ≡ get_or whole i e → Has E e o → AreLoud E (expression e ∷ []) b → next ≡ now ++ o ∷ []
+      → Arguing before whole now (drop i whole) loud → Arguing before whole next (drop (i + 1) whole) (loud || b)
+  arguing_next before whole now next i e o loud b h k a l n w = arguing_on before whole now next e (drop (i + 1) whole) o loud b a l n (arguing_all before whole now i e loud h k w)
+
+  pub arguing_first : (before : List Operand) (whole : List Expr) (now : List Operand) (i : ℕ) (e : Expr) (loud : Bool) → i < length whole → e ≡ get_or whole i e → Arguing before whole now (drop i whole) loud → (all : List Operand) → HasEachAfter E before whole all → (o : Operand) × Has E e o
+  arguing_first before whole now i e loud h k w all y = arguing_stops before whole now e (drop (i + 1) whole) loud (arguing_all before whole now i e loud h k w) all y
+
+  pub arguing_whole : (before : List Operand) (whole : List Expr) (now : List Operand) (i : ℕ) (loud : Bool) → length whole ≤ i → Arguing before whole now (drop i whole) loud → HasEachAfter E before whole now × AreLoud E (map expression whole) loud
+  arguing_whole before whole now i loud h w = arguing_ends before whole now loud (subst (λ (xs : List Expr). Arguing before whole now xs loud) (drop_all i whole h) w)
 
   -- ---- all arguments
 
@@ -83,7 +97,7 @@ module _ (E : Env) where
 
   pub to_receive_type : (t : Typ) (u : Term) → IsChannelOf E direction.ReceiveOnly t u → IsWithinBounds u → Has E (receive_type t) (type_name u)
   to_receive_type t u c w =
-      let f = subst (λ (l : ExprLayer). HasForm E l (type_name u)) (sym («outs-Expr::Type» (type.ReceiveChan t)))
+      let f = subst (λ (l : ExprLayer). HasForm E l (type_name u)) (sym (outs-Type (type.ReceiveChan t)))
           (has_type (of_type (subst (OfForm E (out-Typ (type.ReceiveChan t))) (sym c.2) (formed t c.0 c.1)) w)) in
       has_operand f w
 
@@ -97,7 +111,7 @@ module _ (E : Env) where
   type_form (has_type h) = (_, h)
 
   pub in_receive_type : (t : Typ) (o : Operand) → Has E (receive_type t) o → (u : Term) × IsChannelOf E direction.ReceiveOnly t u × IsWithinBounds u
-  in_receive_type t o (has_operand f w) = let y = type_form (subst (λ (l : ExprLayer). HasForm E l o) («outs-Expr::Type» (type.ReceiveChan t)) f) in let z = typed y.1 in (y.0, z.0, z.1)
+  in_receive_type t o (has_operand f w) = let y = type_form (subst (λ (l : ExprLayer). HasForm E l o) (outs-Type (type.ReceiveChan t)) f) in let z = typed y.1 in (y.0, z.0, z.1)
 
   channel_once : (t : Typ) (u v : Term) → IsChannelOf E direction.ReceiveOnly t u → IsChannelOf E direction.ReceiveOnly t v → u ≡ v
   channel_once t u v c d = c.2 ∙ ap (channel_of direction.ReceiveOnly) (type_once E c.1 d.1) ∙ sym d.2

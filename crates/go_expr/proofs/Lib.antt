@@ -1,4 +1,5 @@
 pub mod Arguing
+pub mod Bounding
 pub mod ByForm
 pub mod CallKinds
 pub mod ImportedNames

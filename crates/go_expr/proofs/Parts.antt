@@ -8,7 +8,7 @@ use Rattle.go_rules.specs.declared.operand.Operand.{Operand}
 use Rattle.go_rules.specs.declared.predeclared.Predeclared.{Predeclared}
 use Rattle.go_calls.specs.Calls.{IsLoud, IsTold}
 use Rattle.go_syntax.specs.declared.expression.Expr.{Expr, Expr-F, out-Expr}
-use Rattle.go_syntax.specs.declared.expression.Expr.TheVariants.{«outs-Expr::Type»}
+use Rattle.go_syntax.specs.declared.expression.Expr.TheVariants.{outs-Type}
 use Rattle.go_syntax.specs.declared.expression.Post.{Post, Post-F, out-Post}
 use Rattle.go_syntax.specs.declared.name.Name.{Name}
 use Rattle.go_syntax.specs.declared.types.«Type».{«Type» as Typ, «Type-F» as Typ-F, «out-Type» as out-Typ}
@@ -50,7 +50,7 @@ module _ (E : Env) where
   told o es b h = λ f e i m j. alone es e b j h
 
   receive_form : (t : Typ) → out-Expr (receive_type t) ≡ Expr-F.«Expr::Type» (type.ReceiveChan t)
-  receive_form t = «outs-Expr::Type» (type.ReceiveChan t)
+  receive_form t = outs-Type (type.ReceiveChan t)
 
   pub receive_loud : (t : Typ) (b : Bool) → AreLoud E (type_node t ∷ []) b → AreLoud E (expression (receive_type t) ∷ []) b
   receive_loud t b h =

@@ -1,8 +1,10 @@
 -- Types as operands.
-use Rattle.std.proofs.Common.{◌≡◌, refl, sym, subst}
+use Rattle.std.proofs.Common.{◌≡◌, refl, sym, ap, ◌∙◌, subst}
 use Rattle.go_model.specs.declared.types.term.Direction.TheVariants as direction
 use Rattle.go_model.specs.declared.types.term.Signature.{Signature as Signed}
-use Rattle.go_model.specs.declared.types.term.Term.{Term}
+use Rattle.go_model.specs.declared.types.term.Term.{Term, roll-Term, roll-out-Term}
+use Rattle.go_model.specs.declared.types.term.Term.TheVariants as term
+use Rattle.go_model.specs.declared.types.term.Term.TheVariants.{outs-Func}
 use Rattle.go_rules.specs.Environments.{Env}
 use Rattle.go_rules.specs.Expressions.{HasForm, has_function, has_receive_type, has_type, OfSignature, OfType}
 use Rattle.go_rules.specs.Operands.{function_of, plain, type_name}
@@ -29,5 +31,8 @@ module _ (E : Env) where
   pub in_function : {g : Signature} {body : BodyRange} {o : Operand} → HasForm E (Expr-F.FuncLit g body) o → (h : Signed) × OfSignature E (out-Signature g).parameters (out-Signature g).result h
   in_function (has_function h) = (_, h)
 
-  pub to_function : (g : Signature) (body : BodyRange) (h : Signed) (t : Term) (o : Operand) → OfSignature E (out-Signature g).parameters (out-Signature g).result h → t ≡ function_of h → o ≡ plain t → HasForm E (Expr-F.FuncLit g body) o
-  to_function g body h t o s i j = subst (HasForm E (Expr-F.FuncLit g body)) (sym j) (subst (λ (u : Term). HasForm E (Expr-F.FuncLit g body) (plain u)) (sym i) (has_function s))
+  func_is : (h : Signed) → function_of h ≡ term.Func h
+  func_is h = ap roll-Term (sym (outs-Func h)) ∙ roll-out-Term (term.Func h)
+
+  pub to_function : (g : Signature) (body : BodyRange) (h : Signed) (o : Operand) → OfSignature E (out-Signature g).parameters (out-Signature g).result h → o ≡ plain (term.Func h) → HasForm E (Expr-F.FuncLit g body) o
+  to_function g body h o s i = subst (HasForm E (Expr-F.FuncLit g body)) (sym i) (subst (λ (u : Term). HasForm E (Expr-F.FuncLit g body) (plain u)) (func_is h) (has_function s))
