@@ -1,4 +1,5 @@
 pub mod ByType
+pub mod Composing
 pub mod ElementValues
 pub mod Indexing
 pub mod KeyNames

@@ -3,6 +3,7 @@ use Rattle.std.proofs.Common.{◌≡◌, List, [], ◌∷◌, ◌++◌, append_a
 use Rattle.std.specs.Prelude.{Option, Some, None}
 use Rattle.std.specs.Result.{IsErrAnd}
 use Rattle.go_rules.specs.Environments.{Env}
+use Rattle.go_rules.specs.Expressions.{HasFieldKey, field_key}
 use Rattle.go_rules.specs.Nodes.{Node, element_parts, expression, optional, parts, value as value_node, value_parts}
 use Rattle.go_syntax.specs.declared.expression.Element.{Element, out-Element}
 use Rattle.go_syntax.specs.declared.expression.ElementValue.{ElementValue, ElementValue-F, out-ElementValue}
@@ -86,3 +87,7 @@ module _ (E : Env) where
 
   pub key_loud : (x : Element) (v : ElementValue) (b : Bool) → (out-Element x).key ≡ Some v → AreLoud E (value_node v ∷ []) b → AreLoud E (optional value_node (out-Element x).key) b
   key_loud x v b e h = subst (λ (k : Option ElementValue). AreLoud E (optional value_node k) b) (sym e) h
+
+  -- a key that is a name is quiet
+  pub key_quiet : {x : Element} {n : Name} → HasFieldKey x n → AreLoud E (optional value_node (out-Element x).key) false
+  key_quiet {x = x} {n = n} (field_key {v = v} {e = e} i j k) = key_loud x v false i (name_quiet v e n j k)
