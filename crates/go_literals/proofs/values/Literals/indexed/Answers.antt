@@ -1,4 +1,4 @@
-use Rattle.std.proofs.Common.{◌≡◌, ℕ, suc, ◌+◌, drop, Bool, sym, subst, arith}
+use Rattle.std.proofs.Common.{◌≡◌, ℕ, suc, ◌+◌, drop, Bool, ◌||◌, sym, subst, arith}
 use Rattle.go_rules.specs.Expressions.{HasIndexed}
 use Rattle.go_rules.specs.Nodes.{element_parts}
 use Rattle.go_type_terms.specs.Answers.{env_in}
@@ -21,7 +21,7 @@ loop-element-preserved g c =
     let i = c.loop-element.element-index in
     let y = indexed_next E c.args.term.now c.args.limit xs c.loop-element.next c.in_ok-place.place c.in_ok-next.next c.loop-element.greatest i c.element-item.result c.loop-element.loud c.in_ok-place.louder c.loop-element-test.true c.element-item.is c.in_ok-next.ensures.ok c.in_ok-place.ensures.0 c.in_ok-place.ensures.1 c.loop-element.invariant in
     subst (λ (b : Bool). Indexed E c.args.term.now c.args.limit xs c.in_ok-next.next c.greater-greatest.result (drop (i + 1) xs) b) (sym c.either-loud.ensures)
-        (subst (λ (n : ℕ). Indexed E c.args.term.now c.args.limit xs c.in_ok-next.next n (drop (i + 1) xs) _) (sym c.greater-greatest.ensures) y)
+        (subst (λ (n : ℕ). Indexed E c.args.term.now c.args.limit xs c.in_ok-next.next n (drop (i + 1) xs) (c.loop-element.loud || c.in_ok-place.louder)) (sym c.greater-greatest.ensures) y)
 
 pub returns : goal.returns
 returns g c = indexed_done (env_in c.args.self.now.operations.typing.context.now) c.args.term.now c.args.limit c.args.elements.now c.loop-element.next c.loop-element.greatest c.loop-element.element-index c.loop-element.loud (omega arith) c.loop-element.invariant
