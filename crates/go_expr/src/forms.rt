@@ -1,8 +1,8 @@
 //! Each form of an expression.
-ghost use Rattle.std.specs.Prelude.{◌∷◌, []};
+ghost use Rattle.std.specs.Prelude.{◌≡◌, ◌∷◌, []};
 ghost use Rattle.go_rules.specs.Expressions.{Has, HasForm};
 ghost use Rattle.go_rules.specs.Nodes.{expression};
-ghost use Rattle.go_syntax.specs.declared.expression.Expr.{out-Expr};
+ghost use Rattle.go_syntax.specs.declared.expression.Expr.{Expr, Expr-F, out-Expr};
 ghost use Rattle.go_type_terms.specs.Answers.{Types, TypesBelow, env_in};
 
 use crate::bounds::is_within;

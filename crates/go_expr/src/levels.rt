@@ -46,7 +46,7 @@ pub(crate) fn below(
         return Err(ExprError::NoMemory);
     }
     let typing = Typing {
-        context,
+        context: &*context,
         alloc,
         height: height - 1,
         below,
