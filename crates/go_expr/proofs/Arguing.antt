@@ -85,7 +85,7 @@ module _ (E : Env) where
   to_each_after e es o before all i h k = subst (HasEach E (e ∷ es)) (sym (k.2 ∙ ap (λ xs. xs ++ k.0) i)) (each_more h k.1)
 
   pub in_each_after : (e : Expr) (es : List Expr) (o : Operand) (before : List Operand) → before ≡ o ∷ [] → Has E e o → (all : List Operand) → HasEach E (e ∷ es) all → (xs : List Operand) × HasEachAfter E before es xs
-  in_each_after e es o before i h all k = let f = first_each k in (before ++ f.1, f.1, f.3, refl)
+  in_each_after e es o before i h all k = let f = first_each k in (before ++ f.1, (f.1, f.3, refl))
 
   pub first_argument : (e : Expr) (es : List Expr) (all : List Operand) → HasEach E (e ∷ es) all → (o : Operand) × Has E e o
   first_argument e es all k = let f = first_each k in (f.0, f.2)

@@ -1,5 +1,5 @@
 -- What expressions are, by their forms.
-use Rattle.std.proofs.Common.{◌≡◌, List, [], ◌∷◌, ◌++◌, map, length, refl, sym, ap, ◌∙◌, subst, Bool, Option, Result, Ok, Err}
+use Rattle.std.proofs.Common.{◌≡◌, List, [], ◌∷◌, ◌++◌, map, length, refl, sym, ap, ◌∙◌, subst, Bool, false, Result, Ok, Err}
 use Rattle.std.specs.Prelude.{replicate}
 use Rattle.go_base.specs.declared.operator.CompareOp.{CompareOp}
 use Rattle.go_base.specs.declared.operator.PrefixOperator.{PrefixOperator}

@@ -141,7 +141,7 @@ module _ (E : Env) (x : Expr) where
 
   whole_quiet : (w : Expr) (before ps : List Post) (o r : Operand) (b : Bool) → out-Expr w ≡ Expr-F.Primary x (before ++ ps) → Fronts before o → Ran E o ps r b → b ≡ false
       → Quiet E (expression x) → ((n : Node) → In (map post before) n → Quiet E n)
-      → ((front : List Post) (c : Post) (after : List Post) {es : List Expr} {dots : Bool} → before ++ ps ≡ front ++ c ∷ after → IsCall (out-Post c) es dots → IsQuietCall E x front c)
+      → ((front : List Post) (c : Post) (after : List Post) (es : List Expr) (dots : Bool) → before ++ ps ≡ front ++ c ∷ after → IsCall (out-Post c) es dots → IsQuietCall E x front c)
       → ((n : Node) → In (map post (before ++ ps)) n → In (map post before) n ⊎ In (map post ps) n)
       → Quiet E (expression w)
   whole_quiet w before ps o r b i f t e quiet fronts calls parted =
@@ -150,7 +150,7 @@ module _ (E : Env) (x : Expr) where
       (λ n j. elim (part_of w i j) [ inl s ↦ subst (Quiet E) s quiet | inr k ↦ elim (parted n k) [ inl m ↦ fronts n m | inr m ↦ parts_quiet t e n m ] ])
     where
       own : (y : Expr) (front : List Post) (c : Post) → CallsAt w y front c → IsQuietCall E y front c
-      own y front c (calls_at after j a) = subst (λ (z : Expr). IsQuietCall E z front c) (one_operand w i j) (calls front c after (one_posts w i j) a)
+      own y front c (calls_at after {es = es} {dots = dots} j a) = subst (λ (z : Expr). IsQuietCall E z front c) (one_operand w i j) (calls front c after es dots (one_posts w i j) a)
 
   -- ---- an operand that is no name of an imported package
 
@@ -173,7 +173,7 @@ module _ (E : Env) (x : Expr) where
   primary_loud w ps o r false true i h l t = alone_loud E (expression w) (ran_loud w [] i (operand_fronts o h) t refl)
   primary_loud w ps o r false false i h l t =
       alone_quiet E (expression w) (whole_quiet w [] ps o r false i (operand_fronts o h) t refl (l (expression x) (inl refl)) (λ n j. absurd j)
-      (λ front c after j a. calls_quiet [] (operand_fronts o h) t refl front c after j a) (λ n j. inr j))
+      (λ front c after es dots j a. calls_quiet [] (operand_fronts o h) t refl front c after j a) (λ n j. inr j))
 
   -- ---- a name of an imported package
 
@@ -199,5 +199,5 @@ module _ (E : Env) (x : Expr) where
       alone_quiet E (expression w) (whole_quiet w (s ∷ []) ps o r false k (imported_fronts q n s o i j d) t refl
       (form_loud E x (Expr-F.Name q) i tt false (none_loud E) (expression x) (inl refl))
       (λ m h. elim h [ inl e ↦ subst (Quiet E) e quiet | inr z ↦ absurd z ])
-      (λ front b after e a. selector_calls q n s o r ps i j d t front b after e a)
+      (λ front b after es dots e a. selector_calls q n s o r ps i j d t front b after e a)
       (λ m h. elim h [ inl e ↦ inl (inl e) | inr z ↦ inr z ]))
