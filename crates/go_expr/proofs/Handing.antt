@@ -9,7 +9,14 @@ use Rattle.go_rules.proofs.OneOperand.{has_once}
 use Rattle.go_syntax.specs.declared.expression.Expr.{Expr}
 use Rattle.go_syntax.specs.declared.expression.Post.{Post, out-Post}
 use Rattle.go_syntax.specs.declared.name.Name.{Name}
-use Rattle.go_type_terms.specs.Answers.{Tells, Types}
+use denote.Ref.{Bor}
+use Rattle.go_model.specs.declared.types.term.Term.{Term}
+use Rattle.go_syntax.specs.declared.expression.Element.{Element}
+use Rattle.go_type_terms.specs.Answers.{Tells, Types, TypesPart}
+use Rattle.go_type_terms.specs.Loudness.{AreLoud}
+use Rattle.go_type_terms.specs.declared.part.Answer.TheVariants as answer
+use Rattle.go_type_terms.specs.declared.part.Part.{Part}
+use Rattle.go_type_terms.specs.declared.part.Part.TheVariants as part
 use Rattle.go_type_terms.specs.declared.error.ExprError.{ExprError}
 use Rattle.go_type_terms.specs.declared.error.ExprError.TheVariants.{NoMemory, Untyped}
 use Rattle.go_expr.specs.Imports.{ImportedWithin}
@@ -33,3 +40,6 @@ module _ (E : Env) where
   post_form o x l i (Ok a) t = (subst (λ (k : PostLayer). HasPost E o k a.0) (sym i) t.0, post_loud E x l i a.1 t.1)
   post_form o x l i (Err NoMemory) t = tt
   post_form o x l i (Err Untyped) t = λ a h. t a (subst (λ (k : PostLayer). HasPost E o k a) i h)
+
+  pub elements_part : (p : Part) (t : Bor Term) (xs : Bor (List Element)) (b : Bool) → p ≡ part.Elements t xs → HasElements E t.now xs.now → AreLoud E (element_parts xs.now) b → TypesPart E p (Ok (answer.Elements b))
+  elements_part p t xs b i h l = subst (λ (q : Part). TypesPart E q (Ok (answer.Elements b))) (sym i) (h, l)

@@ -35,7 +35,7 @@ module _ (E : Env) where
   posts_on : (first : Operand) (whole : List Post) (now next : Operand) (x : Post) (rest : List Post) (loud a : Bool) → IsStep E now x next a → Going first whole now (x ∷ rest) loud → Going first whole next rest (loud || a)
   posts_on first whole now next x rest loud a s g = record {
     to = λ r b h. subst (λ (f : Bool). Ran E first whole r f) (or_or loud a b) (g.to r (a || b) (ran_more s h));
-    from = λ r h. let f = first_post (g.from r h) in subst (λ (q : Operand). HasPosts E q rest r) (post_once E refl f.1 s.0) f.3;
+    from = λ r h. let f = first_post (g.from r h) in subst (λ (q : Operand). HasPosts E q rest r) (post_once E f.1 refl s.0) f.3;
   }
 
   posts_stop : (first : Operand) (whole : List Post) (now : Operand) (x : Post) (rest : List Post) (loud : Bool)
@@ -69,4 +69,4 @@ module _ (E : Env) where
 
   -- one post, out of bounds
   pub step_out : (o q : Operand) (x : Post) → HasPost E o (out-Post x) q → (ShapeWithin q.shape → ⊥) → (r : Operand) → HasPost E o (out-Post x) r → ShapeWithin r.shape → ⊥
-  step_out o q x h none r k w = none (subst (λ (s : Operand). ShapeWithin s.shape) (post_once E refl k h) w)
+  step_out o q x h none r k w = none (subst (λ (s : Operand). ShapeWithin s.shape) (post_once E k refl h) w)

@@ -1,8 +1,11 @@
-use Rattle.std.proofs.Common.{ap, ◌∙◌, sym}
+use Rattle.std.proofs.Common.{◌∷◌, [], ap, ◌∙◌, sym}
+use Rattle.go_rules.specs.Expressions.{Denotes, HasForm}
+use Rattle.go_rules.specs.Nodes.{expression}
+use Rattle.go_type_terms.proofs.Handed.{handed_told}
 use Rattle.go_syntax.specs.declared.expression.Expr.{Expr-F, out-Expr}
-use Rattle.go_syntax.specs.declared.expression.Expr.TheVariants.{outs-And, outs-Compare, outs-Composite, outs-CompositeArray, outs-FuncLit, outs-Or, outs-Paren, outs-ParenReceiveChan, outs-Prefix, outs-Primary, outs-Product, outs-Sum, outs-Type}
+use Rattle.go_syntax.specs.declared.expression.Expr.TheVariants.{outs-And, outs-Literal, outs-Name, outs-Compare, outs-Composite, outs-CompositeArray, outs-FuncLit, outs-Or, outs-Paren, outs-ParenReceiveChan, outs-Prefix, outs-Primary, outs-Product, outs-Sum, outs-Type}
 use Rattle.go_type_terms.specs.Answers.{env_in}
-use Rattle.go_expr.proofs.ByForm.{and_form, compare_form, or_form, paren_form, product_form, same_form, sum_form, whole_form}
+use Rattle.go_expr.proofs.ByForm.{and_form, compare_form, literal_none, name_none, name_some, or_form, paren_form, product_form, same_form, sum_form, whole_form}
 use Rattle.go_expr.proofs.exprs.Exprs.form.Goals as goal
 
 pub returns-in-Or : goal.returns-in-Or
@@ -109,3 +112,24 @@ returns-in-ParenReceiveChan g c =
     let e = c.args.expr.now in
     let i = ap out-Expr c.in-ParenReceiveChan.is ∙ outs-ParenReceiveChan c.in-ParenReceiveChan.element in
     same_form E e (Expr-F.ParenReceiveChan c.in-ParenReceiveChan.element) i tt c.channel_operand.result c.channel_operand.ensures
+
+pub returns-in_err-operand-in-Literal : goal.returns-in_err-operand-in-Literal
+returns-in_err-operand-in-Literal g c =
+    let E = env_in c.args.self.now.literals.operations.typing.context.now in
+    let e = c.args.expr.now in
+    let i = ap out-Expr c.in-Literal.is ∙ outs-Literal c.in-Literal.token in
+    handed_told E (HasForm E (Expr-F.«Expr::Literal» c.in-Literal.token)) (HasForm E (out-Expr e)) (expression e ∷ []) c.in_err-operand-in-Literal.field-0.0 c.from_residual.result c.from_residual.ensures.1 (c.in_err-operand-in-Literal.ensures E) (literal_none E e c.in-Literal.token i)
+
+pub returns-in_err-operand-in-Name : goal.returns-in_err-operand-in-Name
+returns-in_err-operand-in-Name g c =
+    let E = env_in c.args.self.now.literals.operations.typing.context.now in
+    let e = c.args.expr.now in
+    let i = ap out-Expr c.in-Name.is ∙ outs-Name c.in-Name.name in
+    handed_told E (Denotes E c.in-Name.name) (HasForm E (out-Expr e)) (expression e ∷ []) c.in_err-operand-in-Name.field-0.0 c.from_residual-in_err-operand-in-Name.result c.from_residual-in_err-operand-in-Name.ensures.1 c.in_err-operand-in-Name.ensures (name_none E e c.in-Name.name i)
+
+pub returns-in_ok-operand-in-Name : goal.returns-in_ok-operand-in-Name
+returns-in_ok-operand-in-Name g c =
+    let E = env_in c.args.self.now.literals.operations.typing.context.now in
+    let e = c.args.expr.now in
+    let i = ap out-Expr c.in-Name.is ∙ outs-Name c.in-Name.name in
+    name_some E e c.in-Name.name i c.in_ok-operand-in-Name.operand c.in_ok-operand-in-Name.ensures
