@@ -1,0 +1,11 @@
+pub mod Arguing
+pub mod Bounding
+pub mod ByForm
+pub mod CallKinds
+pub mod Handing
+pub mod ImportedNames
+pub mod LoudPosts
+pub mod Parts
+pub mod PrimaryExprs
+pub mod Running
+pub mod Slicing

@@ -1,0 +1,43 @@
+//! What expressions are and which types type forms stand for, in an environment.
+ghost use Rattle.go_rules.specs.Expressions.{Has, OfType};
+ghost use Rattle.go_rules.specs.Scopes.{env_of};
+ghost use Rattle.go_type_terms.specs.Answers.{Tells};
+
+use crate::levels::below;
+use go_model::types::term::Term;
+use go_rules::env::Env;
+use go_rules::operand::Operand;
+use go_selectors::lookup::error_type;
+use go_syntax::expression::Expr;
+use go_syntax::types::Type;
+use go_type_terms::error::ExprError;
+use go_type_terms::part::{Answer, Part};
+use go_usability::context::Context;
+use std::alloc::Global;
+
+// More than how deep a tree of the parser's goes.
+const HEIGHT: usize = 8_192;
+
+/// What an expression is in an environment. `Untyped` exactly where the rules give it no operand.
+pub fn type_expr(env: &Env<'_>, alloc: Global, expr: &Expr) -> Result<Operand, ExprError>
+    ensures { Tells (Has (env_of env.now) expr.now) result }
+{
+    let error = error_type(alloc)?;
+    let context = Context::new(env, &error);
+    match below(&context, alloc, HEIGHT, Part::Expr(expr))? {
+        Answer::Operand(operand, _) => Ok(operand),
+        _ => Err(ExprError::NoMemory),
+    }
+}
+
+/// The type for which a type form stands in an environment. `Untyped` exactly where the rules give it none.
+pub fn type_of(env: &Env<'_>, alloc: Global, form: &Type) -> Result<Term, ExprError>
+    ensures { Tells (OfType (env_of env.now) form.now) result }
+{
+    let error = error_type(alloc)?;
+    let context = Context::new(env, &error);
+    match below(&context, alloc, HEIGHT, Part::Type(form))? {
+        Answer::Type(term, _) => Ok(term),
+        _ => Err(ExprError::NoMemory),
+    }
+}

@@ -1,0 +1,10 @@
+pub mod ByType
+pub mod Composing
+pub mod ElementValues
+pub mod Indexing
+pub mod KeyNames
+pub mod KeyedFields
+pub mod Pairing
+pub mod Parts
+pub mod StructElements
+pub mod TextSets

@@ -1,0 +1,3 @@
+pub mod Elements
+pub mod Keys
+pub mod Structs

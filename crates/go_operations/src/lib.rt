@@ -1,0 +1,12 @@
+//! What names and literals denote, and what operators make of expressions, over what types their parts.
+#![tactic(auto)]
+
+pub mod chains;
+mod constants;
+pub mod literals;
+pub mod names;
+pub mod operands;
+pub mod operations;
+pub mod operators;
+pub mod prefixes;
+mod universe;
