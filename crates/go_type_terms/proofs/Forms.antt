@@ -1,5 +1,5 @@
 -- What the parts of a type form stand for.
-use Rattle.std.proofs.Common.{◌≡◌, ℕ, List, [], ◌∷◌, refl, sym, ap, ◌∙◌, subst, Bool, Result}
+use Rattle.std.proofs.Common.{◌≡◌, ℕ, List, refl, sym, ap, ◌∙◌, subst, Bool, Result}
 use mathlib.Core.Bool.{true≢false}
 use Rattle.std.specs.Prelude.{pos, true, false, ◌↔◌}
 use Rattle.go_model.specs.constants.Constants.{is_representable}
@@ -10,9 +10,9 @@ use Rattle.go_model.specs.declared.types.term.Direction.{Direction}
 use Rattle.go_model.specs.declared.types.term.Direction.TheVariants as direction
 use Rattle.go_model.specs.declared.types.term.Field.{Field}
 use Rattle.go_model.specs.declared.types.term.Signature.{Signature}
-use Rattle.go_model.specs.declared.types.term.Term.{Term, Term-F, roll-Term, roll-out-Term}
+use Rattle.go_model.specs.declared.types.term.Term.{Term, roll-Term, roll-out-Term}
 use Rattle.go_model.specs.declared.types.term.Term.TheVariants as term
-use Rattle.go_model.specs.declared.types.term.Term.TheVariants.{outs-Array, outs-Map}
+use Rattle.go_model.specs.declared.types.term.Term.TheVariants.{outs-Array, outs-Chan, outs-Func, outs-Map, outs-Pointer, outs-Slice, outs-Struct}
 use Rattle.go_model.specs.types.Bounds.{IsWithinBounds}
 use Rattle.go_syntax.specs.declared.expression.Expr.{Expr}
 use Rattle.go_syntax.specs.declared.name.QualifiedName.{QualifiedName}
@@ -20,7 +20,7 @@ use Rattle.go_syntax.specs.declared.types.FieldDecl.{FieldDecl}
 use Rattle.go_syntax.specs.declared.types.Signature.{Signature as Sig, out-Signature as out-Sig}
 use Rattle.go_syntax.specs.declared.types.«Type».{«Type» as Typ, «Type-F» as Typ-F, «out-Type» as out-Typ}
 use Rattle.go_rules.specs.Environments.{Env}
-use Rattle.go_rules.specs.Expressions.{Has, IsTypeName, OfFields, OfForm, OfSignature, OfType, of_type, of_name, of_paren, of_pointer, of_slice, of_array, of_map, of_channel, of_send_channel, of_receive_channel, of_function, of_struct, channel_of}
+use Rattle.go_rules.specs.Expressions.{Has, IsTypeName, OfFields, OfForm, OfSignature, OfType, of_type, of_name, of_paren, of_pointer, of_slice, of_array, of_map, of_channel, of_send_channel, of_receive_channel, of_function, of_struct, channel_of, slice_of}
 use Rattle.go_rules.specs.Nodes.{TypeLayer, type_parts}
 use Rattle.go_rules.specs.Operands.{constant_of}
 use Rattle.go_rules.proofs.OneOperand.{of_once}
@@ -62,6 +62,18 @@ module _ {E : Env} where
   in_element (of_map h i) = (_, i)
 
   -- the types that are built of those of the parts
+  pub to_pointer : {t : Typ} (u : Term) → OfType E t u → OfForm E (Typ-F.Pointer t) (term.Pointer u)
+  to_pointer {t = t} u h = subst (λ (w : Term). OfForm E (Typ-F.Pointer t) w) (ap roll-Term (sym (outs-Pointer u)) ∙ roll-out-Term (term.Pointer u)) (of_pointer h)
+
+  pub to_slice : {t : Typ} (u : Term) → OfType E t u → OfForm E (Typ-F.«Type::Slice» t) (term.Slice u)
+  to_slice {t = t} u h = subst (λ (w : Term). OfForm E (Typ-F.«Type::Slice» t) w) (ap roll-Term (sym (outs-Slice u)) ∙ roll-out-Term (term.Slice u)) (of_slice h)
+
+  pub to_function : {g : Sig} (h : Signature) → OfSignature E (out-Sig g).parameters (out-Sig g).result h → OfForm E (Typ-F.Func g) (term.Func h)
+  to_function {g = g} h o = subst (λ (w : Term). OfForm E (Typ-F.Func g) w) (ap roll-Term (sym (outs-Func h)) ∙ roll-out-Term (term.Func h)) (of_function o)
+
+  pub to_struct : {ds : List FieldDecl} (fs : List Field) → OfFields E ds fs → OfForm E (Typ-F.Struct ds) (term.Struct fs)
+  to_struct {ds = ds} fs h = subst (λ (w : Term). OfForm E (Typ-F.Struct ds) w) (ap roll-Term (sym (outs-Struct fs)) ∙ roll-out-Term (term.Struct fs)) (of_struct h)
+
   pub to_map : {k t : Typ} (u v : Term) → OfType E k u → OfType E t v → OfForm E (Typ-F.Map k t) (term.Map u v)
   to_map {k = k} {t = t} u v h i = subst (λ (w : Term). OfForm E (Typ-F.Map k t) w) (ap roll-Term (sym (outs-Map u v)) ∙ roll-out-Term (term.Map u v)) (of_map h i)
 
@@ -96,3 +108,10 @@ module _ {E : Env} where
 -- a type form, by its form
 pub by_form : (E : Env) (l k : TypeLayer) (r : Result (Term × Bool) ExprError) → l ≡ k → Types {A = Term} E (OfForm E k) (type_parts k) r → Types {A = Term} E (OfForm E l) (type_parts l) r
 by_form E l k r e t = subst (λ (f : TypeLayer). Types {A = Term} E (OfForm E f) (type_parts f) r) (sym e) t
+
+-- the types of levels as the code makes them
+pub as_slice : (u : Term) → slice_of u ≡ term.Slice u
+as_slice u = ap roll-Term (sym (outs-Slice u)) ∙ roll-out-Term (term.Slice u)
+
+pub as_channel : (d : Direction) (u : Term) → channel_of d u ≡ term.Chan d u
+as_channel d u = ap roll-Term (sym (outs-Chan d u)) ∙ roll-out-Term (term.Chan d u)

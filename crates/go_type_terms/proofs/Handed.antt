@@ -1,5 +1,5 @@
 -- Answers that are handed on.
-use Rattle.std.proofs.Common.{◌≡◌, List, Bool, Result, Ok, Err, ap, sym, subst}
+use Rattle.std.proofs.Common.{◌≡◌, List, Bool, Result, Ok, Err}
 use Rattle.std.specs.Result.{IsErrAnd}
 use Rattle.go_rules.specs.Environments.{Env}
 use Rattle.go_rules.specs.Nodes.{Node}

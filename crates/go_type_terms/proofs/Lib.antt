@@ -3,7 +3,7 @@ pub mod Fields
 pub mod Forms
 pub mod Gone
 pub mod Handed
-pub mod Interfaces
+pub mod InterfaceTypes
 pub mod LoudTrees
 pub mod NamedTypes
 pub mod Noting

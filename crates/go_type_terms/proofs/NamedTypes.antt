@@ -1,15 +1,12 @@
 -- Names of types, by what they mean.
-use Rattle.std.proofs.Common.{◌≡◌, ℕ, List, refl, sym, ap, ◌∙◌, subst, Bool, true, false, Option, Some, None, Result, Ok, Err}
-use Rattle.std.specs.Prelude.{pos}
+use Rattle.std.proofs.Common.{◌≡◌, ℕ, List, sym, ap, ◌∙◌, true, false, Some, Result, Ok, Err}
 use Rattle.go_model.specs.declared.types.package.Entity.{Entity}
 use Rattle.go_model.specs.declared.types.term.Term.{Term}
 use Rattle.go_syntax.specs.declared.name.Name.{Name}
 use Rattle.go_rules.specs.Environments.{Env, is_exported}
 use Rattle.go_rules.specs.Expressions.{Denotes, DenotesImported, is_blank, seen_operand}
 use Rattle.go_rules.specs.Operands.{denoted, type_name}
-use Rattle.go_rules.specs.Universe.{predeclared_operand}
 use Rattle.go_rules.specs.declared.operand.Operand.{Operand}
-use Rattle.go_rules.specs.declared.predeclared.Predeclared.{Predeclared}
 use Rattle.go_rules.specs.declared.seen.Seen.{Seen}
 use Rattle.go_rules.specs.declared.seen.Seen.TheVariants as seen
 use Rattle.go_rules.proofs.OneName.{one_some}

@@ -1,8 +1,7 @@
 -- Parameters, declaration by declaration.
-use Rattle.std.proofs.Common.{◌≡◌, ◌<◌, ◌≤◌, ◌+◌, ℕ, length, get_or, drop, List, [], ◌∷◌, ◌++◌, append_assoc, refl, sym, ap, ◌∙◌, subst, Bool, true, false, ◌||◌}
+use Rattle.std.proofs.Common.{◌≡◌, ◌<◌, ◌≤◌, ◌+◌, ℕ, length, get_or, drop, List, [], ◌∷◌, ◌++◌, append_assoc, refl, sym, ◌∙◌, subst, Bool, true, false, ◌||◌}
 use Rattle.std.proofs.lemmas.List.{drop_all}
 use Rattle.go_model.specs.declared.types.term.Term.{Term}
-use Rattle.go_syntax.specs.declared.name.Name.{Name}
 use Rattle.go_syntax.specs.declared.types.ParameterDecl.{ParameterDecl, out-ParameterDecl}
 use Rattle.go_rules.specs.Environments.{Env}
 use Rattle.go_rules.specs.Expressions.{OfParameters, OfType, for_names, parameters_more, parameters_none, parameters_variadic, slice_of}

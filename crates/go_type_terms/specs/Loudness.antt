@@ -3,7 +3,6 @@
 -- Public source: Go specification, "Length and capacity".
 use Rattle.std.specs.Prelude.{◌≡◌, Bool, true, false, List, ◌∷◌, [], ◌++◌}
 use Rattle.go_base.specs.Lists.{Has as In}
-use Rattle.go_model.specs.declared.constants.value.Value.{Value}
 use Rattle.go_syntax.specs.declared.expression.Expr.{Expr, out-Expr}
 use Rattle.go_syntax.specs.declared.expression.Post.{Post}
 use Rattle.go_rules.specs.Environments.{Env}

@@ -9,6 +9,7 @@ use Rattle.go_model.specs.declared.types.term.Signature.{Signature}
 use Rattle.go_model.specs.declared.types.term.Term.{Term, Term-F, roll-Term}
 use Rattle.go_model.specs.types.MethodSets.{method_sel, sel_order}
 use Rattle.go_model.specs.types.Underlying.{under}
+use Rattle.go_syntax.specs.declared.name.Name.{Name}
 use Rattle.go_syntax.specs.declared.types.FieldDecl.{FieldDecl-F}
 use Rattle.go_syntax.specs.declared.types.InterfaceElem.{InterfaceElem-F}
 use Rattle.go_syntax.specs.declared.types.Signature.{out-Signature as out-Sig}
@@ -21,10 +22,14 @@ abbrev pub OfField : Env → FieldLayer → List Field → Type 0
 OfField E (FieldDecl-F.«FieldDecl::Named» ns t tag) fs = (u : Term) × OfType E t u × (fs ≡ map (field_of E false u tag) ns)
 OfField E (FieldDecl-F.«FieldDecl::Embedded» star q tag) fs = (u : Term) × IsTypeName E q u × (fs ≡ field_of E true (starred star u) tag q.name ∷ [])
 
+-- the method of this name and signature
+abbrev pub method_of : Env → Name → Signature → Method
+method_of E n g = roll-Method (record { sel = selector_of E n.text; signature = g })
+
 -- the methods that an element of an interface gives
 abbrev pub OfElement : Env → ElemLayer → List Method → Type 0
 OfElement E (InterfaceElem-F.Method n g) ms =
-    (h : Signature) × OfSignature E (out-Sig g).parameters (out-Sig g).result h × (ms ≡ roll-Method (record { sel = selector_of E n.text; signature = h }) ∷ [])
+    (h : Signature) × OfSignature E (out-Sig g).parameters (out-Sig g).result h × (ms ≡ method_of E n h ∷ [])
 OfElement E (InterfaceElem-F.«InterfaceElem::Embedded» q) ms = (u : Term) × IsTypeName E q u × (under E.table u ≡ Term-F.Interface ms)
 
 -- these methods in the order of their selectors, each once

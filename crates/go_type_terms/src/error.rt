@@ -1,8 +1,8 @@
-//! Why an expression has no operand.
+//! Why an expression has no operand, and a type form no type.
 use go_base::memory::NoMemory;
 use thiserror::Error;
 
-/// Why an expression has no operand.
+/// Why an expression has no operand, or a type form no type.
 #[derive(Clone, Copy, Debug, PartialEq, Eq, Error)]
 pub enum ExprError {
     /// The rules give it none.

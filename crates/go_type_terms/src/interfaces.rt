@@ -1,15 +1,16 @@
 //! Methods of interface types.
-ghost use Rattle.std.specs.Prelude.{◌≡◌, ◌∷◌, []};
+ghost use Rattle.std.specs.Prelude.{◌≡◌, ◌∷◌, [], IfOk};
 ghost use Rattle.go_base.specs.Keys.{item_of};
 ghost use Rattle.go_rules.specs.Expressions.{OfForm, OfMethods};
 ghost use Rattle.go_rules.specs.Nodes.{elem_parts, elems_parts, signature as signature_node};
+ghost use Rattle.go_rules.specs.Scopes.{env_of};
 ghost use Rattle.go_model.specs.declared.types.term.Term.{Term-F, out-Term};
 ghost use Rattle.go_model.specs.types.Underlying.{under};
 ghost use Rattle.go_syntax.specs.declared.types.InterfaceElem.{InterfaceElem-F, out-InterfaceElem};
 ghost use Rattle.go_syntax.specs.declared.types.«Type».{«Type-F» as Typ-F};
 ghost use Rattle.go_usability.specs.Answers.{Gives};
 ghost use Rattle.go_type_terms.specs.Answers.{Tells, Types, TypesBelow, env_in};
-ghost use Rattle.go_type_terms.specs.Members.{IsInterfaceOf, OfElement};
+ghost use Rattle.go_type_terms.specs.Members.{IsInterfaceOf, OfElement, method_of};
 
 use crate::error::ExprError;
 use crate::lists::push_all;
@@ -19,7 +20,9 @@ use crate::part::{Answer, Part};
 use crate::type_names::type_named;
 use crate::typing::Typing;
 use go_base::list::List;
-use go_model::types::term::{Method, Term};
+use go_base::memory::NoMemory;
+use go_model::types::term::{Method, Signature as Signed, Term};
+use go_rules::env::Env;
 use go_syntax::name::{Name, QualifiedName};
 use go_syntax::types::{InterfaceElem, Signature};
 use go_usability::context::Context;
@@ -60,6 +63,31 @@ fn embedded_methods(
     methods_under(context, alloc, &term)
 }
 
+// The method of a name and a signature.
+fn method(env: &Env<'_>, signed: Signed, name: &Name) -> Result<Method, NoMemory>
+    ensures { IfOk result (λ m. m ≡ method_of (env_of env.now) name.now signed) }
+{
+    Ok(Method {
+        sel: env.selector(name.text.bytes())?,
+        signature: signed,
+    })
+}
+
+// A list of that method alone.
+fn method_list(
+    env: &Env<'_>,
+    alloc: Global,
+    name: &Name,
+    signed: Signed,
+) -> Result<List<Method>, NoMemory>
+    ensures { IfOk result (λ ms. ms ≡ method_of (env_of env.now) name.now signed ∷ []) }
+{
+    let method = method(env, signed, name)?;
+    let mut methods = List::new(alloc);
+    methods.push(method)?;
+    Ok(methods)
+}
+
 // The interface type of methods.
 fn interface_of(alloc: Global, methods: &[Method]) -> Result<Term, ExprError>
     ensures { Tells (IsInterfaceOf methods.now) result }
@@ -81,12 +109,7 @@ impl<'a, F: Fn(&Context<'_>, Global, usize, Part<'_>) -> Result<Answer, ExprErro
         ensures { Types (env_in self.now.context.now) (OfElement (env_in self.now.context.now) (InterfaceElem-F.Method name.now signature.now)) (signature_node signature.now ∷ []) result }
     {
         let (signed, loud) = self.signature(signature)?;
-        let method = Method {
-            sel: self.context.env.selector(name.text.bytes())?,
-            signature: signed,
-        };
-        let mut methods = List::new(self.alloc);
-        methods.push(method)?;
+        let methods = method_list(self.context.env, self.alloc, name, signed)?;
         Ok((methods, loud))
     }
 

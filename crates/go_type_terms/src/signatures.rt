@@ -1,5 +1,5 @@
 //! Parameters and results of function types.
-ghost use Rattle.std.specs.Prelude.{◌≡◌, [], ◌∷◌, false, IfOk};
+ghost use Rattle.std.specs.Prelude.{◌≡◌, [], ◌∷◌, false, replicate, IfOk};
 ghost use Rattle.go_rules.specs.Expressions.{OfForm, OfParameters, OfResult, OfSignature, for_names, slice_of};
 ghost use Rattle.go_type_terms.specs.Results.{OfResults};
 ghost use Rattle.go_rules.specs.Nodes.{optional_result_parts, parameter_parts, result_parts, signature as signature_node, type as type_node};
@@ -32,17 +32,23 @@ struct Parameters {
     variadic: bool,
 }
 
+// So many copies of a type.
+fn copies(alloc: Global, count: usize, term: &Term) -> Result<List<Term>, NoMemory>
+    ensures { IfOk result (λ ts. ts ≡ replicate count term.now) }
+{
+    let mut terms = List::new(alloc);
+    for _turn in 0..count {
+        let copied = term.copy(alloc)?;
+        terms.push(copied)?;
+    }
+    Ok(terms)
+}
+
 // The type of a parameter declaration, once for each of its names, and once where it has none.
 fn for_names(alloc: Global, names: &[Name], term: Term) -> Result<List<Term>, NoMemory>
     ensures { IfOk result (λ ts. ts ≡ for_names names.now term) }
 {
-    let mut terms = List::new(alloc);
-    if let Some((_, others)) = names.split_first() {
-        for _other in others {
-            let copied = term.copy(alloc)?;
-            terms.push(copied)?;
-        }
-    }
+    let mut terms = copies(alloc, names.len().saturating_sub(1), &term)?;
     terms.push(term)?;
     Ok(terms)
 }
@@ -142,11 +148,12 @@ impl<'a, F: Fn(&Context<'_>, Global, usize, Part<'_>) -> Result<Answer, ExprErro
     {
         match written {
             None => Ok((List::new(self.alloc), false)),
-            Some(written) => self.written_result(written),
+            Some(given) => self.written_result(given),
         }
     }
 
-    /// The signature of parameters and a result.
+    /// The signature of parameters and a result, and whether a receive stands in their types, or a call that is
+    /// neither a conversion nor constant; `Untyped` exactly where they have none.
     pub fn signature(&self, signature: &Signature) -> Result<(Signed, bool), ExprError>
         requires { TypesBelow self.now.context.now self.now.height (F.pre self.now.below) (F.post self.now.below) }
         ensures { Types (env_in self.now.context.now) (OfSignature (env_in self.now.context.now) (out-Signature signature.now).parameters (out-Signature signature.now).result) (signature_node signature.now ∷ []) result }

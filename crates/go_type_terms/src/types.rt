@@ -22,7 +22,8 @@ use go_usability::context::Context;
 use std::alloc::Global;
 
 impl<'a, F: Fn(&Context<'_>, Global, usize, Part<'_>) -> Result<Answer, ExprError>> Typing<'a, F> {
-    // The type that a type form below stands for, in a box.
+    /// The type that a type form below stands for, in a box, and the form's flag; `Untyped` exactly where it
+    /// stands for none.
     pub fn boxed_below(&self, form: &Type) -> Result<(Box<Term>, bool), ExprError>
         requires { TypesBelow self.now.context.now self.now.height (F.pre self.now.below) (F.post self.now.below) }
         ensures { Types (env_in self.now.context.now) (OfType (env_in self.now.context.now) form.now) (type_node form.now ∷ []) result }
@@ -84,7 +85,8 @@ impl<'a, F: Fn(&Context<'_>, Global, usize, Part<'_>) -> Result<Answer, ExprErro
         Ok((Term::Map(key, element), either(loud, louder)))
     }
 
-    /// The channel type of a direction and an element type.
+    /// The channel type of a direction and of the element type that a form stands for, and the form's flag;
+    /// `Untyped` exactly where it stands for none.
     pub fn channel(&self, direction: Direction, element: &Type) -> Result<(Term, bool), ExprError>
         requires { TypesBelow self.now.context.now self.now.height (F.pre self.now.below) (F.post self.now.below) }
         ensures { Types (env_in self.now.context.now) (IsChannelOf (env_in self.now.context.now) direction element.now) (type_node element.now ∷ []) result }
@@ -93,7 +95,7 @@ impl<'a, F: Fn(&Context<'_>, Global, usize, Part<'_>) -> Result<Answer, ExprErro
         Ok((Term::Chan(direction, element), loud))
     }
 
-    /// The type that a type form stands for, by its form.
+    // The type that a type form stands for, by its form.
     fn type_form(&self, form: &Type) -> Result<(Term, bool), ExprError>
         requires { TypesBelow self.now.context.now self.now.height (F.pre self.now.below) (F.post self.now.below) }
         ensures { Types (env_in self.now.context.now) (OfForm (env_in self.now.context.now) (out-Typ form.now)) (type_parts (out-Typ form.now)) result }
@@ -114,7 +116,8 @@ impl<'a, F: Fn(&Context<'_>, Global, usize, Part<'_>) -> Result<Answer, ExprErro
         }
     }
 
-    /// The type that a type form stands for.
+    /// The type that a type form stands for, which is within bounds, and whether a receive stands in the form, or a
+    /// call that is neither a conversion nor constant; `Untyped` exactly where it stands for none.
     pub fn type_(&self, form: &Type) -> Result<(Term, bool), ExprError>
         requires { TypesBelow self.now.context.now self.now.height (F.pre self.now.below) (F.post self.now.below) }
         ensures { Types (env_in self.now.context.now) (OfType (env_in self.now.context.now) form.now) (type_node form.now ∷ []) result }

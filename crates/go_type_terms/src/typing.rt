@@ -23,7 +23,8 @@ pub struct Typing<'a, F> {
 }
 
 impl<'a, F: Fn(&Context<'_>, Global, usize, Part<'_>) -> Result<Answer, ExprError>> Typing<'a, F> {
-    /// What an expression below is.
+    /// What an expression below is, and whether a receive stands in it, or a call that is neither a conversion nor
+    /// constant; `Untyped` exactly where it has no operand.
     pub fn expr_below(&self, expr: &Expr) -> Result<(Operand, bool), ExprError>
         requires { TypesBelow self.now.context.now self.now.height (F.pre self.now.below) (F.post self.now.below) }
         ensures { Types (env_in self.now.context.now) (Has (env_in self.now.context.now) expr.now) (expression expr.now ∷ []) result }
@@ -34,7 +35,7 @@ impl<'a, F: Fn(&Context<'_>, Global, usize, Part<'_>) -> Result<Answer, ExprErro
         }
     }
 
-    /// What a type form below stands for.
+    /// The type that a type form below stands for, and the same flag; `Untyped` exactly where it stands for none.
     pub fn type_below(&self, form: &Type) -> Result<(Term, bool), ExprError>
         requires { TypesBelow self.now.context.now self.now.height (F.pre self.now.below) (F.post self.now.below) }
         ensures { Types (env_in self.now.context.now) (OfType (env_in self.now.context.now) form.now) (type_node form.now ∷ []) result }
@@ -45,7 +46,7 @@ impl<'a, F: Fn(&Context<'_>, Global, usize, Part<'_>) -> Result<Answer, ExprErro
         }
     }
 
-    /// Whether elements below are those of a literal of the type.
+    /// The same flag of elements below; `Untyped` exactly where they are not those of a literal of the type.
     pub fn elements_below(&self, term: &Term, elements: &[Element]) -> Result<bool, ExprError>
         requires { TypesBelow self.now.context.now self.now.height (F.pre self.now.below) (F.post self.now.below) }
         ensures { Holds (env_in self.now.context.now) (HasElements (env_in self.now.context.now) term.now elements.now) (element_parts elements.now) result }

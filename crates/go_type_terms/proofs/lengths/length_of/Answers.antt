@@ -1,9 +1,10 @@
-use Rattle.std.proofs.Common.{sym}
-use Rattle.go_type_terms.proofs.ArrayLengths.{int_length, not_representable}
+use Rattle.std.proofs.Common.{rules, ◌≡◌, ◌<◌, ◌^◌, ℕ, ℤ, pos, FitsSigned, MatchOption, sym, ◌∙◌, subst, to_z-of_z}
+use Rattle.std.specs.Int.{w128}
+use Rattle.go_type_terms.proofs.ArrayLengths.{int_length}
 use Rattle.go_type_terms.proofs.lengths.length_of.Goals as goal
 
-pub returns-then-not-representable : goal.returns-then-not-representable
-returns-then-not-representable c = not_representable c.args.bits c.args.value.now c.representable.result c.representable.ensures c.if-not-representable.true
-
 pub returns-in-Int : goal.returns-in-Int
-returns-in-Int c = int_length c.args.bits c.in-Int.number.now c.args.value.now c.natural.result c.requires c.in-Int.is ? c.natural.ensures
+returns-in-Int c =
+    let fits : FitsSigned w128 c.in-Int.number = search rules in
+    int_length c.args.bits c.in-Int.number c.args.value.now c.natural.result c.requires c.in-Int.is (sym c.representable.ensures ∙ c.if-not-representable.false)
+    (subst (λ (x : ℤ). MatchOption c.natural.result ((n : ℕ) → n < 2 ^ 64 → x ≡ pos n → ⊥) (λ n. x ≡ pos n)) (to_z-of_z fits) c.natural.ensures)

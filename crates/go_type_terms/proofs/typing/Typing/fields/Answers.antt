@@ -17,7 +17,7 @@ pub loop-decl-preserved : goal.loop-decl-preserved
 loop-decl-preserved g c =
     let E = env_in c.args.self.now.context.now in
     let d = c.decl-item.result in
-    gone_on E fields_parts (OfFields E) c.args.decls.now c.loop-decl.decl-index d c.loop-decl.fields c.in_ok-more.more c.push_all.new.items c.loop-decl.loud c.in_ok-more.louder c.either.result (field_parts (out-FieldDecl d)) c.loop-decl-test.true c.decl-item.is c.in_ok-push_all.ensures c.either.ensures
+    gone_on E fields_parts (OfFields E) c.args.decls.now c.loop-decl.decl-index d c.loop-decl.fields c.in_ok-more.more c.push_all.new.items c.loop-decl.loud c.in_ok-more.louder c.either-loud.result (field_parts (out-FieldDecl d)) c.loop-decl-test.true c.decl-item.is c.in_ok-push_all.ensures c.either-loud.ensures
     (λ rest. refl) c.in_ok-more.ensures.1 (λ rest more h. joined_fields d rest c.in_ok-more.more more c.in_ok-more.ensures.0 h) (λ rest all h. later_fields d rest all h) c.loop-decl.invariant
 
 pub returns-in_err-more : goal.returns-in_err-more

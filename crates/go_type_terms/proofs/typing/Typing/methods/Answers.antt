@@ -17,7 +17,7 @@ pub loop-element-preserved : goal.loop-element-preserved
 loop-element-preserved g c =
     let E = env_in c.args.self.now.context.now in
     let d = c.element-item.result in
-    gone_on E elems_parts (OfMethods E) c.args.elements.now c.loop-element.element-index d c.loop-element.methods c.in_ok-more.more c.push_all.new.items c.loop-element.loud c.in_ok-more.louder c.either.result (elem_parts (out-InterfaceElem d)) c.loop-element-test.true c.element-item.is c.in_ok-push_all.ensures c.either.ensures
+    gone_on E elems_parts (OfMethods E) c.args.elements.now c.loop-element.element-index d c.loop-element.methods c.in_ok-more.more c.push_all.new.items c.loop-element.loud c.in_ok-more.louder c.either-loud.result (elem_parts (out-InterfaceElem d)) c.loop-element-test.true c.element-item.is c.in_ok-push_all.ensures c.either-loud.ensures
     (λ rest. refl) c.in_ok-more.ensures.1 (λ rest more h. joined_methods d rest c.in_ok-more.more more c.in_ok-more.ensures.0 h) (λ rest all h. later_methods d rest all h) c.loop-element.invariant
 
 pub returns-in_err-more : goal.returns-in_err-more

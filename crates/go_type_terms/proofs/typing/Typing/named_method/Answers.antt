@@ -15,4 +15,4 @@ returns-in_err-signed g c =
     handed E (OfSignature E (out-Signature s).parameters (out-Signature s).result) (OfElement E (InterfaceElem-F.Method c.args.name.now s)) (signature_node s ∷ []) (signature_node s ∷ []) c.in_err-signed.field-0.0 c.from_residual.result c.from_residual.ensures.1 c.in_err-signed.ensures (λ ms o. (o.0, o.1))
 
 pub returns : goal.returns
-returns g c = ((c.in_ok-signed.signed, c.in_ok-signed.ensures.0, ?), c.in_ok-signed.ensures.1)
+returns g c = ((c.in_ok-signed.signed, c.in_ok-signed.ensures.0, c.in_ok-methods.ensures), c.in_ok-signed.ensures.1)

@@ -18,7 +18,7 @@ pub returns-in_err-terms : goal.returns-in_err-terms
 returns-in_err-terms g c =
     let E = env_in c.args.self.now.context.now in
     let d = out-ParameterDecl c.args.decl.now in
-    handed_told E (GivesTerms d.variadic d.names c.in_ok-term.term) (OfParameter E c.args.decl.now) (type_node d.type_ ∷ []) c.in_err-terms.field-0 c.from_residual-in_err-terms.result c.from_residual-in_err-terms.ensures.1 c.in_err-terms.ensures (λ us o. (us, in_parameter E c.args.decl.now c.in_ok-term.term c.in_ok-term.ensures.0 us o))
+    handed_told E (GivesTerms d.variadic d.names c.in_ok-term.term) (OfParameter E c.args.decl.now) (type_node d.type_ ∷ []) c.in_err-terms.field-0.0 c.from_residual-in_err-terms.result c.from_residual-in_err-terms.ensures.1 c.in_err-terms.ensures (λ us o. (us, in_parameter E c.args.decl.now c.in_ok-term.term c.in_ok-term.ensures.0 us o))
 
 pub returns : goal.returns
 returns g c = ((c.in_ok-term.term, c.in_ok-term.ensures.0, c.in_ok-terms.ensures), c.in_ok-term.ensures.1)

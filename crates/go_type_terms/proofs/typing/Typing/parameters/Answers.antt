@@ -16,7 +16,7 @@ pub returns-then-variadic : goal.returns-then-variadic
 returns-then-variadic g c = λ p. passed_behind (env_in c.args.self.now.context.now) c.args.decls.now c.loop-decl.decl-index c.decl-item.result c.loop-decl.terms c.loop-decl.variadic c.loop-decl.loud c.loop-decl-test.true c.decl-item.is c.if-variadic.true c.loop-decl.invariant p.terms p.variadic
 
 pub loop-decl-preserved : goal.loop-decl-preserved
-loop-decl-preserved g c = passed_on (env_in c.args.self.now.context.now) c.args.decls.now c.loop-decl.decl-index c.decl-item.result c.loop-decl.terms c.in_ok-more.more c.push_all.new.items c.loop-decl.variadic _ c.loop-decl.loud c.in_ok-more.louder c.either.result c.loop-decl-test.true c.decl-item.is c.if-variadic.false c.in_ok-push_all.ensures refl c.either.ensures c.in_ok-more.ensures.0 c.in_ok-more.ensures.1 c.loop-decl.invariant
+loop-decl-preserved g c = passed_on (env_in c.args.self.now.context.now) c.args.decls.now c.loop-decl.decl-index c.decl-item.result c.loop-decl.terms c.in_ok-more.more c.push_all.new.items c.loop-decl.variadic _ c.loop-decl.loud c.in_ok-more.louder c.either-loud.result c.loop-decl-test.true c.decl-item.is c.if-variadic.false c.in_ok-push_all.ensures refl c.either-loud.ensures c.in_ok-more.ensures.0 c.in_ok-more.ensures.1 c.loop-decl.invariant
 
 pub returns-in_err-more : goal.returns-in_err-more
 returns-in_err-more g c =

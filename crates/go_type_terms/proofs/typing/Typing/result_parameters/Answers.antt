@@ -13,8 +13,8 @@ returns-in_err-parameters g c =
     let ds = c.args.decls.now in
     handed E (λ (p : Parameters). OfParameters E ds p.terms p.variadic) (λ us. OfParameters E ds us false) (parameter_parts ds) (parameter_parts ds) c.in_err-parameters.field-0.0 c.from_residual.result c.from_residual.ensures.1 c.in_err-parameters.ensures (λ us h. (record { terms = us; variadic = false }, h))
 
-pub returns-then-variadic : goal.returns-then-variadic
-returns-then-variadic g c = not_results c.args.decls.now c.in_ok-parameters.parameters.terms c.in_ok-parameters.parameters.variadic c.in_ok-parameters.ensures.0 c.if-variadic.true
+pub returns-then-parameters : goal.returns-then-parameters
+returns-then-parameters g c = not_results c.args.decls.now c.in_ok-parameters.parameters.terms c.in_ok-parameters.parameters.variadic c.in_ok-parameters.ensures.0 c.if-parameters.true
 
 pub returns : goal.returns
-returns g c = (subst (λ (v : Bool). OfParameters (env_in c.args.self.now.context.now) c.args.decls.now c.in_ok-parameters.parameters.terms v) c.if-variadic.false c.in_ok-parameters.ensures.0, c.in_ok-parameters.ensures.1)
+returns g c = (subst (λ (v : Bool). OfParameters (env_in c.args.self.now.context.now) c.args.decls.now c.in_ok-parameters.parameters.terms v) c.if-parameters.false c.in_ok-parameters.ensures.0, c.in_ok-parameters.ensures.1)

@@ -1,6 +1,7 @@
-use Rattle.std.proofs.Common.{[], ◌∷◌, ◌++◌, Bool, sym, subst}
+use Rattle.std.proofs.Common.{List, [], ◌∷◌, ◌||◌, Bool, sym, subst}
 use Rattle.go_rules.specs.Expressions.{OfParameters, OfSignature}
 use Rattle.go_rules.specs.Nodes.{optional_result_parts, parameter_parts, signature as signature_node}
+use Rattle.go_syntax.specs.declared.types.ParameterDecl.{ParameterDecl}
 use Rattle.go_syntax.specs.declared.types.Signature.{out-Signature}
 use Rattle.go_type_terms.specs.Answers.{env_in}
 use Rattle.go_type_terms.specs.Loudness.{AreLoud}
@@ -8,15 +9,15 @@ use Rattle.go_type_terms.specs.Results.{OfResults}
 use Rattle.go_type_terms.specs.declared.signatures.Parameters.{Parameters}
 use Rattle.go_type_terms.proofs.Handed.{handed}
 use Rattle.go_type_terms.proofs.LoudTrees.{join_loud, parts_loud}
-use Rattle.go_type_terms.proofs.Parameters.{parameters_in, results_in, to_signature}
+use Rattle.go_type_terms.proofs.Parameters.{parameters_in, results_in, to_signature_at}
 use Rattle.go_type_terms.proofs.typing.Typing.signature.Goals as goal
 
 pub returns-in_err-parameters : goal.returns-in_err-parameters
 returns-in_err-parameters g c =
     let E = env_in c.args.self.now.context.now in
     let s = out-Signature c.args.signature.now in
-    handed E (λ (p : Parameters). OfParameters E s.parameters p.terms p.variadic) (OfSignature E s.parameters s.result) (parameter_parts s.parameters) (signature_node c.args.signature.now ∷ []) c.in_err-parameters.field-0.0 c.from_residual.result c.from_residual.ensures.1 c.in_err-parameters.ensures
-    (λ h o. let p = parameters_in s.result o in (record { terms = p.0; variadic = p.1 }, p.2))
+    handed E (λ (p : Parameters). OfParameters E c.items.result.now p.terms p.variadic) (OfSignature E s.parameters s.result) (parameter_parts c.items.result.now) (signature_node c.args.signature.now ∷ []) c.in_err-parameters.field-0.0 c.from_residual.result c.from_residual.ensures.1 c.in_err-parameters.ensures
+    (λ h o. let p = parameters_in s.result (subst (λ (xs : List ParameterDecl). OfSignature E xs s.result h) (sym c.items.ensures) o) in (record { terms = p.0; variadic = p.1 }, p.2))
 
 pub returns-in_err-results : goal.returns-in_err-results
 returns-in_err-results g c =
@@ -28,7 +29,8 @@ pub returns : goal.returns
 returns g c =
     let E = env_in c.args.self.now.context.now in
     let s = out-Signature c.args.signature.now in (
-      to_signature s.result c.in_ok-parameters.ensures.0 c.in_ok-results.ensures.0,
+      to_signature_at s.result c.items.ensures c.in_ok-parameters.ensures.0 c.in_ok-results.ensures.0,
       subst (λ (b : Bool). AreLoud E (signature_node c.args.signature.now ∷ []) b) (sym c.either.ensures)
-          (parts_loud E (signature_node c.args.signature.now) (λ x e. absurd (cc)) _ (join_loud E (parameter_parts s.parameters) (optional_result_parts s.result) _ _ c.in_ok-parameters.ensures.1 c.in_ok-results.ensures.1)),
+          (parts_loud E (signature_node c.args.signature.now) (λ x e. absurd (cc)) (c.in_ok-parameters.loud || c.in_ok-results.louder) (join_loud E (parameter_parts s.parameters) (optional_result_parts s.result) c.in_ok-parameters.loud c.in_ok-results.louder
+          (subst (λ (xs : List ParameterDecl). AreLoud E (parameter_parts xs) c.in_ok-parameters.loud) c.items.ensures c.in_ok-parameters.ensures.1) c.in_ok-results.ensures.1)),
     )

@@ -1,7 +1,7 @@
 -- Interface types, by their methods.
-use Rattle.std.proofs.Common.{◌≡◌, List, refl, sym, ap, ◌∙◌, subst, Bool, Result, Ok, Err}
+use Rattle.std.proofs.Common.{◌≡◌, List, refl, sym, subst}
 use Rattle.go_model.specs.declared.types.term.Method.{Method}
-use Rattle.go_model.specs.declared.types.term.Term.{Term, Term-F, roll-Term}
+use Rattle.go_model.specs.declared.types.term.Term.{Term, Term-F}
 use Rattle.go_model.specs.types.Underlying.{under}
 use Rattle.go_syntax.specs.declared.name.QualifiedName.{QualifiedName}
 use Rattle.go_syntax.specs.declared.types.InterfaceElem.{InterfaceElem, InterfaceElem-F}
@@ -10,7 +10,7 @@ use Rattle.go_rules.specs.Environments.{Env}
 use Rattle.go_rules.specs.Expressions.{IsTypeName, OfForm, OfMethods, of_interface}
 use Rattle.go_rules.proofs.OneName.{one_type_name}
 use Rattle.go_rules.proofs.OneOperand.{methods_once}
-use Rattle.go_type_terms.specs.Members.{IsInterfaceOf, IsOrdered, OfElement}
+use Rattle.go_type_terms.specs.Members.{IsInterfaceOf, OfElement}
 
 -- the methods of an embedded type are those of its interface
 pub in_embedded : (E : Env) (q : QualifiedName) (t : Term) → IsTypeName E q t → (ms : List Method) → OfElement E (InterfaceElem-F.«InterfaceElem::Embedded» q) ms → under E.table t ≡ Term-F.Interface ms
