@@ -131,7 +131,7 @@ module _ (E : Env) where
   copy_no_typed e o none no_type x = no_type _ (may_copy_same none x).1
 
   pub copy_not_slice : (e : Term) (o : Operand) (t : Term) → (IsBytesFrom E e o → ⊥) → IsTyped o t → ((u : Term) → under E.table t ≡ Term-F.Slice u → ⊥) → MayCopy E e o → ⊥
-  copy_not_slice e o t none h no x = no _ (ap (under E.table) (one_type h (may_copy_same none x).1) ∙ (may_copy_same none x).2)
+  copy_not_slice e o t none h never x = never _ (ap (under E.table) (one_type h (may_copy_same none x).1) ∙ (may_copy_same none x).2)
 
   pub copy_decides : (e : Term) (o : Operand) (t u : Term) (b : Bool) → (IsBytesFrom E e o → ⊥) → IsTyped o t → under E.table t ≡ Term-F.Slice u → Decides (e ≡ u) b → Decides (MayCopy E e o) b
   copy_decides e o t u true none h f d = copy_same h (f ∙ ap Term-F.Slice (sym d))

@@ -18,6 +18,7 @@ use Rattle.go_selectors.specs.Answers.{Decides}
 use Rattle.go_usability.specs.Answers.{Gives}
 use Rattle.go_calls.specs.Builtins.{Closes, closes, Deletes, deletes, Panics, panics, Prints, prints_each, OfOne, OfTwo, OfMore, OfAny, OfNone}
 use Rattle.go_operators.proofs.Answers.{given, given_test, false_true}
+use Rattle.go_operators.proofs.TypedOperands.{typed_by_constant}
 use Rattle.go_operators.proofs.LevelForms.{same_direction}
 use Rattle.go_calls.proofs.LevelParts.{same_key}
 
@@ -64,9 +65,6 @@ module _ (E : Env) where
   pub printed_type : (o : Operand) (t : Term) → IsTyped o t → IsPrinted E o
   printed_type o t h = printed_typed h
 
-  same_constant : {c d : ConstTerm} {v w : Value} → ◌≡◌ {A = Operand} (constant_of c v) (constant_of d w) → (c ≡ d) × (v ≡ w)
-  same_constant e = (cc, cc)
-
   printed_default : {k : Untyped} {v : Value} → IsPrinted E (constant_of (constant.OfKind k) v) → DefaultHolds E k v
   printed_default (printed_typed h) = elim h [ ]
   printed_default (printed_constant d) = d
@@ -78,6 +76,12 @@ module _ (E : Env) where
   pub constant_printed : (o : Operand) (k : Untyped) (v : Value) (b : Bool) → o ≡ constant_of (constant.OfKind k) v → Decides (DefaultHolds E k v) b → Decides (IsPrinted E o) b
   constant_printed o k v b e d = subst (λ (x : Operand). Decides (IsPrinted E x) b) (sym e) (constant_prints k v b d)
 
+  pub kind_printed : (o : Operand) (c : ConstTerm) (v : Value) (k : Untyped) (b : Bool) → o ≡ constant_of c v → c ≡ constant.OfKind k → Decides (DefaultHolds E k v) b → Decides (IsPrinted E o) b
+  kind_printed o c v k b e f d = constant_printed o k v b (e ∙ ap (λ (x : ConstTerm). constant_of x v) f) d
+
+  pub term_printed : (o : Operand) (c : ConstTerm) (v : Value) (t : Term) → o ≡ constant_of c v → c ≡ constant.OfTerm t → ((u : Term) → IsTyped o u → ⊥) → IsPrinted E o → ⊥
+  term_printed o c v t e f none x = none t (typed_by_constant o c v t e f)
+
   pub loose_printed : (o : Operand) (k : Untyped) → o ≡ loose k → IsPrinted E o
   loose_printed o k e = subst (IsPrinted E) (sym e) printed_truth
 
@@ -88,6 +92,9 @@ module _ (E : Env) where
 
   pub not_printed : (o : Operand) → ((t : Term) → IsTyped o t → ⊥) → ((k : Untyped) (v : Value) → o ≡ constant_of (constant.OfKind k) v → ⊥) → ((k : Untyped) → o ≡ loose k → ⊥) → IsPrinted E o → ⊥
   not_printed o a b c x = unprinted a b c x
+
+  pub none_printed : (o : Operand) → ((t : Term) → IsTyped o t → ⊥) → ((c : ConstTerm) (v : Value) → o ≡ constant_of c v → ⊥) → ((k : Untyped) → o ≡ loose k → ⊥) → IsPrinted E o → ⊥
+  none_printed o a b c x = unprinted a (λ k v e. b (constant.OfKind k) v e) c x
 
   prints_all : {os : List Operand} {r : Operand} → Prints E os r → Each (IsPrinted E) os
   prints_all (prints_each p) = p

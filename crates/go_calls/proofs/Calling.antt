@@ -19,8 +19,8 @@ use Rattle.go_selectors.specs.Answers.{Decides}
 use Rattle.go_usability.specs.Answers.{Gives}
 use Rattle.go_calls.specs.Functions.{CallsFunction, calls_function, Passes, passes_each, passes_results}
 use Rattle.go_calls.specs.inner.Arguments.{CallsSignature, calls_signature, CallsWith, calls_with, RestFits, rest_slice, rest_elements, UsableEach}
-use Rattle.go_operators.proofs.Answers.{false_true}
-use Rattle.go_calls.proofs.Kinds.{typed_mode}
+use Rattle.go_operators.proofs.Answers.{decided_true, decided_false, false_true}
+use Rattle.go_calls.proofs.Callees.{typed_mode}
 use Rattle.go_calls.proofs.LevelParts.{same_element, same_function}
 
 head_same : {o q : Operand} → o ∷ [] ≡ q ∷ [] → o ≡ q
@@ -28,6 +28,12 @@ head_same e = cc
 
 many : {ts us : List Term} → ◌≡◌ {A = Shape} (shape.Many ts) (shape.Many us) → ts ≡ us
 many e = cc
+
+pub sole_results : (o : Operand) (os : List Operand) (dots : Bool) (ts : List Term) → dots ≡ false → os ≡ o ∷ [] → o ≡ tuple ts → (dots ≡ false) × (os ≡ tuple ts ∷ [])
+sole_results o os dots ts f e g = (f, e ∙ ap (λ (x : Operand). x ∷ []) g)
+
+pub no_sole_results : (o : Operand) (os : List Operand) (dots : Bool) → os ≡ o ∷ [] → ((ts : List Term) → o ≡ tuple ts → ⊥) → (ts : List Term) → dots ≡ false → os ≡ tuple ts ∷ [] → ⊥
+no_sole_results o os dots e none ts f g = none ts (head_same (sym e ∙ g))
 
 -- ---- arguments
 
@@ -167,6 +173,14 @@ module _ (E : Env) where
   pub call_not_fit : (dots : Bool) (g : Signature) (os : List Operand) → (ArgumentsFit E (out-Signature g).variadic dots (out-Signature g).params os → ⊥) → (r : Operand) → CallsSignature E dots g os r → ⊥
   call_not_fit dots g os none r x = none (signature_fits x)
 
+  -- by equal parameters and results
+
+  pub call_unfit : (dots : Bool) (g : Signature) (os : List Operand) (ps : List Term) (b : Bool) → ps ≡ (out-Signature g).params → b ≡ false → Decides (ArgumentsFit E (out-Signature g).variadic dots ps os) b → (r : Operand) → CallsSignature E dots g os r → ⊥
+  call_unfit dots g os ps b e f d = call_not_fit dots g os (λ x. decided_false (ArgumentsFit E (out-Signature g).variadic dots ps os) b f d (subst (λ (y : List Term). ArgumentsFit E (out-Signature g).variadic dots y os) (sym e) x))
+
+  pub call_fit : (dots : Bool) (g : Signature) (os : List Operand) (ps ts : List Term) (b : Bool) (r : Operand) → ps ≡ (out-Signature g).params → b ≡ true → Decides (ArgumentsFit E (out-Signature g).variadic dots ps os) b → ts ≡ (out-Signature g).results → r ≡ results_of ts → CallsSignature E dots g os r
+  call_fit dots g os ps ts b r e f d h i = call_fits dots g os r (subst (λ (y : List Term). ArgumentsFit E (out-Signature g).variadic dots y os) e (decided_true (ArgumentsFit E (out-Signature g).variadic dots ps os) b f d)) (i ∙ ap results_of h)
+
   -- the results of a call by themselves are no argument
 
   tuple_used : {o : Operand} {t : Term} → UsableAs E o t → o.mode ≡ mode.Tuple → ⊥
@@ -216,7 +230,7 @@ module _ (E : Env) where
   of_signature h e (calls_with p x) = of_passed h e p x
 
   to_signature : {dots : Bool} {o r : Operand} {os : List Operand} {t : Term} {g : Signature} → IsTyped o t → under E.table t ≡ Term-F.Func g → CallsFunction E dots o os r → CallsWith E dots g os r
-  to_signature {dots = dots} {os = os} {r = r} h e (calls_function {g = x} i f p a) = subst (λ (y : Signature). CallsWith E dots y os (results_of (out-Signature x).results)) (same_function (sym f ∙ ap (under E.table) (one_type i h) ∙ e)) (calls_with p (calls_signature a))
+  to_signature {dots = dots} {r = r} {os = os} h e (calls_function {g = x} i f p a) = subst (λ (y : Signature). CallsWith E dots y os (results_of (out-Signature x).results)) (same_function (sym f ∙ ap (under E.table) (one_type i h) ∙ e)) (calls_with p (calls_signature a))
 
   pub call_gives : (dots : Bool) (o : Operand) (os : List Operand) (t : Term) (g : Signature) (r : Option Operand) → IsTyped o t → under E.table t ≡ Term-F.Func g → Gives (CallsWith E dots g os) r → Gives (CallsFunction E dots o os) r
   call_gives dots o os t g (Some r) h e d = of_signature h e d

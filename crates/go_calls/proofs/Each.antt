@@ -38,7 +38,7 @@ module _ (E : Env) where
 
   pub usable_lengths : (os : List Operand) (ts : List Term) → UsableEach E os ts → length os ≡ length ts
   usable_lengths [] [] u = refl
-  usable_lengths (o ∷ os) (t ∷ ts) u = ap suc (usable_lengths os ts u)
+  usable_lengths (o ∷ os) (t ∷ ts) u = ap suc (usable_lengths os ts u.1)
   usable_lengths [] (t ∷ ts) u = elim u [ ]
   usable_lengths (o ∷ os) [] u = elim u [ ]
 

@@ -1,6 +1,6 @@
 -- Indices and strings: what they are, and where there are none.
 use Rattle.std.proofs.Common.{◌≡◌, ℕ, ◌<◌, ◌^◌, Bool, true, false, Option, Some, None, refl, sym, ap, ◌∙◌, subst, if◌then◌else◌, ◌⊎◌, inl, inr, length, List, ◌&&◌, ◌-◌, leb, arith}
-use Rattle.std.specs.Prelude.{ℤ, pos, MatchOption}
+use Rattle.std.specs.Prelude.{ℤ, pos, neg_ℤ, int_le, MatchOption}
 use Rattle.std.proofs.lemmas.Bool.{leb-true}
 use Rattle.go_model.specs.constants.Classes.{class_of_basic, is_integer}
 use Rattle.go_model.specs.constants.Constants.{is_representable}
@@ -36,16 +36,13 @@ second false b e = absurd (false_true e)
 
 below_word : (n bits : ℕ) → (bits ≡ 32) ⊎ (bits ≡ 64) → is_representable (value.Int (pos n)) basic.Int bits ≡ true → n < 2 ^ 64
 unfolding is_representable
-below_word n bits (inl e) h = let k = leb-true n (2 ^ 31 - 1) (second _ _ (subst (λ (w : ℕ). is_representable (value.Int (pos n)) basic.Int w ≡ true) e h)) in omega (arith, k)
-below_word n bits (inr e) h = let k = leb-true n (2 ^ 63 - 1) (second _ _ (subst (λ (w : ℕ). is_representable (value.Int (pos n)) basic.Int w ≡ true) e h)) in omega (arith, k)
-
-same_number : {x y : ℤ} → value.Int x ≡ value.Int y → x ≡ y
-same_number e = cc
+below_word n bits (inl e) h = let k = leb-true n (2 ^ 31 - 1) (second (int_le (neg_ℤ (pos (2 ^ 31))) (pos n)) (leb n (2 ^ 31 - 1)) (subst (λ (w : ℕ). is_representable (value.Int (pos n)) basic.Int w ≡ true) e h)) in omega (arith, k)
+below_word n bits (inr e) h = let k = leb-true n (2 ^ 63 - 1) (second (int_le (neg_ℤ (pos (2 ^ 63))) (pos n)) (leb n (2 ^ 63 - 1)) (subst (λ (w : ℕ). is_representable (value.Int (pos n)) basic.Int w ≡ true) e h)) in omega (arith, k)
 
 module _ (E : Env) where
-  pub int_gives : (v : Value) (x : ℤ) (m : ℕ) (n : Option ℕ) → v ≡ value.Int x → (m ≡ 32) ⊎ (m ≡ 64) → m ≡ E.bits → is_representable v basic.Int m ≡ true → MatchOption n ((k : ℕ) → k < 2 ^ 64 → x ≡ pos k → ⊥) (λ k. x ≡ pos k) → Gives (IsInt E v) n
-  int_gives v x m (Some k) e w b r g = record { number = e ∙ ap value.Int g; within = ap (is_representable v basic.Int) (sym b) ∙ r }
-  int_gives v x m None e w b r g = λ k y. g k (below_word k m w (subst (λ (z : Value). is_representable z basic.Int m ≡ true) y.number r)) (same_number (sym e ∙ y.number))
+  pub int_gives : (v : Value) (m : ℕ) (n : Option ℕ) → (m ≡ 32) ⊎ (m ≡ 64) → m ≡ E.bits → is_representable v basic.Int m ≡ true → MatchOption n ((k : ℕ) → k < 2 ^ 64 → v ≡ value.Int (pos k) → ⊥) (λ k. v ≡ value.Int (pos k)) → Gives (IsInt E v) n
+  int_gives v m (Some k) w b r g = record { number = g; within = ap (is_representable v basic.Int) (sym b) ∙ r }
+  int_gives v m None w b r g = λ k y. g k (below_word k m w (subst (λ (z : Value). is_representable z basic.Int m ≡ true) y.number r)) y.number
 
   index_fits : {c : ConstTerm} {v : Value} {n : Option ℕ} → IsIndex E (constant_of c v) n → Fits E v
   index_fits (index_value n h e i) = absurd (no_truth n)
@@ -113,7 +110,7 @@ module _ (E : Env) where
   index_of_value o i = value_index i
 
   pub index_of_nothing : (o : Operand) → ((c : ConstTerm) (v : Value) → o ≡ constant_of c v → ⊥) → (IsIntegerValue E o → ⊥) → (n : Option ℕ) → IsIndex E o n → ⊥
-  index_of_nothing o none no n x = no (index_integer_value none x)
+  index_of_nothing o none never n x = never (index_integer_value none x)
 
   -- ---- strings
 
@@ -176,4 +173,4 @@ module _ (E : Env) where
   string_is_value none string_untyped = absurd (none _ _ refl)
 
   pub string_of_nothing : (o : Operand) → ((c : ConstTerm) (v : Value) → o ≡ constant_of c v → ⊥) → (IsStringValue E o → ⊥) → (n : Option ℕ) → IsString E o n → ⊥
-  string_of_nothing o none no n x = no (string_is_value none x)
+  string_of_nothing o none never n x = never (string_is_value none x)

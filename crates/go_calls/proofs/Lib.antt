@@ -3,7 +3,7 @@ pub mod Building
 pub mod Calling
 pub mod Each
 pub mod Indexing
-pub mod Kinds
+pub mod Callees
 pub mod LevelParts
 pub mod Making
 pub mod Measuring

@@ -1,6 +1,9 @@
 -- `make` and `new`: what they make, and where they make nothing.
-use Rattle.std.proofs.Common.{◌≡◌, ℕ, suc, Bool, true, false, Option, Some, None, refl, sym, ap, ◌∙◌, subst, if◌then◌else◌, List, [], ◌∷◌, length, ◌⊎◌, inl, inr}
-use Rattle.go_model.specs.declared.types.term.Term.{Term, Term-F}
+use Rattle.std.proofs.Common.{◌≡◌, ℕ, suc, Bool, true, false, Option, Some, None, refl, sym, ap, ◌∙◌, subst, if◌then◌else◌, List, [], ◌∷◌, length, ◌⊎◌, inl, inr, ◌==◌}
+use Rattle.std.proofs.lemmas.List.{nil_from_length}
+use Rattle.go_model.specs.declared.types.term.Direction.{Direction}
+use Rattle.go_model.specs.declared.types.term.Term.{Term, Term-F, out-Term}
+use Rattle.go_model.specs.declared.types.term.Term.TheVariants as term
 use Rattle.go_model.specs.types.Terms.{Layer, pointer_to}
 use Rattle.go_model.specs.types.Underlying.{under}
 use Rattle.go_rules.specs.Environments.{Env}
@@ -14,7 +17,49 @@ use Rattle.go_selectors.specs.Answers.{Decides}
 use Rattle.go_usability.specs.Answers.{Gives}
 use Rattle.go_calls.specs.Builtins.{AreSizes, no_sizes, more_sizes, MakesOf, makes_of, News, news}
 use Rattle.go_calls.specs.inner.Made.{FitSizes}
+use Rattle.go_calls.proofs.LevelParts.{at_chan, at_map, at_slice}
 use Rattle.go_operators.proofs.Answers.{given, false_true}
+
+-- ---- how many sizes
+
+of_slice : {e : Term} {n : ℕ} → (n ≡ 1) ⊎ (n ≡ 2) → Makes (Term-F.Slice e) n
+of_slice {e = e} (inl f) = subst (λ (k : ℕ). Makes (Term-F.Slice e) k) (sym f) makes_slice
+of_slice {e = e} (inr f) = subst (λ (k : ℕ). Makes (Term-F.Slice e) k) (sym f) makes_slice_with_capacity
+
+to_slice : {e : Term} {n : ℕ} → Makes (Term-F.Slice e) n → (n ≡ 1) ⊎ (n ≡ 2)
+to_slice makes_slice = inl refl
+to_slice makes_slice_with_capacity = inr refl
+
+of_map : {k e : Term} {n : ℕ} → (n ≡ 0) ⊎ (n ≡ 1) → Makes (Term-F.Map k e) n
+of_map {k = k} {e = e} (inl f) = subst (λ (m : ℕ). Makes (Term-F.Map k e) m) (sym f) makes_map
+of_map {k = k} {e = e} (inr f) = subst (λ (m : ℕ). Makes (Term-F.Map k e) m) (sym f) makes_map_with_room
+
+to_map : {k e : Term} {n : ℕ} → Makes (Term-F.Map k e) n → (n ≡ 0) ⊎ (n ≡ 1)
+to_map makes_map = inl refl
+to_map makes_map_with_room = inr refl
+
+of_channel : {d : Direction} {e : Term} {n : ℕ} → (n ≡ 0) ⊎ (n ≡ 1) → Makes (Term-F.Chan d e) n
+of_channel {d = d} {e = e} (inl f) = subst (λ (k : ℕ). Makes (Term-F.Chan d e) k) (sym f) makes_channel
+of_channel {d = d} {e = e} (inr f) = subst (λ (k : ℕ). Makes (Term-F.Chan d e) k) (sym f) makes_channel_with_buffer
+
+to_channel : {d : Direction} {e : Term} {n : ℕ} → Makes (Term-F.Chan d e) n → (n ≡ 0) ⊎ (n ≡ 1)
+to_channel makes_channel = inl refl
+to_channel makes_channel_with_buffer = inr refl
+
+like : (P Q : Type 0) (b : Bool) → (P → Q) → (Q → P) → Decides P b → Decides Q b
+like P Q true f g d = f d
+like P Q false f g d = λ q. d (g q)
+
+pub slice_decides : (v e : Term) (n : ℕ) (b : Bool) → v ≡ term.Slice e → Decides ((n ≡ 1) ⊎ (n ≡ 2)) b → Decides (Makes (out-Term v) n) b
+slice_decides v e n b f d = subst (λ (l : Layer). Decides (Makes l n) b) (sym (at_slice v (out-Term v) refl e f)) (like ((n ≡ 1) ⊎ (n ≡ 2)) (Makes (Term-F.Slice e) n) b (λ x. of_slice x) (λ x. to_slice x) d)
+
+pub map_decides : (v k e : Term) (n : ℕ) (b : Bool) → v ≡ term.Map k e → Decides ((n ≡ 0) ⊎ (n ≡ 1)) b → Decides (Makes (out-Term v) n) b
+map_decides v k e n b f d = subst (λ (l : Layer). Decides (Makes l n) b) (sym (at_map v (out-Term v) refl k e f)) (like ((n ≡ 0) ⊎ (n ≡ 1)) (Makes (Term-F.Map k e) n) b (λ x. of_map x) (λ x. to_map x) d)
+
+pub channel_decides : (v : Term) (r : Direction) (e : Term) (n : ℕ) (b : Bool) → v ≡ term.Chan r e → Decides ((n ≡ 0) ⊎ (n ≡ 1)) b → Decides (Makes (out-Term v) n) b
+channel_decides v r e n b f d = subst (λ (l : Layer). Decides (Makes l n) b) (sym (at_chan v (out-Term v) refl r e f)) (like ((n ≡ 0) ⊎ (n ≡ 1)) (Makes (Term-F.Chan r e) n) b (λ x. of_channel x) (λ x. to_channel x) d)
+
+-- ---- sizes
 
 module _ (E : Env) where
   sizes_some : {o : Operand} {os : List Operand} {ns : List (Option ℕ)} → AreSizes E (o ∷ os) ns → (n : Option ℕ) × (ms : List (Option ℕ)) × (ns ≡ n ∷ ms) × IsIndex E o n × AreSizes E os ms
@@ -75,7 +120,7 @@ module _ (E : Env) where
   same_length (more_sizes i s) = ap suc (same_length s)
 
   made : {o r : Operand} {os : List Operand} → MakesOf E o os r → (t : Term) × (o ≡ type_name t) × Makes (under E.table t) (length os) × FitSizes E os
-  made (makes_of {ns = ns} s m f) = (_, refl, subst (λ (k : ℕ). Makes _ k) (same_length s) m, record { numbers = ns; sizes = s; fit = f })
+  made (makes_of {t = t} {ns = ns} s m f) = (t, refl, subst (λ (k : ℕ). Makes (under E.table t) k) (same_length s) m, record { numbers = ns; sizes = s; fit = f })
 
   shape_term : {t u : Term} → ◌≡◌ {A = Shape} (shape.Of t) (shape.Of u) → t ≡ u
   shape_term e = cc
@@ -94,6 +139,15 @@ module _ (E : Env) where
 
   pub make_gives : (o : Operand) (os : List Operand) (t : Term) (b : Bool) → o ≡ type_name t → Makes (under E.table t) (length os) → Decides (FitSizes E os) b → Gives (MakesOf E o os) (if b then Some (plain t) else None)
   make_gives o os t b e m d = given (MakesOf E o os) (FitSizes E os) b (plain t) d (λ f. makes e m f) (λ r x. (made x).3)
+
+  not_empty : (os : List Operand) → false ≡ (length os == 0) → os ≡ [] → ⊥
+  not_empty os f e = false_true (f ∙ ap (λ (x : List Operand). length x == 0) e)
+
+  pub fit_many : (o q : Operand) (rest os : List Operand) → rest ≡ q ∷ os → false ≡ (length os == 0) → FitSizes E (o ∷ rest) → ⊥
+  fit_many o q rest os e f x = fit_too_many o q rest os e (not_empty os f) x
+
+  pub fit_empty : (os : List Operand) → length os ≡ 0 → FitSizes E os
+  fit_empty os e = fit_none os (nil_from_length os e)
 
   -- by what is underneath, and how many there are
   pub make_not_taken : (o : Operand) (os : List Operand) (t : Term) (l : Layer) (n : ℕ) → o ≡ type_name t → l ≡ under E.table t → n ≡ length os → (Makes l n → ⊥) → (r : Operand) → MakesOf E o os r → ⊥

@@ -4,6 +4,7 @@ use Rattle.std.specs.Prelude.{pos}
 use Rattle.go_model.specs.constants.Constants.{is_representable}
 use Rattle.go_model.specs.declared.constants.value.Basic.{Basic}
 use Rattle.go_model.specs.declared.constants.value.Basic.TheVariants as basic
+use Rattle.go_model.specs.declared.constants.value.Value.{Value}
 use Rattle.go_model.specs.declared.constants.value.Value.TheVariants as value
 use Rattle.go_model.specs.declared.types.term.Term.{Term, Term-F}
 use Rattle.go_model.specs.types.Terms.{Layer}
@@ -29,6 +30,9 @@ module _ (E : Env) where
 
   pub within_some : (n : ℕ) → is_representable (value.Int (pos n)) basic.Int E.bits ≡ true → IntWithin E n (int_constant n)
   within_some n e = int_within e
+
+  pub within_given : (n m : ℕ) (v : Value) (r : Operand) → v ≡ value.Int (pos n) → m ≡ E.bits → is_representable v basic.Int m ≡ true → r ≡ int_constant n → IntWithin E n r
+  within_given n m v r w b h e = subst (IntWithin E n) (sym e) (int_within (subst (λ (z : Value). is_representable z basic.Int E.bits ≡ true) w (ap (is_representable v basic.Int) (sym b) ∙ h)))
 
   pub within_none : (n : ℕ) → is_representable (value.Int (pos n)) basic.Int E.bits ≡ false → (r : Operand) → IntWithin E n r → ⊥
   within_none n f r x = false_true (sym f ∙ within x)
@@ -64,26 +68,26 @@ module _ (E : Env) where
 
   -- ---- what has a type
 
-  no_array_length : (f : Predeclared) {n : ℕ} {e : Term} → measures f (Term-F.Array n e) ≡ true → ⊥
-  no_array_length p.Len e = false_true e
-  no_array_length p.Cap e = false_true e
-  no_array_length f e = false_true e
+  no_array_length : (f : Predeclared) (n : ℕ) (u : Term) → measures f (Term-F.Array n u) ≡ true → ⊥
+  no_array_length p.Len n u e = false_true e
+  no_array_length p.Cap n u e = false_true e
+  no_array_length f n u e = false_true e
 
-  no_pointer_length : (f : Predeclared) {u : Term} → measures f (Term-F.Pointer u) ≡ true → ⊥
-  no_pointer_length p.Len e = false_true e
-  no_pointer_length p.Cap e = false_true e
-  no_pointer_length f e = false_true e
+  no_pointer_length : (f : Predeclared) (u : Term) → measures f (Term-F.Pointer u) ≡ true → ⊥
+  no_pointer_length p.Len u e = false_true e
+  no_pointer_length p.Cap u e = false_true e
+  no_pointer_length f u e = false_true e
 
-  array_unmeasured : {f : Predeclared} {t u : Term} {pointer : Bool} {n : ℕ} → IsArray E t pointer n u → measures f (under E.table t) ≡ true → ⊥
-  array_unmeasured {f = f} (array_itself e) m = no_array_length f (sym (ap (measures f) e) ∙ m)
-  array_unmeasured {f = f} (array_pointer e g) m = no_pointer_length f (sym (ap (measures f) e) ∙ m)
+  array_unmeasured : (f : Predeclared) {t u : Term} {pointer : Bool} {n : ℕ} → IsArray E t pointer n u → measures f (under E.table t) ≡ true → ⊥
+  array_unmeasured f (array_itself e) m = no_array_length f _ _ (sym (ap (measures f) e) ∙ m)
+  array_unmeasured f (array_pointer e g) m = no_pointer_length f _ (sym (ap (measures f) e) ∙ m)
 
   abbrev pub HasArray : Term → ℕ → Type 0
   HasArray t n = (pointer : Bool) × (u : Term) × IsArray E t pointer n u
 
   of_array : {f : Predeclared} {loud : Bool} {m : Mode} {t : Term} {n : ℕ} {r : Operand} → HasArray t n → MeasuresTyped E f loud m t r → MeasuresArray E loud n r
   of_array {loud = loud} {r = r} a (typed_array b x) = subst (λ (k : ℕ). MeasuresArray E loud k r) (one_length b a.2) x
-  of_array a (typed_other x) = absurd (array_unmeasured a.2 (value_measures x))
+  of_array {f = f} a (typed_other x) = absurd (array_unmeasured f a.2 (value_measures x))
 
   pub typed_array_gives : (f : Predeclared) (loud : Bool) (m : Mode) (t : Term) (n : ℕ) (r : Option Operand) → HasArray t n → Gives (MeasuresArray E loud n) r → Gives (MeasuresTyped E f loud m t) r
   typed_array_gives f loud m t n (Some r) a g = typed_array a.2 g

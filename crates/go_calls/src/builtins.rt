@@ -2,7 +2,8 @@
 ghost use Rattle.std.specs.Prelude.{◌≡◌, ◌∷◌, [], IfOk, MatchOption, Some, None, false, if◌then◌else◌};
 ghost use Rattle.go_base.specs.Lists.{Each};
 ghost use Rattle.go_rules.specs.Expressions.{IsPrinted, sends};
-ghost use Rattle.go_rules.specs.Operands.{any_term, plain};
+ghost use Rattle.go_model.specs.declared.types.term.Term.{Term};
+ghost use Rattle.go_rules.specs.Operands.{IsTyped, any_term, constant_of, plain};
 ghost use Rattle.go_rules.specs.Scopes.{env_of};
 ghost use Rattle.go_rules.specs.declared.operand.Operand.{Operand};
 ghost use Rattle.go_selectors.specs.Answers.{Decides};
@@ -15,6 +16,7 @@ use crate::lengths::measure;
 use crate::makes::{make, new};
 use go_base::list::List;
 use go_base::memory::NoMemory;
+use go_model::constants::value::Value;
 use go_model::types::package::ConstTerm;
 use go_model::types::term::{Direction, Term};
 use go_operators::conversions::default_holds;
@@ -84,16 +86,44 @@ fn panic(
     Ok(nothing_where(may))
 }
 
+// Whether a constant is a value that in the end has a type.
+fn is_constant_printed(
+    context: &Context<'_>,
+    operand: &Operand,
+    of: &ConstTerm,
+    value: &Value,
+) -> bool
+    requires constant { operand.now ≡ constant_of of.now value.now }
+    requires untyped { (t : Term) → IsTyped operand.now t → ⊥ }
+    ensures { Decides (IsPrinted (env_of context.now.env.now) operand.now) result }
+{
+    match of {
+        ConstTerm::OfKind(kind) => default_holds(context, *kind, value),
+        ConstTerm::OfTerm(_) => false,
+    }
+}
+
+// Whether an operand without a type is a value that in the end has one.
+fn is_untyped_printed(context: &Context<'_>, operand: &Operand) -> bool
+    requires { (t : Term) → IsTyped operand.now t → ⊥ }
+    ensures { Decides (IsPrinted (env_of context.now.env.now) operand.now) result }
+{
+    if let Some((of, value)) = constant_of(operand) {
+        return is_constant_printed(context, operand, of, value);
+    }
+    match loose_of(operand) {
+        Some(_) => true,
+        None => false,
+    }
+}
+
 // Whether an operand is a value that in the end has a type.
 fn is_printed(context: &Context<'_>, operand: &Operand) -> bool
     ensures { Decides (IsPrinted (env_of context.now.env.now) operand.now) result }
 {
-    if type_of(operand).is_some() {
-        return true;
-    }
-    match constant_of(operand) {
-        Some((ConstTerm::OfKind(kind), value)) => default_holds(context, *kind, value),
-        _ => loose_of(operand).is_some(),
+    match type_of(operand) {
+        Some(_) => true,
+        None => is_untyped_printed(context, operand),
     }
 }
 

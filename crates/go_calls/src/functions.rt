@@ -99,7 +99,10 @@ fn sole_tuple(operands: &[Operand], dots: bool) -> Option<&[Term]>
         return None;
     }
     match sole(operands) {
-        Some(operand) => tuple_in(operand),
+        Some(operand) => match tuple_in(operand) {
+            Some(terms) => Some(terms),
+            None => None,
+        },
         None => None,
     }
 }

@@ -1,5 +1,6 @@
 //! Indices and strings: their values and lengths, where they are constant.
 ghost use Rattle.std.specs.Prelude.{◌≡◌, ℕ, ◌<◌, ◌^◌, MatchOption, Some, pos};
+ghost use Rattle.go_model.specs.declared.constants.value.Value.TheVariants as v;
 ghost use Rattle.go_rules.specs.Expressions.{IsIndex, IsString};
 ghost use Rattle.go_rules.specs.Operands.{constant_of};
 ghost use Rattle.go_rules.specs.Scopes.{env_of};
@@ -16,13 +17,18 @@ use go_rules::operand::Operand;
 use go_usability::context::Context;
 
 // The number from 0, where it fits into 64 bits.
-fn natural(number: i128) -> Option<u64>
-    ensures { MatchOption result ((n : ℕ) → n < 2 ^ 64 → number ≡ pos n → ⊥) (λ n. number ≡ pos n) }
+fn natural(value: &Value) -> Option<u64>
+    ensures { MatchOption result ((n : ℕ) → n < 2 ^ 64 → value.now ≡ v.Int (pos n) → ⊥) (λ n. value.now ≡ v.Int (pos n)) }
 {
-    if number < 0 || number > u64::MAX as i128 {
-        None
-    } else {
-        Some(number as u64)
+    match value {
+        Value::Int(number) => {
+            if *number < 0 || *number > u64::MAX as i128 {
+                None
+            } else {
+                Some(*number as u64)
+            }
+        }
+        _ => None,
     }
 }
 
@@ -33,11 +39,7 @@ fn int_value(context: &Context<'_>, value: &Value) -> Option<u64>
     if !representable(value, Basic::Int, context.env.bits()) {
         return None;
     }
-    match value {
-        Value::Int(number) => natural(*number),
-        Value::Str(_) => None,
-        Value::Truth(_) => None,
-    }
+    natural(value)
 }
 
 // The value of a constant that is an index.

@@ -1,5 +1,6 @@
 //! `len` and `cap`.
-ghost use Rattle.std.specs.Prelude.{◌≡◌};
+ghost use Rattle.std.specs.Prelude.{◌≡◌, pos};
+ghost use Rattle.go_model.specs.declared.constants.value.Value.TheVariants as v;
 ghost use Rattle.go_model.specs.declared.types.term.Term.{out-Term};
 ghost use Rattle.go_rules.specs.Expressions.{IsString, int_constant, measures};
 ghost use Rattle.go_rules.specs.Scopes.{env_of};
@@ -20,20 +21,23 @@ use go_rules::operand::Operand;
 use go_rules::predeclared::Predeclared;
 use go_usability::context::Context;
 
+fn whole(number: u64) -> Value
+    ensures { result ≡ v.Int (pos number) }
+{
+    Value::Int(number as i128)
+}
+
 fn int_constant(number: u64) -> Operand
     ensures { result ≡ int_constant number }
 {
-    constant(
-        ConstTerm::OfTerm(Term::Plain(Basic::Int)),
-        Value::Int(number as i128),
-    )
+    constant(ConstTerm::OfTerm(Term::Plain(Basic::Int)), whole(number))
 }
 
 // A number as a constant of type int, where it is representable.
 fn int_within(context: &Context<'_>, number: u64) -> Option<Operand>
     ensures { Gives (IntWithin (env_of context.now.env.now) number) result }
 {
-    let value = Value::Int(number as i128);
+    let value = whole(number);
     if representable(&value, Basic::Int, context.env.bits()) {
         Some(int_constant(number))
     } else {

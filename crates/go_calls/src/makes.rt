@@ -1,5 +1,5 @@
 //! `make` and `new`.
-ghost use Rattle.std.specs.Prelude.{◌≡◌, ◌∷◌, [], IfOk, length};
+ghost use Rattle.std.specs.Prelude.{◌≡◌, ◌⊎◌, ◌∷◌, [], IfOk, length};
 ghost use Rattle.go_model.specs.declared.types.term.Term.{out-Term};
 ghost use Rattle.go_rules.specs.Expressions.{Makes, UpTo};
 ghost use Rattle.go_rules.specs.Scopes.{env_of};
@@ -28,13 +28,23 @@ fn is_up_to(number: Option<u64>, limit: Option<u64>) -> bool
     }
 }
 
+fn is_one_of(number: usize, first: usize, second: usize) -> bool
+    ensures { Decides ((number ≡ first) ⊎ (number ≡ second)) result }
+{
+    if number == first {
+        return true;
+    }
+    number == second
+}
+
 // Whether an underlying type takes so many sizes.
 fn takes_sizes(under: &Term, count: usize) -> bool
     ensures { Decides (Makes (out-Term under.now) count) result }
 {
     match under {
-        Term::Slice(_) => count == 1 || count == 2,
-        Term::Map(_, _) | Term::Chan(_, _) => count == 0 || count == 1,
+        Term::Slice(_) => is_one_of(count, 1, 2),
+        Term::Map(_, _) => is_one_of(count, 0, 1),
+        Term::Chan(_, _) => is_one_of(count, 0, 1),
         _ => false,
     }
 }

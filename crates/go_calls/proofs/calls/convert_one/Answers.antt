@@ -1,5 +1,5 @@
 use Rattle.go_rules.specs.Scopes.{env_of}
-use Rattle.go_calls.proofs.Kinds.{convert_gives, convert_nothing}
+use Rattle.go_calls.proofs.Callees.{convert_gives, convert_nothing}
 use Rattle.go_calls.proofs.calls.convert_one.Goals as goal
 
 pub returns-in_ok-answer-in-Some : goal.returns-in_ok-answer-in-Some
