@@ -52,7 +52,7 @@ module _ (E : Env) where
   arguing_on : (before : List Operand) (whole : List Expr) (now next : List Operand) (e : Expr) (rest : List Expr) (o : Operand) (loud b : Bool) → Has E e o → AreLoud E (expression e ∷ []) b → next ≡ now ++ o ∷ [] → Arguing before whole now (e ∷ rest) loud → Arguing before whole next rest (loud || b)
   arguing_on before whole now next e rest o loud b h l i w =
       subst (λ (xs : List Operand). Arguing before whole xs rest (loud || b)) (sym i)
-          (walk_on E (map expression) Onward before whole now (now ++ o ∷ []) e rest loud b (expression e ∷ []) refl l (joins now e rest o h) (splits now e rest o h) w)
+      (walk_on E (map expression) Onward before whole now (now ++ o ∷ []) e rest loud b (expression e ∷ []) refl l (joins now e rest o h) (splits now e rest o h) w)
 
   arguing_stops : (before : List Operand) (whole : List Expr) (now : List Operand) (e : Expr) (rest : List Expr) (loud : Bool) → Arguing before whole now (e ∷ rest) loud → (all : List Operand) → HasEachAfter E before whole all → (o : Operand) × Has E e o
   arguing_stops before whole now e rest loud w all h = let f = first_each (w.from all h).1 in (f.0, f.2)
@@ -98,7 +98,7 @@ module _ (E : Env) where
   pub to_receive_type : (t : Typ) (u : Term) → IsChannelOf E direction.ReceiveOnly t u → IsWithinBounds u → Has E (receive_type t) (type_name u)
   to_receive_type t u c w =
       let f = subst (λ (l : ExprLayer). HasForm E l (type_name u)) (sym (outs-Type (type.ReceiveChan t)))
-          (has_type (of_type (subst (OfForm E (out-Typ (type.ReceiveChan t))) (sym c.2) (formed t c.0 c.1)) w)) in
+      (has_type (of_type (subst (OfForm E (out-Typ (type.ReceiveChan t))) (sym c.2) (formed t c.0 c.1)) w)) in
       has_operand f w
 
   received : {t : Typ} {u : Term} → OfForm E (Typ-F.ReceiveChan t) u → IsChannelOf E direction.ReceiveOnly t u

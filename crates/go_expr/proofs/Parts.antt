@@ -55,7 +55,7 @@ module _ (E : Env) where
   pub receive_loud : (t : Typ) (b : Bool) → AreLoud E (type_node t ∷ []) b → AreLoud E (expression (receive_type t) ∷ []) b
   receive_loud t b h =
       form_loud E (receive_type t) (Expr-F.«Expr::Type» (type.ReceiveChan t)) (receive_form t) tt b
-          (parts_loud E (type_node (type.ReceiveChan t)) (no_expr (type.ReceiveChan t)) b (subst (λ (l : TypeLayer). AreLoud E (type_parts l) b) (sym (outs-ReceiveChan t)) h))
+      (parts_loud E (type_node (type.ReceiveChan t)) (no_expr (type.ReceiveChan t)) b (subst (λ (l : TypeLayer). AreLoud E (type_parts l) b) (sym (outs-ReceiveChan t)) h))
 
   abbrev first_in : List Expr → Expr → Expr
   first_in [] d = d

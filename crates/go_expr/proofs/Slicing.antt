@@ -48,4 +48,4 @@ module _ (E : Env) where
   full_none o high bound low e f l a i x y z none r k =
       let p = post_full_slices k in
       none r (subst (λ (q : Option Operand). SlicesFully E o q high bound r) (where_once p.3 x ∙ sym i)
-          (subst (λ (q : Operand). SlicesFully E o p.0 q bound r) (has_once E p.4 y) (subst (λ (q : Operand). SlicesFully E o p.0 p.1 q r) (has_once E p.5 z) p.6)))
+      (subst (λ (q : Operand). SlicesFully E o p.0 q bound r) (has_once E p.4 y) (subst (λ (q : Operand). SlicesFully E o p.0 p.1 q r) (has_once E p.5 z) p.6)))

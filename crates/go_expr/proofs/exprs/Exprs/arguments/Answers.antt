@@ -13,5 +13,5 @@ returns g c =
     let E = env_in c.args.self.now.literals.operations.typing.context.now in
     let es = c.args.exprs.now in
     same_types E (HasEachAfter E c.new.result es) (HasEach E es) (map expression es) c.each_after.result
-        (λ os h. to_each E es os (subst (λ (b : List Operand). HasEachAfter E b es os) c.new.ensures h))
-        (λ os h. subst (λ (b : List Operand). HasEachAfter E b es os) (sym c.new.ensures) (in_each E es os h)) c.each_after.ensures
+    (λ os h. to_each E es os (subst (λ (b : List Operand). HasEachAfter E b es os) c.new.ensures h))
+    (λ os h. subst (λ (b : List Operand). HasEachAfter E b es os) (sym c.new.ensures) (in_each E es os h)) c.each_after.ensures

@@ -23,7 +23,7 @@ returns-in_err-result g c =
     let os = c.items.result.now in
     let h = subst (HasEach E (receive_type c.args.element.now ∷ c.args.exprs.now)) (sym c.items.ensures) c.in_ok-operands.ensures.0 in
     handed_told E (λ r. Calls E c.in_ok-operands.loud o os c.args.dots r) (HasPost E o (Post-F.CallReceiveChan c.args.element.now c.args.exprs.now c.args.dots)) (type_node c.args.element.now ∷ map expression c.args.exprs.now) c.in_err-result.field-0.0 c.from_residual-in_err-result.result c.from_residual-in_err-result.ensures.1 c.in_err-result.ensures
-        (λ r k. (r, call_of_rule E call_receive_type h (told_type E o c.args.element.now c.args.exprs.now c.in_ok-operands.loud c.in_ok-operands.ensures.1) k))
+    (λ r k. (r, call_of_rule E call_receive_type h (told_type E o c.args.element.now c.args.exprs.now c.in_ok-operands.loud c.in_ok-operands.ensures.1) k))
 
 pub returns : goal.returns
 returns g c =

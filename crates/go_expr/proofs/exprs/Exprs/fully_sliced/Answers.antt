@@ -44,13 +44,14 @@ returns-in-Some g c =
     let low = c.args.low.now in
     let e = c.args.high.now in
     let f = c.args.bound.now in
-    let a = item_of c.as_ref.result in
-    (full_some E o c.in-Some.result c.in_ok-high.high c.in_ok-bound.bound low e f c.in_ok-low.low a (borrowed c.as_ref.result c.in_ok-low.low c.as_ref.ensures.value) c.in_ok-low.ensures.0 c.in_ok-high.ensures.0 c.in_ok-bound.ensures.0
-        (found_some (SlicesFully E o a c.in_ok-high.high c.in_ok-bound.bound) c.in_ok-result.field-0 c.in-Some.result c.in-Some.is c.in_ok-result.ensures),
+    let a = item_of c.as_ref.result in (
+      full_some E o c.in-Some.result c.in_ok-high.high c.in_ok-bound.bound low e f c.in_ok-low.low a (borrowed c.as_ref.result c.in_ok-low.low c.as_ref.ensures.value) c.in_ok-low.ensures.0 c.in_ok-high.ensures.0 c.in_ok-bound.ensures.0
+          (found_some (SlicesFully E o a c.in_ok-high.high c.in_ok-bound.bound) c.in_ok-result.field-0 c.in-Some.result c.in-Some.is c.in_ok-result.ensures),
       subst (λ (b : Bool). AreLoud E (optional expression low ++ expression e ∷ expression f ∷ []) b) (sym c.either-in-Some.ensures)
           (subst (λ (b : Bool). AreLoud E (optional expression low ++ expression e ∷ expression f ∷ []) (c.in_ok-low.at_low || b)) (sym c.either.ensures)
-              (join_loud E (optional expression low) (expression e ∷ expression f ∷ []) c.in_ok-low.at_low (c.in_ok-high.at_high || c.in_ok-bound.at_bound) c.in_ok-low.ensures.1
-                  (join_loud E (expression e ∷ []) (expression f ∷ []) c.in_ok-high.at_high c.in_ok-bound.at_bound c.in_ok-high.ensures.1 c.in_ok-bound.ensures.1))))
+          (join_loud E (optional expression low) (expression e ∷ expression f ∷ []) c.in_ok-low.at_low (c.in_ok-high.at_high || c.in_ok-bound.at_bound) c.in_ok-low.ensures.1
+          (join_loud E (expression e ∷ []) (expression f ∷ []) c.in_ok-high.at_high c.in_ok-bound.at_bound c.in_ok-high.ensures.1 c.in_ok-bound.ensures.1))),
+    )
 
 pub returns : goal.returns
 returns g c =
@@ -58,4 +59,4 @@ returns g c =
     let o = c.args.operand.now in
     let a = item_of c.as_ref.result in
     full_none E o c.in_ok-high.high c.in_ok-bound.bound c.args.low.now c.args.high.now c.args.bound.now c.in_ok-low.low a (borrowed c.as_ref.result c.in_ok-low.low c.as_ref.ensures.value) c.in_ok-low.ensures.0 c.in_ok-high.ensures.0 c.in_ok-bound.ensures.0
-        (found_none (SlicesFully E o a c.in_ok-high.high c.in_ok-bound.bound) c.in_ok-result.field-0 c.in-None.is c.in_ok-result.ensures)
+    (found_none (SlicesFully E o a c.in_ok-high.high c.in_ok-bound.bound) c.in_ok-result.field-0 c.in-None.is c.in_ok-result.ensures)

@@ -13,7 +13,7 @@ loop-post-preserved g c =
     let E = env_in c.args.self.now.literals.operations.typing.context.now in
     let ps = c.args.posts.now in
     subst (λ (b : Bool). Going E c.args.first ps c.in_ok-next.next (drop (c.loop-post.post-index + 1) ps) b) (sym c.either-loud.ensures)
-        (posts_next E c.args.first ps c.loop-post.operand c.in_ok-next.next c.loop-post.post-index c.post-item.result c.loop-post.loud c.in_ok-next.louder c.loop-post-test.true c.post-item.is c.in_ok-next.ensures c.loop-post.invariant)
+    (posts_next E c.args.first ps c.loop-post.operand c.in_ok-next.next c.loop-post.post-index c.post-item.result c.loop-post.loud c.in_ok-next.louder c.loop-post-test.true c.post-item.is c.in_ok-next.ensures c.loop-post.invariant)
 
 pub returns : goal.returns
 returns g c = posts_whole (env_in c.args.self.now.literals.operations.typing.context.now) c.args.first c.args.posts.now c.loop-post.operand c.loop-post.post-index c.loop-post.loud (omega arith) c.loop-post.invariant

@@ -16,7 +16,7 @@ returns-in_err-term g c =
     let E = env_in c.args.self.now.literals.operations.typing.context.now in
     let t = c.args.element.now in
     handed E (IsChannelOf E direction.ReceiveOnly t) (Has E (receive_type t)) (type_node t ∷ []) (type_node t ∷ []) c.in_err-term.field-0.0 c.from_residual.result c.from_residual.ensures.1 c.in_err-term.ensures
-        (λ o h. let y = in_receive_type E t o h in (y.0, y.1))
+    (λ o h. let y = in_receive_type E t o h in (y.0, y.1))
 
 pub returns-then-not-is_within_bounds : goal.returns-then-not-is_within_bounds
 returns-then-not-is_within_bounds g c = receive_type_out (env_in c.args.self.now.literals.operations.typing.context.now) c.args.element.now c.in_ok-term.term c.in_ok-term.ensures.0 (decides (IsWithinBounds c.in_ok-term.term) false c.if-not-is_within_bounds.ensures)

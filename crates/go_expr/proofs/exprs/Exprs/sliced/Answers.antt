@@ -34,10 +34,11 @@ returns-in-Some g c =
     let low = c.args.low.now in
     let high = c.args.high.now in
     let a = item_of c.as_ref.result in
-    let b = item_of c.as_ref-2.result in
-    (simple_some E o c.in-Some.result low high c.in_ok-low.low c.in_ok-high.high a b (borrowed c.as_ref.result c.in_ok-low.low c.as_ref.ensures.value) (borrowed c.as_ref-2.result c.in_ok-high.high c.as_ref-2.ensures.value) c.in_ok-low.ensures.0 c.in_ok-high.ensures.0
-        (found_some (SlicesSimply E o a b) c.in_ok-result.field-0 c.in-Some.result c.in-Some.is c.in_ok-result.ensures),
-      subst (λ (f : Bool). AreLoud E (optional expression low ++ optional expression high) f) (sym c.either.ensures) (join_loud E (optional expression low) (optional expression high) c.in_ok-low.loud c.in_ok-high.louder c.in_ok-low.ensures.1 c.in_ok-high.ensures.1))
+    let b = item_of c.as_ref-2.result in (
+      simple_some E o c.in-Some.result low high c.in_ok-low.low c.in_ok-high.high a b (borrowed c.as_ref.result c.in_ok-low.low c.as_ref.ensures.value) (borrowed c.as_ref-2.result c.in_ok-high.high c.as_ref-2.ensures.value) c.in_ok-low.ensures.0 c.in_ok-high.ensures.0
+          (found_some (SlicesSimply E o a b) c.in_ok-result.field-0 c.in-Some.result c.in-Some.is c.in_ok-result.ensures),
+      subst (λ (f : Bool). AreLoud E (optional expression low ++ optional expression high) f) (sym c.either.ensures) (join_loud E (optional expression low) (optional expression high) c.in_ok-low.loud c.in_ok-high.louder c.in_ok-low.ensures.1 c.in_ok-high.ensures.1),
+    )
 
 pub returns : goal.returns
 returns g c =
@@ -46,4 +47,4 @@ returns g c =
     let a = item_of c.as_ref.result in
     let b = item_of c.as_ref-2.result in
     simple_none E o c.args.low.now c.args.high.now c.in_ok-low.low c.in_ok-high.high a b (borrowed c.as_ref.result c.in_ok-low.low c.as_ref.ensures.value) (borrowed c.as_ref-2.result c.in_ok-high.high c.as_ref-2.ensures.value) c.in_ok-low.ensures.0 c.in_ok-high.ensures.0
-        (found_none (SlicesSimply E o a b) c.in_ok-result.field-0 c.in-None.is c.in_ok-result.ensures)
+    (found_none (SlicesSimply E o a b) c.in_ok-result.field-0 c.in-None.is c.in_ok-result.ensures)

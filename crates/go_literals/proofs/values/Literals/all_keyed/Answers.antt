@@ -19,4 +19,4 @@ returns g c =
     let E = env_in c.args.self.now.operations.typing.context.now in
     let xs = c.args.elements.now in
     holds_as E (EachKeyed E c.args.fields.now xs) (AreKeyed E c.args.fields.now xs) (element_parts xs) (element_parts xs) c.keyed.result
-        (all_keyed E c.args.fields.now xs (decided_true (KeyedOnce [] xs) c.in_ok-are_keyed_once.field-0 c.if-not-branch.false c.in_ok-are_keyed_once.ensures)) (keyed_each E c.args.fields.now xs) (λ b l. l) c.keyed.ensures
+    (all_keyed E c.args.fields.now xs (decided_true (KeyedOnce [] xs) c.in_ok-are_keyed_once.field-0 c.if-not-branch.false c.in_ok-are_keyed_once.ensures)) (keyed_each E c.args.fields.now xs) (λ b l. l) c.keyed.ensures

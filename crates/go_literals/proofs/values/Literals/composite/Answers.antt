@@ -14,11 +14,12 @@ returns-in_err-louder g c =
     let E = env_in c.args.self.now.operations.typing.context.now in
     let xs = c.args.elements.now in
     held_typed E (HasElements E c.in_ok-term.term xs) (HasForm E (Expr-F.Composite c.args.form.now xs)) (element_parts xs) (type_node c.args.form.now ∷ element_parts xs) c.in_err-louder.field-0.0 c.from_residual-in_err-louder.result c.from_residual-in_err-louder.ensures.1 c.in_err-louder.ensures
-        (λ o h. in_composite E c.in_ok-term.ensures.0 h)
+    (λ o h. in_composite E c.in_ok-term.ensures.0 h)
 
 pub returns : goal.returns
 returns g c =
     let E = env_in c.args.self.now.operations.typing.context.now in
-    let xs = c.args.elements.now in
-    (to_composite E c.args.form.now xs c.in_ok-term.term c.plain.result c.in_ok-term.ensures.0 c.in_ok-louder.ensures.0 c.plain.ensures,
-      subst (λ (b : Bool). AreLoud E (type_node c.args.form.now ∷ element_parts xs) b) (sym c.either.ensures) (join_loud E (type_node c.args.form.now ∷ []) (element_parts xs) c.in_ok-term.loud c.in_ok-louder.louder c.in_ok-term.ensures.1 c.in_ok-louder.ensures.1))
+    let xs = c.args.elements.now in (
+      to_composite E c.args.form.now xs c.in_ok-term.term c.plain.result c.in_ok-term.ensures.0 c.in_ok-louder.ensures.0 c.plain.ensures,
+      subst (λ (b : Bool). AreLoud E (type_node c.args.form.now ∷ element_parts xs) b) (sym c.either.ensures) (join_loud E (type_node c.args.form.now ∷ []) (element_parts xs) c.in_ok-term.loud c.in_ok-louder.louder c.in_ok-term.ensures.1 c.in_ok-louder.ensures.1),
+    )

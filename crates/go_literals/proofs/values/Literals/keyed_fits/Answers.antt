@@ -14,5 +14,5 @@ returns g c =
     let n = c.in-Some.name.now in
     let e = c.in-Some-expr_alone.expr.now in
     holds_as E (NamedFits E c.args.fields.now n e) (KeyedFits E c.args.fields.now x) (expression e ∷ []) (parts_of x) c.named_fits.result
-        (to_keyed_fits E c.args.fields.now x n e c.in-Some.ensures c.in-Some-expr_alone.ensures) (in_keyed_fits E c.args.fields.now x n e c.in-Some.ensures c.in-Some-expr_alone.ensures)
-        (λ b l. element_loud E x false b (key_quiet E c.in-Some.ensures) (expr_value_loud E (out-Element x).value e c.in-Some-expr_alone.ensures b l)) c.named_fits.ensures
+    (to_keyed_fits E c.args.fields.now x n e c.in-Some.ensures c.in-Some-expr_alone.ensures) (in_keyed_fits E c.args.fields.now x n e c.in-Some.ensures c.in-Some-expr_alone.ensures)
+    (λ b l. element_loud E x false b (key_quiet E c.in-Some.ensures) (expr_value_loud E (out-Element x).value e c.in-Some-expr_alone.ensures b l)) c.named_fits.ensures

@@ -18,7 +18,7 @@ returns-in_err-louder g c =
     let h : c.loop-at.at < length c.args.fields.now = omega arith in
     let k : c.loop-at.at < length c.args.elements.now = omega arith in
     held_handed E (UnkeyedFits E f x) (HasUnkeyed E c.args.fields.now c.args.elements.now) (parts_of x) (element_parts c.args.elements.now) c.in_err-louder.field-0.0 c.from_residual.result c.from_residual.ensures.1 c.in_err-louder.ensures
-        (unkeyed_first E c.args.fields.now c.args.elements.now c.loop-at.at f x c.loop-at.loud h c.index-fields-at.is k c.index-elements-at.is c.loop-at.invariant)
+    (unkeyed_first E c.args.fields.now c.args.elements.now c.loop-at.at f x c.loop-at.loud h c.index-fields-at.is k c.index-elements-at.is c.loop-at.invariant)
 
 pub loop-at-preserved : goal.loop-at-preserved
 loop-at-preserved g c =
@@ -29,7 +29,7 @@ loop-at-preserved g c =
     let h : c.loop-at.at < length c.args.fields.now = omega arith in
     let k : c.loop-at.at < length c.args.elements.now = omega arith in
     subst (λ (b : Bool). Unkeyed E fs xs (drop (i + 1) fs) (drop (i + 1) xs) b) (sym c.either-loud.ensures)
-        (unkeyed_after E fs xs i c.index-fields-at.result c.index-elements-at.result c.loop-at.loud c.in_ok-louder.louder h c.index-fields-at.is k c.index-elements-at.is c.in_ok-louder.ensures.0 c.in_ok-louder.ensures.1 c.loop-at.invariant)
+    (unkeyed_after E fs xs i c.index-fields-at.result c.index-elements-at.result c.loop-at.loud c.in_ok-louder.louder h c.index-fields-at.is k c.index-elements-at.is c.in_ok-louder.ensures.0 c.in_ok-louder.ensures.1 c.loop-at.invariant)
 
 pub returns : goal.returns
 returns g c =

@@ -15,5 +15,5 @@ returns g c =
     let f = c.args.field.now in
     let e = c.in-Some.expr.now in
     holds_as E (ExprFits E (out-Field f).term e) (UnkeyedFits E f x) (expression e ∷ []) (parts_of x) c.expr_fits.result
-        (λ h. to_unkeyed E f x e c.if-not-is_without_key.ensures c.in-Some.ensures h c.if-not-is_reachable.ensures) (in_unkeyed E f x e c.in-Some.ensures)
-        (λ b l. element_loud E x false b (no_key_loud E x c.if-not-is_without_key.ensures) (expr_value_loud E (out-Element x).value e c.in-Some.ensures b l)) c.expr_fits.ensures
+    (λ h. to_unkeyed E f x e c.if-not-is_without_key.ensures c.in-Some.ensures h c.if-not-is_reachable.ensures) (in_unkeyed E f x e c.in-Some.ensures)
+    (λ b l. element_loud E x false b (no_key_loud E x c.if-not-is_without_key.ensures) (expr_value_loud E (out-Element x).value e c.in-Some.ensures b l)) c.expr_fits.ensures

@@ -13,10 +13,12 @@ returns-in_err-operand g c =
     let E = env_in c.args.self.now.typing.context.now in
     let ops = operators_of c.args.operators (length c.args.others.now) in
     handed E (Chains E ops c.in_ok-left.left c.args.others.now) (ChainsFrom E ops c.args.first.now c.args.others.now) (map expression c.args.others.now) (expression c.args.first.now ∷ map expression c.args.others.now) c.in_err-operand.field-0.0 c.from_residual-in_err-operand.result c.from_residual-in_err-operand.ensures.1 c.in_err-operand.ensures
-        (chain_from E ops c.args.first.now c.args.others.now c.in_ok-left.left c.in_ok-left.ensures.0)
+    (chain_from E ops c.args.first.now c.args.others.now c.in_ok-left.left c.in_ok-left.ensures.0)
 
 pub returns : goal.returns
 returns g c =
-    let E = env_in c.args.self.now.typing.context.now in
-    ((c.in_ok-left.left, c.in_ok-left.ensures.0, c.in_ok-operand.ensures.0), subst (λ (b : Bool). AreLoud E (expression c.args.first.now ∷ map expression c.args.others.now) b) (sym c.either.ensures)
-        (join_loud E (expression c.args.first.now ∷ []) (map expression c.args.others.now) c.in_ok-left.loud c.in_ok-operand.louder c.in_ok-left.ensures.1 c.in_ok-operand.ensures.1))
+    let E = env_in c.args.self.now.typing.context.now in (
+      (c.in_ok-left.left, c.in_ok-left.ensures.0, c.in_ok-operand.ensures.0),
+      subst (λ (b : Bool). AreLoud E (expression c.args.first.now ∷ map expression c.args.others.now) b) (sym c.either.ensures)
+          (join_loud E (expression c.args.first.now ∷ []) (map expression c.args.others.now) c.in_ok-left.loud c.in_ok-operand.louder c.in_ok-left.ensures.1 c.in_ok-operand.ensures.1),
+    )

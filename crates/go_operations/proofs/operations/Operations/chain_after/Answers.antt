@@ -12,7 +12,7 @@ returns-in_err-next g c =
     let ops = operators_of c.args.operators.now (length c.args.others.now) in
     let within : c.loop-at.at < length c.args.others.now = omega arith in
     handed E (Steps E c.at.result c.loop-at.left c.index-others-at.result) (Chains E ops c.args.first c.args.others.now) (expression c.index-others-at.result ∷ []) (map expression c.args.others.now) c.in_err-next.field-0.0 c.from_residual.result c.from_residual.ensures.1 c.in_err-next.ensures
-        (chain_first E ops c.args.first c.args.others.now c.loop-at.at c.at.result c.loop-at.left c.index-others-at.result c.loop-at.loud within (c.at.ensures (length c.args.others.now) within) c.index-others-at.is c.loop-at.invariant)
+    (chain_first E ops c.args.first c.args.others.now c.loop-at.at c.at.result c.loop-at.left c.index-others-at.result c.loop-at.loud within (c.at.ensures (length c.args.others.now) within) c.index-others-at.is c.loop-at.invariant)
 
 pub loop-at-preserved : goal.loop-at-preserved
 loop-at-preserved g c =
@@ -20,7 +20,7 @@ loop-at-preserved g c =
     let ops = operators_of c.args.operators.now (length c.args.others.now) in
     let within : c.loop-at.at < length c.args.others.now = omega arith in
     subst (λ (b : Bool). Goes E ops c.args.first c.args.others.now (drop (c.loop-at.at + 1) ops) c.in_ok-next.next (drop (c.loop-at.at + 1) c.args.others.now) b) (sym c.either-loud.ensures)
-        (chain_next E ops c.args.first c.args.others.now c.loop-at.at c.at.result c.loop-at.left c.in_ok-next.next c.index-others-at.result c.loop-at.loud c.in_ok-next.louder within (c.at.ensures (length c.args.others.now) within) c.index-others-at.is c.in_ok-next.ensures.0 c.in_ok-next.ensures.1 c.loop-at.invariant)
+    (chain_next E ops c.args.first c.args.others.now c.loop-at.at c.at.result c.loop-at.left c.in_ok-next.next c.index-others-at.result c.loop-at.loud c.in_ok-next.louder within (c.at.ensures (length c.args.others.now) within) c.index-others-at.is c.in_ok-next.ensures.0 c.in_ok-next.ensures.1 c.loop-at.invariant)
 
 pub returns-then-not-end_by : goal.returns-then-not-end_by
 returns-then-not-end_by g c =
