@@ -43,3 +43,9 @@ module _ (E : Env) where
 
   pub elements_part : (p : Part) (t : Bor Term) (xs : Bor (List Element)) (b : Bool) → p ≡ part.Elements t xs → HasElements E t.now xs.now → AreLoud E (element_parts xs.now) b → TypesPart E p (Ok (answer.Elements b))
   elements_part p t xs b i h l = subst (λ (q : Part). TypesPart E q (Ok (answer.Elements b))) (sym i) (h, l)
+
+  -- want of memory
+  pub starved_part : (p : Part) → TypesPart E p (Err NoMemory)
+  starved_part (part.Expr e) = tt
+  starved_part (part.Type t) = tt
+  starved_part (part.Elements t xs) = tt

@@ -1,5 +1,7 @@
 -- What an operand with what follows it is.
-use Rattle.std.proofs.Common.{◌≡◌, ℕ, List, [], ◌∷◌, refl, sym, ap, ◌∙◌, subst, ◌⊎◌, inl, inr, Bool, ◌||◌, Option, Some, Result, Ok, Err}
+use Rattle.std.proofs.Common.{◌≡◌, ◌-◌, ℕ, length, take, drop, arith, List, [], ◌∷◌, refl, sym, ap, ◌∙◌, subst, ◌⊎◌, inl, inr, Bool, ◌||◌, Option, None, Some, Result, Ok, Err}
+use Rattle.std.specs.List.{slice_get}
+use Rattle.go_base.proofs.Lists.{take_past}
 use Rattle.go_rules.specs.Environments.{Env}
 use Rattle.go_rules.specs.Expressions.{Denotes, DenotesImported, Has, has_operand, HasForm, has_imported, has_name, has_primary, HasPosts, seen_operand}
 use Rattle.go_rules.specs.Nodes.{ExprLayer, Node, expression, post}
@@ -77,3 +79,24 @@ module _ (E : Env) where
     | inl p ↦ name_none q y.2 y.3 p.0 (named_in y.0 p.1)
     | inr m ↦ u m.operand r (renamed (one_name m.qualified.0 y.0) (one_selector m.qualified.1 y.1) m.object) m.posts
   ]
+
+  -- ---- by the first post
+
+  pub alone_at : (w e : Expr) (ps : List Post) → slice_get ps 0 ≡ None → out-Expr w ≡ Expr-F.Primary e ps → (r : Result (Operand × Bool) ExprError) → UnqualifiedTyped E e ps r → Types {A = Operand} E (HasForm E (Expr-F.Primary e ps)) (expression w ∷ []) r
+  alone_at w e [] n i r u = alone_typed w e i r u
+  alone_at w e (x ∷ xs) n i r u = absurd (none_some (sym n))
+
+  pub unqualified_at : (w e : Expr) (ps : List Post) (x : Post) → slice_get ps 0 ≡ Some x → out-Expr w ≡ Expr-F.Primary e ps → ((ns : Name × Name) → IsQualified E e x ns → ⊥)
+      → (r : Result (Operand × Bool) ExprError) → UnqualifiedTyped E e ps r → Types {A = Operand} E (HasForm E (Expr-F.Primary e ps)) (expression w ∷ []) r
+  unqualified_at w e [] x n i none r u = absurd (none_some n)
+  unqualified_at w e (y ∷ xs) x n i none r u = unqualified_typed w e y xs i (λ ns h. none ns (subst (λ (z : Post). IsQualified E e z ns) (one_some n) h)) r u
+
+  pub qualified_at : (w e : Expr) (ps others : List Post) (x : Post) (q n : Name) → slice_get ps 0 ≡ Some x → others ≡ drop 1 ps → out-Expr w ≡ Expr-F.Primary e ps → IsQualified E e x (q, n)
+      → (r : Result (Operand × Bool) ExprError) → QualifiedTyped E q n others r → Types {A = Operand} E (HasForm E (Expr-F.Primary e ps)) (expression w ∷ []) r
+  qualified_at w e [] others x q n s d i y r u = absurd (none_some s)
+  qualified_at w e (z ∷ xs) others x q n s d i y r u = qualified_typed w e z xs q n i (subst (λ (p : Post). IsQualified E e p (q, n)) (sym (one_some s)) y) r (subst (λ (ps : List Post). QualifiedTyped E q n ps r) d u)
+
+-- the posts behind the first
+pub behind_first : (ps : List Post) → take (length ps - 1) (drop 1 ps) ≡ drop 1 ps
+behind_first [] = refl
+behind_first (x ∷ xs) = let e : length (x ∷ xs) - 1 ≡ length xs = omega arith in ap (λ n. take n xs) e ∙ take_past (length xs) xs (omega arith)
