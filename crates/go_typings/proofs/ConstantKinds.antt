@@ -29,8 +29,8 @@ use Rattle.go_rules.proofs.OneKind.{no_truth}
 use Rattle.go_typings.specs.Assignments.{Below, Within, before}
 use Rattle.go_typings.specs.ConstantKinds.{EntriesKept, ImportsKept, imports_alone}
 use Rattle.go_typings.specs.Declarations.{Form, constants, variables, alias, definition, function, method, Declaration, Declared, declarations, declared}
-use Rattle.go_typings.specs.PackageEnvironments.{Entries, Entry, objects, underlying, signed, as_object, entity_by, environment, meaning_at, object_of, own_defined, path_in}
-use Rattle.go_typings.specs.Sources.{PackageSource, Setting, import_name, imports_of}
+use Rattle.go_typings.specs.PackageEnvironments.{Entries, Entry, objects, underlying, signed, as_object, entity_by, environment, import_of, meaning_at, object_of, own_defined, path_in}
+use Rattle.go_typings.specs.Sources.{PackageSource, Setting}
 use Rattle.go_typings.specs.Typings.{given}
 use Rattle.go_typings.proofs.Agree.{held}
 use Rattle.go_typings.proofs.Cells.{before_has, before_within, either, if_false, if_true, none_some, some_once}
@@ -175,9 +175,9 @@ module _ (s : Setting) (u : PackageSource) (absent : first_with path_of s.world.
     entry_kept_by (suc k) n l x e d =
         let g = T.below n (held (given s u) (grows s u) (one s u) (declarations u) S a T n x e) in
         let w : ConstantsKept (environment s u (cut n) g.0) = record {
-          local = λ name c v p. absurd (no_truth (whole_apart u.path (cut n) (path_in (first_with import_name (imports_of u g.0.file) name)) name (declared (declarations u) name) (seen.LocalConst c v) p));
+          local = λ name c v p. absurd (no_truth (whole_apart u.path (cut n) (path_in (import_of u g.0.file name)) name (declared (declarations u) name) (seen.LocalConst c v) p));
           own = λ name c v p.
-              let q = whole_is u.path (cut n) (path_in (first_with import_name (imports_of u g.0.file) name)) name (declared (declarations u) name) (entity.Const c v) refl p in
+              let q = whole_is u.path (cut n) (path_in (import_of u g.0.file name)) name (declared (declarations u) name) (entity.Const c v) refl p in
               let r = object_back (cut n q.0) q.1 (entity.Const c v) q.2 in
               let b = before_has T.order (T.order n) a q.0 (objects r.0) r.1 in let o = b.0 in
               let h = entry_kept_by k q.0 (omega (arith, o, l)) (objects r.0) b.1 g.0 in

@@ -62,8 +62,8 @@ module _ (E F : Env) (m : Grows E F) where
   joined_gives (gives_variables e a h) = gives_variables e (initialize_more a) (values_more h)
   joined_gives (gives_alias a) = gives_alias (type_more E F m a)
   joined_gives {ds = ds} (gives_definition {s = s} {u = u} {l = l} a e n h) = gives_definition (type_more E F m a) (form_more E F m u l (no_name l n) e) n (define_more ds s.type_ l h)
-  joined_gives (gives_function a) = gives_function (signature_more E F m a)
-  joined_gives (gives_method a) = gives_method (signature_more E F m a)
+  joined_gives (gives_function a b) = gives_function (signature_more E F m a) b
+  joined_gives (gives_method a b) = gives_method (signature_more E F m a) b
 
   pub gives_more : {ds : List Declaration} {f : Form} {x : Entry} → Gives E ds f x → Gives F ds f x
   gives_more {ds = ds} {f = f} {x = x} g = subst (λ z. Gives z ds f x) (joined_is E F m) (joined_gives g)

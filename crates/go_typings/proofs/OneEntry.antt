@@ -117,5 +117,5 @@ module _ (E : Env) where
   gives_once (gives_variables e a h) (gives_variables f b k) = ap (λ z. objects (map entity.Var z)) (same_values (initialize_once a b) h k)
   gives_once (gives_alias a) (gives_alias b) = ap (λ z. objects (entity.TypeOf z ∷ [])) (type_once E a b)
   gives_once (gives_definition a e n h) (gives_definition b f m k) = ap (λ z. underlying (roll-Term z)) (sym e ∙ ap (under E.table) (type_once E a b) ∙ f)
-  gives_once (gives_function a) (gives_function b) = ap (λ z. objects (entity.Function z ∷ [])) (signature_once E a b)
-  gives_once (gives_method a) (gives_method b) = ap signed (signature_once E a b)
+  gives_once (gives_function a i) (gives_function b j) = ap (λ z. objects (entity.Function z ∷ [])) (signature_once E a b)
+  gives_once (gives_method a i) (gives_method b j) = ap signed (signature_once E a b)

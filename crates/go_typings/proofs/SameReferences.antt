@@ -90,7 +90,7 @@ module _ (E F : Env) (R : Region) (w : IsClosed E R) (every : (name : List ℕ) 
 
   -- what counts in the second environment counts in the first
   pub refers_back : (u : PackageSource) (f : Form) (rs : List Reference) (n : ℕ) → Refers F u f rs n → Refers E u f rs n
-  refers_back u f rs n r = record { reference = r.reference; has = r.has; names = r.names; counts = λ at i k. r.counts at i (key_same k) }
+  refers_back u f rs n r = record { reference = r.reference; has = r.has; names = r.names; counts = λ q at i k. r.counts q at i (key_same k) }
 
   -- ---- methods that are found
 

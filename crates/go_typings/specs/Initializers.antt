@@ -39,7 +39,7 @@ pub data Initialize (E : Env) (n : ℕ) : List Expr → List Operand → Type 0 
 pub data TypeOfValue (E : Env) : Operand → Term → Type 0 where
   own_type : {o : Operand} {t : Term} → IsTyped o t → TypeOfValue E o t
   default_of_constant : {k : Untyped} {v : Value} → DefaultHolds E k v → TypeOfValue E (constant_of (constant.OfKind k) v) (default_type k)
-  default_of_truth : {k : Untyped} → TypeOfValue E (loose k) (default_type k)
+  default_of_truth : TypeOfValue E (loose untyped.BoolKind) (default_type untyped.BoolKind)
 
 -- the types of variables that are given the values
 pub data TypesOfValues (E : Env) : List Operand → List Term → Type 0 where

@@ -84,7 +84,7 @@ pub record Refers (E : Env) (u : PackageSource) (f : Form) (rs : List Reference)
   pub reference : Reference
   pub has : Has rs reference
   pub names : Names u reference.name n
-  pub counts : (at : Node) → Has (nodes f) at → IsFieldKey E at reference.name → ⊥
+  pub counts : reference.is_key ≡ true → (at : Node) → Has (nodes f) at → IsFieldKey E at reference.name → ⊥
 
 -- ---- methods that are found
 

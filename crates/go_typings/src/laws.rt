@@ -1,12 +1,12 @@
 //! Laws of the definitions.
-ghost use Rattle.std.specs.Prelude.{◌≡◌, ◌<◌, ◌||◌, ℕ, Bool, true, None, length};
+ghost use Rattle.std.specs.Prelude.{◌≡◌, ◌<◌, ◌||◌, ℕ, Bool, true, None, Some, length};
 ghost use Rattle.go_base.specs.Keys.{first_with};
 ghost use Rattle.go_model.specs.declared.types.package.Package.{Package};
 ghost use Rattle.go_model.specs.worlds.Worlds.{path_of};
-ghost use Rattle.go_typings.specs.Assignments.{Below, joined};
+ghost use Rattle.go_typings.specs.Assignments.{At, Below, joined};
 ghost use Rattle.go_typings.specs.ConstantKinds.{EntriesKept, ImportsKept};
 ghost use Rattle.go_typings.specs.Declarations.{declarations};
-ghost use Rattle.go_typings.specs.PackageEnvironments.{Entries};
+ghost use Rattle.go_typings.specs.PackageEnvironments.{Entries, Entry};
 ghost use Rattle.go_typings.specs.ReachedPackages.{ReachesSame};
 ghost use Rattle.go_typings.specs.Refusals.{IsRefused, Refusal};
 ghost use Rattle.go_typings.specs.Sources.{AreFound, PackageSource, Setting};
@@ -17,6 +17,11 @@ ghost use Rattle.go_typings.specs.Typings.{IsSound, IsTyping, Typing, given};
 pub fn one_typing()
     ensures whole { (s : Setting) (u : PackageSource) (a b : Entries) → IsTyping s u a → IsTyping s u b → (n : ℕ) → a n ≡ b n }
     ensures shared { (s : Setting) (u : PackageSource) (S T : ℕ → Bool) (a b : Entries) → Typing s u S a → Typing s u T b → (n : ℕ) → S n ≡ true → T n ≡ true → a n ≡ b n }
+{}
+
+/// In a typing the rule of each declaration gives its entry where all entries are had.
+pub fn rules_hold()
+    ensures { (s : Setting) (u : PackageSource) (S : ℕ → Bool) (a : Entries) (n : ℕ) → Typing s u S a → S n ≡ true → At (declarations u) n (λ d. (x : Entry) × (a n ≡ Some x) × given s u a d x) }
 {}
 
 /// The value of each constant of a typing is of its type or untyped kind, where those of the imports are and the
