@@ -15,4 +15,5 @@ pub mod FoundImports
 pub mod SoundDeclarations
 pub mod OneRefusal
 pub mod OnePackage
+pub mod OneWorld
 pub mod JoinedEntries

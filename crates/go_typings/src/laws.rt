@@ -1,12 +1,13 @@
 //! Laws of the definitions.
-ghost use Rattle.std.specs.Prelude.{◌≡◌, ◌<◌, ◌||◌, ℕ, Bool, true, None, Some, length};
+ghost use Rattle.std.specs.Prelude.{◌≡◌, ◌<◌, ◌||◌, ℕ, Bool, true, List, None, Some, length};
 ghost use Rattle.go_base.specs.Keys.{first_with};
 ghost use Rattle.go_model.specs.declared.types.package.Package.{Package};
-ghost use Rattle.go_model.specs.worlds.Worlds.{path_of};
+ghost use Rattle.go_model.specs.worlds.Worlds.{Packages, path_of};
 ghost use Rattle.go_typings.specs.Assignments.{At, Below, joined};
 ghost use Rattle.go_typings.specs.ConstantKinds.{EntriesKept, ImportsKept};
 ghost use Rattle.go_typings.specs.Declarations.{declarations};
 ghost use Rattle.go_typings.specs.PackageEnvironments.{Entries, Entry};
+ghost use Rattle.go_typings.specs.PackageWorlds.{Become, IsFirstRefused, IsWorldOf, Outcome};
 ghost use Rattle.go_typings.specs.ReachedPackages.{ReachesSame};
 ghost use Rattle.go_typings.specs.Refusals.{IsRefused, Refusal};
 ghost use Rattle.go_typings.specs.Sources.{AreFound, PackageSource, Setting};
@@ -39,10 +40,13 @@ pub fn same_imports()
     ensures turned { (u : PackageSource) (s t : Setting) → ReachesSame u s t → ReachesSame u t s }
 {}
 
-/// In a package that has a typing each declaration is sound; a package is refused for one cause, at one place, and
-/// isn't where it is typed.
+/// In a package that has a typing each declaration is sound.
+pub fn sound_declarations()
+    ensures { (s : Setting) (u : PackageSource) (a : Entries) (n : ℕ) → IsTyping s u a → n < length (declarations u) → IsSound s u n }
+{}
+
+/// A package is refused for one cause, at one place, and isn't where it is typed.
 pub fn one_refusal()
-    ensures sound { (s : Setting) (u : PackageSource) (a : Entries) (n : ℕ) → IsTyping s u a → n < length (declarations u) → IsSound s u n }
     ensures cause { (s : Setting) (u : PackageSource) (q r : Refusal) → IsRefused s u q → IsRefused s u r → q ≡ r }
     ensures apart { (s : Setting) (u : PackageSource) (p : Package) (r : Refusal) → IsTypedAs s u p → IsRefused s u r → ⊥ }
 {}
@@ -50,6 +54,14 @@ pub fn one_refusal()
 /// A package is typed as at most one package.
 pub fn one_package()
     ensures { (s : Setting) (u : PackageSource) (p q : Package) → IsTypedAs s u p → IsTypedAs s u q → p ≡ q }
+{}
+
+/// Packages in a list become one thing each: they have at most one world and one first refusal, and not both.
+pub fn one_world()
+    ensures outcomes { (bits : ℕ) (w : Packages) (us : List PackageSource) (xs ys : List Outcome) (v z : Packages) → Become bits w us xs v → Become bits w us ys z → (xs ≡ ys) × (v ≡ z) }
+    ensures world { (bits : ℕ) (us : List PackageSource) (v w : Packages) → IsWorldOf bits us v → IsWorldOf bits us w → v ≡ w }
+    ensures refusal { (bits : ℕ) (us : List PackageSource) (m n : ℕ) (q r : Refusal) → IsFirstRefused bits us m q → IsFirstRefused bits us n r → (m ≡ n) × (q ≡ r) }
+    ensures apart { (bits : ℕ) (us : List PackageSource) (w : Packages) (n : ℕ) (r : Refusal) → IsWorldOf bits us w → IsFirstRefused bits us n r → ⊥ }
 {}
 
 /// Entries that are had from below of two sets of declarations are had of both together.
