@@ -27,7 +27,7 @@ use Rattle.go_syntax.specs.declared.name.Name.{Name}
 use Rattle.go_syntax.specs.declared.types.«Type».{«Type» as Typ}
 use Rattle.go_typings.specs.DeclarationRules.{AreConstants, constants_none, constants_more, Gives, gives_constants, gives_typed_variables, gives_variables, gives_alias, gives_definition, gives_function, gives_method, TypeOfConstant, own_kind, given_type}
 use Rattle.go_typings.specs.Declarations.{Declaration, Form}
-use Rattle.go_typings.specs.Initializers.{GivesTwo, two_of_map, two_of_value, Initialize, by_each, by_call, by_two, TypeOfValue, own_type, default_of_constant, default_of_truth, TypesOfValues, types_none, types_more}
+use Rattle.go_typings.specs.Initializers.{GivesValueAndTruth, two_of_map, two_of_value, Initialize, by_each, by_call, by_two, TypeOfValue, own_type, default_of_constant, default_of_truth, TypesOfValues, types_none, types_more}
 use Rattle.go_typings.specs.PackageEnvironments.{Entry}
 use Rattle.go_typings.proofs.ReachedRegion.{EntryIn}
 
@@ -66,7 +66,7 @@ module _ (E : Env) (R : Region) (w : IsClosed E R) (every : (name : List ℕ) �
   each_local each_none = (each_none, tt)
   each_local (each_more {e = e} a r) = let f = has_local E R w a (refers (expression e)) in let q = each_local r in (each_more f.0 q.0, (f.1, q.1))
 
-  two_local : {e : Expr} {t : Term} → GivesTwo E e t → GivesTwo C e t × TermIn R t
+  two_local : {e : Expr} {t : Term} → GivesValueAndTruth E e t → GivesValueAndTruth C e t × TermIn R t
   two_local {e = e} (two_of_map a) = let f = has_local E R w a (refers (expression e)) in (two_of_map f.0, f.1)
   two_local {e = e} (two_of_value i a) = let f = has_local E R w a (refers (expression e)) in (two_of_value i f.0, f.1)
 

@@ -23,7 +23,7 @@ use Rattle.go_syntax.specs.declared.expression.Expr.{Expr}
 use Rattle.go_syntax.specs.declared.types.«Type».{«Type» as Typ}
 use Rattle.go_typings.specs.DeclarationRules.{AreConstants, constants_none, constants_more, Gives, gives_constants, gives_typed_variables, gives_variables, gives_alias, gives_definition, gives_function, gives_method, TypeOfConstant, own_kind, given_type}
 use Rattle.go_typings.specs.Declarations.{Declaration, Form}
-use Rattle.go_typings.specs.Initializers.{GivesTwo, two_of_map, two_of_value, Initialize, by_each, by_call, by_two, TypeOfValue, own_type, default_of_constant, default_of_truth, TypesOfValues, types_none, types_more}
+use Rattle.go_typings.specs.Initializers.{GivesValueAndTruth, two_of_map, two_of_value, Initialize, by_each, by_call, by_two, TypeOfValue, own_type, default_of_constant, default_of_truth, TypesOfValues, types_none, types_more}
 use Rattle.go_typings.specs.PackageEnvironments.{Entry, objects, underlying, signed}
 use Rattle.go_typings.proofs.Cells.{none_some, some_once}
 
@@ -73,11 +73,11 @@ module _ (E : Env) where
 
   -- ---- values of variables
 
-  no_tuple : {e : Expr} {t : Term} {ts : List Term} → GivesTwo E e t → Has E e (tuple ts) → ⊥
+  no_tuple : {e : Expr} {t : Term} {ts : List Term} → GivesValueAndTruth E e t → Has E e (tuple ts) → ⊥
   no_tuple (two_of_map a) b = no_truth (ap (λ (z : Operand). is_many z.shape) (has_once E b a))
   no_tuple (two_of_value i a) b = no_truth (ap (λ (z : Operand). is_many z.shape) (has_once E b a))
 
-  two_once : {e : Expr} {t u : Term} → GivesTwo E e t → GivesTwo E e u → t ≡ u
+  two_once : {e : Expr} {t u : Term} → GivesValueAndTruth E e t → GivesValueAndTruth E e u → t ≡ u
   two_once (two_of_map a) (two_of_map b) = ap (λ (z : Operand). term_in (const_in z.shape)) (has_once E a b)
   two_once (two_of_map a) (two_of_value i b) = absurd (no_truth (ap (λ (z : Operand). is_plain z.mode) (has_once E b a)))
   two_once (two_of_value i a) (two_of_map b) = absurd (no_truth (ap (λ (z : Operand). is_plain z.mode) (has_once E a b)))

@@ -58,7 +58,7 @@ sites_from file (f ∷ fs) = file_sites file f ++ sites_from (suc file) fs
 abbrev pub sites : PackageSource → List Site
 sites u = sites_from 0 u.files
 
--- a name can't be declared as both; functions `init` may be several, and an import may have no name
+-- one name can't be declared in both roles; but several functions may be named `init`, and several imports have no name
 abbrev pub Collide : List ℕ → Role → Role → Type 0
 Collide name (of_import file) (of_import other) = (file ≡ other) × (name ≢ [])
 Collide name (of_import file) of_package = name ≢ []
