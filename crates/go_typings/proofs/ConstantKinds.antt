@@ -87,11 +87,11 @@ module _ (path : List ℕ) (a : Entries) where
   meaning_is name None x c e = absurd (no_truth ((universe_apart (predeclared name) (seen.Object x) e).1))
   meaning_is name (Some d) x c e = entity_is d.number d.place d.form x c (object_is (entity_by path a d.number d.place d.form) x e)
 
-  whole_apart : (i : Option (List ℕ)) (name : List ℕ) (w : Option Declared) (m : Seen) → option_or (as_import i) (meaning_at path a name w) ≡ Some m → is_local m ≡ false
+  pub whole_apart : (i : Option (List ℕ)) (name : List ℕ) (w : Option Declared) (m : Seen) → option_or (as_import i) (meaning_at path a name w) ≡ Some m → is_local m ≡ false
   whole_apart None name w m e = meaning_apart name w m e
   whole_apart (Some p) name w m e = sym (ap is_local (some_once (seen.Import p) m e))
 
-  whole_is : (i : Option (List ℕ)) (name : List ℕ) (w : Option Declared) (x : Entity) → is_const x ≡ true → option_or (as_import i) (meaning_at path a name w) ≡ Some (seen.Object x) → (k : ℕ) × (at : ℕ) × (object_of (a k) at ≡ Some x)
+  pub whole_is : (i : Option (List ℕ)) (name : List ℕ) (w : Option Declared) (x : Entity) → is_const x ≡ true → option_or (as_import i) (meaning_at path a name w) ≡ Some (seen.Object x) → (k : ℕ) × (at : ℕ) × (object_of (a k) at ≡ Some x)
   whole_is None name w x c e = meaning_is name w x c e
   whole_is (Some p) name w x c e = absurd (no_truth (sym (ap is_object (some_once (seen.Import p) (seen.Object x) e))))
 
@@ -102,7 +102,7 @@ at_kept E [] n x e k = none_some (slice_get [] n) x refl e
 at_kept E (y ∷ ys) zero x e k = subst (EntityKept E) (some_once y x e) k.0
 at_kept E (y ∷ ys) (suc n) x e k = at_kept E ys n x e k.1
 
-member_kept : (E : Env) (xs : List Entity) (x : Entity) → Has xs x → Each (EntityKept E) xs → EntityKept E x
+pub member_kept : (E : Env) (xs : List Entity) (x : Entity) → Has xs x → Each (EntityKept E) xs → EntityKept E x
 member_kept E [] x h k = absurd h
 member_kept E (y ∷ ys) x (inl p) k = subst (EntityKept E) p k.0
 member_kept E (y ∷ ys) x (inr h) k = member_kept E ys x h k.1
@@ -137,7 +137,7 @@ module _ (s : Setting) (u : PackageSource) (absent : first_with path_of s.world.
     ]
     layer_kept l x e = e
 
-    kind_kept : {c : ConstTerm} {k : Kind} → HasKind W c k → HasKind E c k
+    pub kind_kept : {c : ConstTerm} {k : Kind} → HasKind W c k → HasKind E c k
     kind_kept (kind_of_type {t = t} {b = x} e) = kind_of_type (layer_kept (out-Term t) x e)
     kind_kept kind_of_untyped = kind_of_untyped
 
@@ -156,7 +156,7 @@ module _ (s : Setting) (u : PackageSource) (absent : first_with path_of s.world.
   other_each b d e [] k = tt
   other_each b d e (x ∷ xs) k = (other_entity b d e x k.0, other_each b d e xs k.1)
 
-  other_entry : (b : Entries) (d e : Declaration) (x : Entry) → EntryKept (environment s u b d) x → EntryKept (environment s u b e) x
+  pub other_entry : (b : Entries) (d e : Declaration) (x : Entry) → EntryKept (environment s u b d) x → EntryKept (environment s u b e) x
   other_entry b d e (objects xs) k = other_each b d e xs k
   other_entry b d e (underlying t) k = tt
   other_entry b d e (signed g) k = tt

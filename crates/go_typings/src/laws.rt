@@ -4,11 +4,11 @@ ghost use Rattle.go_base.specs.Keys.{first_with};
 ghost use Rattle.go_model.specs.declared.types.package.Package.{Package};
 ghost use Rattle.go_model.specs.worlds.Worlds.{Packages, path_of};
 ghost use Rattle.go_typings.specs.Assignments.{At, Below, joined};
-ghost use Rattle.go_typings.specs.ConstantKinds.{EntriesKept, ImportsKept};
+ghost use Rattle.go_typings.specs.ConstantKinds.{EntriesKept, ImportsKept, ReachedKept};
 ghost use Rattle.go_typings.specs.Declarations.{declarations};
 ghost use Rattle.go_typings.specs.PackageEnvironments.{Entries, Entry};
 ghost use Rattle.go_typings.specs.PackageWorlds.{Become, IsFirstRefused, IsWorldOf, Outcome};
-ghost use Rattle.go_typings.specs.ReachedPackages.{ReachesSame};
+ghost use Rattle.go_typings.specs.ReachedPackages.{AreReached, ReachesSame};
 ghost use Rattle.go_typings.specs.Refusals.{IsRefused, Refusal};
 ghost use Rattle.go_typings.specs.Sources.{AreFound, PackageSource, Setting};
 ghost use Rattle.go_typings.specs.TypedPackages.{IsTypedAs};
@@ -25,10 +25,11 @@ pub fn rules_hold()
     ensures { (s : Setting) (u : PackageSource) (S : ℕ → Bool) (a : Entries) (n : ℕ) → Typing s u S a → S n ≡ true → At (declarations u) n (λ d. (x : Entry) × (a n ≡ Some x) × given s u a d x) }
 {}
 
-/// The value of each constant of a typing is of its type or untyped kind, where those of the imports are and the
-/// package isn't one of them.
+/// The value of each constant of a typing is of its type or untyped kind, where those of all packages are, or of those
+/// that it reaches, and the package isn't one of them.
 pub fn kept_constants()
-    ensures { (s : Setting) (u : PackageSource) (S : ℕ → Bool) (a : Entries) → first_with path_of s.world.packages u.path ≡ None → ImportsKept s → Typing s u S a → EntriesKept s u a }
+    ensures reached { (s : Setting) (u : PackageSource) (reached : List ℕ → Bool) (S : ℕ → Bool) (a : Entries) → first_with path_of s.world.packages u.path ≡ None → AreFound u → AreReached s.world u reached → ReachedKept s reached → Typing s u S a → EntriesKept s u a }
+    ensures all { (s : Setting) (u : PackageSource) (S : ℕ → Bool) (a : Entries) → first_with path_of s.world.packages u.path ≡ None → ImportsKept s → Typing s u S a → EntriesKept s u a }
 {}
 
 /// In two settings that are the same in all that a package reaches, it has the same typings, is typed as the same
