@@ -17,4 +17,5 @@ pub mod SoundDeclarations
 pub mod OneRefusal
 pub mod OnePackage
 pub mod OneWorld
+pub mod WorldOrRefusal
 pub mod JoinedEntries

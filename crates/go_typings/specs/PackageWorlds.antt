@@ -53,7 +53,8 @@ abbrev pub with_outcome : Packages → PackageSource → Outcome → Packages
 with_outcome w u (typed p) = with_package w p (is_public u)
 with_outcome w u x = w
 
--- over the first packages these become of the listed ones in turn, and with those that are typed the first are the last packages
+-- the listed packages become these in turn, each over the first packages and those that are typed before it; the last packages are the
+-- first with all that are typed
 pub data Become (bits : ℕ) : Packages → List PackageSource → List Outcome → Packages → Type 0 where
   become_none : {w : Packages} → Become bits w [] [] w
   become_more : {w v : Packages} {u : PackageSource} {us : List PackageSource} {x : Outcome} {xs : List Outcome} → Becomes (over bits w) u x → Become bits (with_outcome w u x) us xs v → Become bits w (u ∷ us) (x ∷ xs) v
@@ -64,6 +65,11 @@ no_packages = record { packages = []; publics = [] }
 abbrev pub is_typed : Outcome → Bool
 is_typed (typed p) = true
 is_typed x = false
+
+-- each import that is found is of a package with one of these paths, or of a listed one that comes before
+abbrev pub ComeAfterImports : List (List ℕ) → List PackageSource → Type 0
+ComeAfterImports paths [] = Unit {0}
+ComeAfterImports paths (u ∷ us) = ((file : ℕ) (i : Import) → Has (imports_of u file) i → i.is_found ≡ true → Has paths i.path) × ComeAfterImports (u.path ∷ paths) us
 
 -- all of the listed packages are typed, and this is their world
 pub record IsWorldOf (bits : ℕ) (us : List PackageSource) (w : Packages) : Type 0 where

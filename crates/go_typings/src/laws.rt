@@ -1,5 +1,5 @@
 //! Laws of the definitions.
-ghost use Rattle.std.specs.Prelude.{◌≡◌, ◌<◌, ◌||◌, ℕ, Bool, true, List, None, Some, length};
+ghost use Rattle.std.specs.Prelude.{◌≡◌, ◌<◌, ◌||◌, ◌⊎◌, ℕ, Bool, true, List, [], None, Some, length};
 ghost use Rattle.go_base.specs.Keys.{first_with};
 ghost use Rattle.go_model.specs.declared.types.package.Package.{Package};
 ghost use Rattle.go_model.specs.worlds.Worlds.{Packages, path_of};
@@ -7,7 +7,7 @@ ghost use Rattle.go_typings.specs.Assignments.{At, Below, joined};
 ghost use Rattle.go_typings.specs.ConstantKinds.{EntriesKept, ImportsKept, ReachedKept};
 ghost use Rattle.go_typings.specs.Declarations.{declarations};
 ghost use Rattle.go_typings.specs.PackageEnvironments.{Entries, Entry};
-ghost use Rattle.go_typings.specs.PackageWorlds.{Become, IsFirstRefused, IsWorldOf, Outcome};
+ghost use Rattle.go_typings.specs.PackageWorlds.{Become, ComeAfterImports, IsFirstRefused, IsWorldOf, Outcome, no_packages};
 ghost use Rattle.go_typings.specs.ReachedPackages.{AreReached, ReachesSame};
 ghost use Rattle.go_typings.specs.Refusals.{IsRefused, Refusal};
 ghost use Rattle.go_typings.specs.Sources.{AreFound, PackageSource, Setting};
@@ -63,6 +63,11 @@ pub fn one_world()
     ensures world { (bits : ℕ) (us : List PackageSource) (v w : Packages) → IsWorldOf bits us v → IsWorldOf bits us w → v ≡ w }
     ensures refusal { (bits : ℕ) (us : List PackageSource) (m n : ℕ) (q r : Refusal) → IsFirstRefused bits us m q → IsFirstRefused bits us n r → (m ≡ n) × (q ≡ r) }
     ensures apart { (bits : ℕ) (us : List PackageSource) (w : Packages) (n : ℕ) (r : Refusal) → IsWorldOf bits us w → IsFirstRefused bits us n r → ⊥ }
+{}
+
+/// Where packages come after those that they import, and became something, they have a world or one that is refused first.
+pub fn world_or_refusal()
+    ensures { (bits : ℕ) (us : List PackageSource) (xs : List Outcome) (w : Packages) → Become bits no_packages us xs w → ComeAfterImports [] us → IsWorldOf bits us w ⊎ ((n : ℕ) × (r : Refusal) × IsFirstRefused bits us n r) }
 {}
 
 /// Entries that are had from below of two sets of declarations are had of both together.
