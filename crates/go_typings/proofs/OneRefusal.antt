@@ -13,7 +13,7 @@ use Rattle.go_typings.specs.Typings.{IsFirstUnsound}
 use Rattle.go_typings.proofs.Cells.{some_once}
 use Rattle.go_typings.proofs.SoundDeclarations.{typed_sound}
 
-pub order : (m n : ℕ) → (m < n) ⊎ ((m ≡ n) ⊎ (n < m))
+order : (m n : ℕ) → (m < n) ⊎ ((m ≡ n) ⊎ (n < m))
 order m n = grind (arith)
 
 one_redeclared : (u : PackageSource) (p q : Place) → IsRedeclared u p → IsRedeclared u q → p ≡ q

@@ -1,7 +1,7 @@
 -- The world of packages in a list, each typed over those before it, and what becomes of each.
 -- Public source: Go specification, "Import declarations" and "Package initialization"; which packages are public is own, after "Internal
 -- packages" of the Go command's documentation, as is that a package isn't typed where one that it imports isn't.
-use Rattle.std.specs.Prelude.{◌≡◌, ◌<◌, ℕ, Bool, true, false, not, nat_eq, ◌&&◌, List, [], ◌∷◌, map, Some, codes, slice_get}
+use Rattle.std.specs.Prelude.{◌≡◌, ℕ, suc, Bool, true, false, not, nat_eq, ◌&&◌, List, [], ◌∷◌, map, codes}
 use Rattle.std.specs.List.{list_all, slice_split}
 use Rattle.std.specs.Str.{bytes_eq}
 use Rattle.go_base.specs.Lists.{Has, Passes}
@@ -77,10 +77,14 @@ pub record IsWorldOf (bits : ℕ) (us : List PackageSource) (w : Packages) : Typ
   pub become : Become bits no_packages us outcomes w
   pub all_typed : Passes is_typed outcomes
 
--- the package of this number is refused so, and none before it is refused
-pub record IsFirstRefused (bits : ℕ) (us : List PackageSource) (n : ℕ) (r : Refusal) : Type 0 where
-  pub outcomes : List Outcome
-  pub world : Packages
-  pub become : Become bits no_packages us outcomes world
-  pub is : slice_get outcomes n ≡ Some (refused r)
-  pub first : (m : ℕ) (q : Refusal) → m < n → slice_get outcomes m ≡ Some (refused q) → ⊥
+abbrev pub is_refused : Outcome → Bool
+is_refused (refused r) = true
+is_refused x = false
+
+-- over the first packages the listed one of this number is refused so, and none before it is refused; what comes after doesn't count
+pub data IsRefusedAt (bits : ℕ) : Packages → List PackageSource → ℕ → Refusal → Type 0 where
+  refused_here : {w : Packages} {u : PackageSource} {us : List PackageSource} {r : Refusal} → Becomes (over bits w) u (refused r) → IsRefusedAt bits w (u ∷ us) 0 r
+  refused_later : {w : Packages} {u : PackageSource} {us : List PackageSource} {n : ℕ} {r : Refusal} (x : Outcome) → Becomes (over bits w) u x → is_refused x ≡ false → IsRefusedAt bits (with_outcome w u x) us n r → IsRefusedAt bits w (u ∷ us) (suc n) r
+
+abbrev pub IsFirstRefused : ℕ → List PackageSource → ℕ → Refusal → Type 0
+IsFirstRefused bits us n r = IsRefusedAt bits no_packages us n r
