@@ -29,8 +29,8 @@ use Rattle.go_rules.proofs.OneKind.{no_truth}
 use Rattle.go_typings.specs.Assignments.{Below, Within, before}
 use Rattle.go_typings.specs.ConstantKinds.{EntriesKept, ImportsKept, imports_alone}
 use Rattle.go_typings.specs.Declarations.{Form, constants, variables, alias, definition, function, method, Declaration, Declared, declarations, declared}
-use Rattle.go_typings.specs.PackageEnvironments.{Entries, Entry, objects, underlying, signed, as_object, entity_by, environment, meaning_at, object_of, own_defined, path_in}
-use Rattle.go_typings.specs.Sources.{PackageSource, Setting, import_name, imports_of}
+use Rattle.go_typings.specs.PackageEnvironments.{Entries, Entry, objects, underlying, signed, as_object, entity_by, environment, import_of, meaning_at, object_of, own_defined, path_in}
+use Rattle.go_typings.specs.Sources.{PackageSource, Setting}
 use Rattle.go_typings.specs.Typings.{given}
 use Rattle.go_typings.proofs.Agree.{held}
 use Rattle.go_typings.proofs.Cells.{before_has, before_within, either, if_false, if_true, none_some, some_once}
@@ -87,11 +87,11 @@ module _ (path : List ℕ) (a : Entries) where
   meaning_is name None x c e = absurd (no_truth ((universe_apart (predeclared name) (seen.Object x) e).1))
   meaning_is name (Some d) x c e = entity_is d.number d.place d.form x c (object_is (entity_by path a d.number d.place d.form) x e)
 
-  whole_apart : (i : Option (List ℕ)) (name : List ℕ) (w : Option Declared) (m : Seen) → option_or (as_import i) (meaning_at path a name w) ≡ Some m → is_local m ≡ false
+  pub whole_apart : (i : Option (List ℕ)) (name : List ℕ) (w : Option Declared) (m : Seen) → option_or (as_import i) (meaning_at path a name w) ≡ Some m → is_local m ≡ false
   whole_apart None name w m e = meaning_apart name w m e
   whole_apart (Some p) name w m e = sym (ap is_local (some_once (seen.Import p) m e))
 
-  whole_is : (i : Option (List ℕ)) (name : List ℕ) (w : Option Declared) (x : Entity) → is_const x ≡ true → option_or (as_import i) (meaning_at path a name w) ≡ Some (seen.Object x) → (k : ℕ) × (at : ℕ) × (object_of (a k) at ≡ Some x)
+  pub whole_is : (i : Option (List ℕ)) (name : List ℕ) (w : Option Declared) (x : Entity) → is_const x ≡ true → option_or (as_import i) (meaning_at path a name w) ≡ Some (seen.Object x) → (k : ℕ) × (at : ℕ) × (object_of (a k) at ≡ Some x)
   whole_is None name w x c e = meaning_is name w x c e
   whole_is (Some p) name w x c e = absurd (no_truth (sym (ap is_object (some_once (seen.Import p) (seen.Object x) e))))
 
@@ -102,7 +102,7 @@ at_kept E [] n x e k = none_some (slice_get [] n) x refl e
 at_kept E (y ∷ ys) zero x e k = subst (EntityKept E) (some_once y x e) k.0
 at_kept E (y ∷ ys) (suc n) x e k = at_kept E ys n x e k.1
 
-member_kept : (E : Env) (xs : List Entity) (x : Entity) → Has xs x → Each (EntityKept E) xs → EntityKept E x
+pub member_kept : (E : Env) (xs : List Entity) (x : Entity) → Has xs x → Each (EntityKept E) xs → EntityKept E x
 member_kept E [] x h k = absurd h
 member_kept E (y ∷ ys) x (inl p) k = subst (EntityKept E) p k.0
 member_kept E (y ∷ ys) x (inr h) k = member_kept E ys x h k.1
@@ -137,7 +137,7 @@ module _ (s : Setting) (u : PackageSource) (absent : first_with path_of s.world.
     ]
     layer_kept l x e = e
 
-    kind_kept : {c : ConstTerm} {k : Kind} → HasKind W c k → HasKind E c k
+    pub kind_kept : {c : ConstTerm} {k : Kind} → HasKind W c k → HasKind E c k
     kind_kept (kind_of_type {t = t} {b = x} e) = kind_of_type (layer_kept (out-Term t) x e)
     kind_kept kind_of_untyped = kind_of_untyped
 
@@ -156,7 +156,7 @@ module _ (s : Setting) (u : PackageSource) (absent : first_with path_of s.world.
   other_each b d e [] k = tt
   other_each b d e (x ∷ xs) k = (other_entity b d e x k.0, other_each b d e xs k.1)
 
-  other_entry : (b : Entries) (d e : Declaration) (x : Entry) → EntryKept (environment s u b d) x → EntryKept (environment s u b e) x
+  pub other_entry : (b : Entries) (d e : Declaration) (x : Entry) → EntryKept (environment s u b d) x → EntryKept (environment s u b e) x
   other_entry b d e (objects xs) k = other_each b d e xs k
   other_entry b d e (underlying t) k = tt
   other_entry b d e (signed g) k = tt
@@ -175,9 +175,9 @@ module _ (s : Setting) (u : PackageSource) (absent : first_with path_of s.world.
     entry_kept_by (suc k) n l x e d =
         let g = T.below n (held (given s u) (grows s u) (one s u) (declarations u) S a T n x e) in
         let w : ConstantsKept (environment s u (cut n) g.0) = record {
-          local = λ name c v p. absurd (no_truth (whole_apart u.path (cut n) (path_in (first_with import_name (imports_of u g.0.file) name)) name (declared (declarations u) name) (seen.LocalConst c v) p));
+          local = λ name c v p. absurd (no_truth (whole_apart u.path (cut n) (path_in (import_of u g.0.file name)) name (declared (declarations u) name) (seen.LocalConst c v) p));
           own = λ name c v p.
-              let q = whole_is u.path (cut n) (path_in (first_with import_name (imports_of u g.0.file) name)) name (declared (declarations u) name) (entity.Const c v) refl p in
+              let q = whole_is u.path (cut n) (path_in (import_of u g.0.file name)) name (declared (declarations u) name) (entity.Const c v) refl p in
               let r = object_back (cut n q.0) q.1 (entity.Const c v) q.2 in
               let b = before_has T.order (T.order n) a q.0 (objects r.0) r.1 in let o = b.0 in
               let h = entry_kept_by k q.0 (omega (arith, o, l)) (objects r.0) b.1 g.0 in

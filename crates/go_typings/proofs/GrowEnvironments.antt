@@ -3,7 +3,6 @@ use Rattle.std.proofs.Common.{◌≡◌, ℕ, Bool, true, false, ◌||◌, List,
 use Rattle.std.specs.Prelude.{if◌then◌else◌, slice_get}
 use Rattle.std.specs.Option.{option_or}
 use Rattle.std.specs.Str.{bytes_eq}
-use Rattle.go_base.specs.Keys.{first_with}
 use Rattle.go_model.specs.declared.types.names.Sel.{Sel}
 use Rattle.go_model.specs.declared.types.names.TypeName.{TypeName}
 use Rattle.go_model.specs.declared.types.package.Defined.{Defined}
@@ -20,9 +19,9 @@ use Rattle.go_rules.specs.Scopes.{as_import}
 use Rattle.go_rules.specs.declared.seen.Seen.{Seen}
 use Rattle.go_typings.specs.Assignments.{Within}
 use Rattle.go_typings.specs.Declarations.{Form, constants, variables, alias, definition, function, method, Declaration, Declared, declarations, declared}
-use Rattle.go_typings.specs.PackageEnvironments.{Entry, objects, underlying, signed, Entries, as_object, defined_at, defined_by, defined_with, entity_by, environment, had, had_of, meaning_at, missing, missing_of, object_of, own_defined, path_in, signature_of, underlying_of}
+use Rattle.go_typings.specs.PackageEnvironments.{Entry, objects, underlying, signed, Entries, as_object, defined_at, defined_by, defined_with, entity_by, environment, had, had_of, import_of, meaning_at, missing, missing_of, object_of, own_defined, path_in, signature_of, underlying_of}
 use Rattle.go_typings.specs.Receivers.{DeclaredMethod, methods}
-use Rattle.go_typings.specs.Sources.{PackageSource, Setting, import_name, imports_of}
+use Rattle.go_typings.specs.Sources.{PackageSource, Setting}
 use Rattle.go_typings.proofs.Cells.{either, if_false, if_true, none_some, or_false, some_once}
 
 -- ---- entries
@@ -171,7 +170,7 @@ module _ (a b : Entries) (h : Within a b) where
 
     pub environment_more : Grows (environment s u a d) (environment s u b d)
     environment_more = record {
-      meaning = λ name m e. or_more (as_import (path_in (first_with import_name (imports_of u d.file) name))) (meaning_at u.path a name (declared (declarations u) name)) (meaning_at u.path b name (declared (declarations u) name)) m e (meaning_more u.path name (declared (declarations u) name) m);
+      meaning = λ name m e. or_more (as_import (path_in (import_of u d.file name))) (meaning_at u.path a name (declared (declarations u) name)) (meaning_at u.path b name (declared (declarations u) name)) m e (meaning_more u.path name (declared (declarations u) name) m);
       object = λ path name x e. e;
       table = table_more;
       path = refl;

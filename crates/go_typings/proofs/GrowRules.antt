@@ -16,7 +16,7 @@ use Rattle.go_syntax.specs.declared.expression.Expr.{Expr}
 use Rattle.go_syntax.specs.declared.types.«Type».{«Type» as Typ}
 use Rattle.go_typings.specs.DeclarationRules.{AreConstants, constants_none, constants_more, Gives, gives_constants, gives_typed_variables, gives_variables, gives_alias, gives_definition, gives_function, gives_method, MayDefine, TypeOfConstant, own_kind, given_type, is_name}
 use Rattle.go_typings.specs.Declarations.{Declaration, Form}
-use Rattle.go_typings.specs.Initializers.{GivesTwo, two_of_map, two_of_value, Initialize, by_each, by_call, by_two, TypeOfValue, own_type, default_of_constant, default_of_truth, TypesOfValues, types_none, types_more}
+use Rattle.go_typings.specs.Initializers.{GivesValueAndTruth, two_of_map, two_of_value, Initialize, by_each, by_call, by_two, TypeOfValue, own_type, default_of_constant, default_of_truth, TypesOfValues, types_none, types_more}
 use Rattle.go_typings.specs.PackageEnvironments.{Entry}
 
 no_name : (l : Layer) → is_name l ≡ false → is_form l ≡ true
@@ -35,7 +35,7 @@ module _ (E F : Env) (m : Grows E F) where
   constants_more_of constants_none = constants_none
   constants_more_of (constants_more a h r) = constants_more (has_more E F m a) (constant_more h) (constants_more_of r)
 
-  two_more : {e : Expr} {t : Term} → GivesTwo E e t → GivesTwo G e t
+  two_more : {e : Expr} {t : Term} → GivesValueAndTruth E e t → GivesValueAndTruth G e t
   two_more (two_of_map a) = two_of_map (has_more E F m a)
   two_more (two_of_value i a) = two_of_value i (has_more E F m a)
 
@@ -62,8 +62,8 @@ module _ (E F : Env) (m : Grows E F) where
   joined_gives (gives_variables e a h) = gives_variables e (initialize_more a) (values_more h)
   joined_gives (gives_alias a) = gives_alias (type_more E F m a)
   joined_gives {ds = ds} (gives_definition {s = s} {u = u} {l = l} a e n h) = gives_definition (type_more E F m a) (form_more E F m u l (no_name l n) e) n (define_more ds s.type_ l h)
-  joined_gives (gives_function a) = gives_function (signature_more E F m a)
-  joined_gives (gives_method a) = gives_method (signature_more E F m a)
+  joined_gives (gives_function a b) = gives_function (signature_more E F m a) b
+  joined_gives (gives_method a b) = gives_method (signature_more E F m a) b
 
   pub gives_more : {ds : List Declaration} {f : Form} {x : Entry} → Gives E ds f x → Gives F ds f x
   gives_more {ds = ds} {f = f} {x = x} g = subst (λ z. Gives z ds f x) (joined_is E F m) (joined_gives g)

@@ -103,8 +103,8 @@ module _ (E : Env) where
     gives_kept (gives_variables {ts = ts} e a h) = variables_kept ts
     gives_kept (gives_alias a) = (tt, tt)
     gives_kept (gives_definition a e n h) = tt
-    gives_kept (gives_function a) = (tt, tt)
-    gives_kept (gives_method a) = tt
+    gives_kept (gives_function a b) = (tt, tt)
+    gives_kept (gives_method a b) = tt
 
 -- ---- among more entries
 

@@ -10,9 +10,12 @@ pub mod ReachedRegion
 pub mod LocalRules
 pub mod SameImports
 pub mod SameReferences
+pub mod ReachedConstants
 pub mod SameTypings
 pub mod FoundImports
 pub mod SoundDeclarations
 pub mod OneRefusal
 pub mod OnePackage
+pub mod OneWorld
+pub mod WorldOrRefusal
 pub mod JoinedEntries

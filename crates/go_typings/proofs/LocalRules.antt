@@ -27,7 +27,7 @@ use Rattle.go_syntax.specs.declared.name.Name.{Name}
 use Rattle.go_syntax.specs.declared.types.«Type».{«Type» as Typ}
 use Rattle.go_typings.specs.DeclarationRules.{AreConstants, constants_none, constants_more, Gives, gives_constants, gives_typed_variables, gives_variables, gives_alias, gives_definition, gives_function, gives_method, TypeOfConstant, own_kind, given_type}
 use Rattle.go_typings.specs.Declarations.{Declaration, Form}
-use Rattle.go_typings.specs.Initializers.{GivesTwo, two_of_map, two_of_value, Initialize, by_each, by_call, by_two, TypeOfValue, own_type, default_of_constant, default_of_truth, TypesOfValues, types_none, types_more}
+use Rattle.go_typings.specs.Initializers.{GivesValueAndTruth, two_of_map, two_of_value, Initialize, by_each, by_call, by_two, TypeOfValue, own_type, default_of_constant, default_of_truth, TypesOfValues, types_none, types_more}
 use Rattle.go_typings.specs.PackageEnvironments.{Entry}
 use Rattle.go_typings.proofs.ReachedRegion.{EntryIn}
 
@@ -66,7 +66,7 @@ module _ (E : Env) (R : Region) (w : IsClosed E R) (every : (name : List ℕ) �
   each_local each_none = (each_none, tt)
   each_local (each_more {e = e} a r) = let f = has_local E R w a (refers (expression e)) in let q = each_local r in (each_more f.0 q.0, (f.1, q.1))
 
-  two_local : {e : Expr} {t : Term} → GivesTwo E e t → GivesTwo C e t × TermIn R t
+  two_local : {e : Expr} {t : Term} → GivesValueAndTruth E e t → GivesValueAndTruth C e t × TermIn R t
   two_local {e = e} (two_of_map a) = let f = has_local E R w a (refers (expression e)) in (two_of_map f.0, f.1)
   two_local {e = e} (two_of_value i a) = let f = has_local E R w a (refers (expression e)) in (two_of_value i f.0, f.1)
 
@@ -78,7 +78,7 @@ module _ (E : Env) (R : Region) (w : IsClosed E R) (every : (name : List ℕ) �
   value_local : {o : Operand} {t : Term} → TypeOfValue E o t → OperandIn R o → TypeOfValue C o t × TermIn R t
   value_local (own_type h) i = (own_type h, typed_in R i h)
   value_local (default_of_constant {k = k} h) i = (default_of_constant h, default_in R k)
-  value_local (default_of_truth {k = k}) i = (default_of_truth, default_in R k)
+  value_local default_of_truth i = (default_of_truth, default_in R untyped.BoolKind)
 
   variables_in : {os : List Operand} {ts : List Term} → TypesOfValues E os ts → Each (OperandIn R) os → TypesOfValues C os ts × Each (EntityIn R) (map entity.Var ts)
   variables_in types_none i = (types_none, tt)
@@ -96,5 +96,5 @@ module _ (E : Env) (R : Region) (w : IsClosed E R) (every : (name : List ℕ) �
   gives_local (gives_variables e a h) = let f = initialize_local a in let g = variables_in h f.1 in (gives_variables e f.0 g.0, g.1)
   gives_local (gives_alias {s = s} a) = let f = type_local E R w a (refers (type s.type_)) in (gives_alias f.0, (f.1, tt))
   gives_local (gives_definition {s = s} {u = u} {l = l} a e n h) = let f = type_local E R w a (refers (type s.type_)) in (gives_definition f.0 (form_same E R w u l f.1 e) n h, close_in R l (form_in E R w u l f.1 e))
-  gives_local (gives_function {f = x} a) = let f = whole_signature_local E R w x.signature (refers (at_signature x.signature)) a in (gives_function f.0, (f.1, tt))
-  gives_local (gives_method {f = x} a) = let f = whole_signature_local E R w x.signature (refers (at_signature x.signature)) a in (gives_method f.0, f.1)
+  gives_local (gives_function {f = x} a b) = let f = whole_signature_local E R w x.signature (refers (at_signature x.signature)) a in (gives_function f.0 b, (f.1, tt))
+  gives_local (gives_method {f = x} a b) = let f = whole_signature_local E R w x.signature (refers (at_signature x.signature)) a in (gives_method f.0 b, f.1)

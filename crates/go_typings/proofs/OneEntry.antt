@@ -23,7 +23,7 @@ use Rattle.go_syntax.specs.declared.expression.Expr.{Expr}
 use Rattle.go_syntax.specs.declared.types.«Type».{«Type» as Typ}
 use Rattle.go_typings.specs.DeclarationRules.{AreConstants, constants_none, constants_more, Gives, gives_constants, gives_typed_variables, gives_variables, gives_alias, gives_definition, gives_function, gives_method, TypeOfConstant, own_kind, given_type}
 use Rattle.go_typings.specs.Declarations.{Declaration, Form}
-use Rattle.go_typings.specs.Initializers.{GivesTwo, two_of_map, two_of_value, Initialize, by_each, by_call, by_two, TypeOfValue, own_type, default_of_constant, default_of_truth, TypesOfValues, types_none, types_more}
+use Rattle.go_typings.specs.Initializers.{GivesValueAndTruth, two_of_map, two_of_value, Initialize, by_each, by_call, by_two, TypeOfValue, own_type, default_of_constant, default_of_truth, TypesOfValues, types_none, types_more}
 use Rattle.go_typings.specs.PackageEnvironments.{Entry, objects, underlying, signed}
 use Rattle.go_typings.proofs.Cells.{none_some, some_once}
 
@@ -73,11 +73,11 @@ module _ (E : Env) where
 
   -- ---- values of variables
 
-  no_tuple : {e : Expr} {t : Term} {ts : List Term} → GivesTwo E e t → Has E e (tuple ts) → ⊥
+  no_tuple : {e : Expr} {t : Term} {ts : List Term} → GivesValueAndTruth E e t → Has E e (tuple ts) → ⊥
   no_tuple (two_of_map a) b = no_truth (ap (λ (z : Operand). is_many z.shape) (has_once E b a))
   no_tuple (two_of_value i a) b = no_truth (ap (λ (z : Operand). is_many z.shape) (has_once E b a))
 
-  two_once : {e : Expr} {t u : Term} → GivesTwo E e t → GivesTwo E e u → t ≡ u
+  two_once : {e : Expr} {t u : Term} → GivesValueAndTruth E e t → GivesValueAndTruth E e u → t ≡ u
   two_once (two_of_map a) (two_of_map b) = ap (λ (z : Operand). term_in (const_in z.shape)) (has_once E a b)
   two_once (two_of_map a) (two_of_value i b) = absurd (no_truth (ap (λ (z : Operand). is_plain z.mode) (has_once E b a)))
   two_once (two_of_value i a) (two_of_map b) = absurd (no_truth (ap (λ (z : Operand). is_plain z.mode) (has_once E a b)))
@@ -117,5 +117,5 @@ module _ (E : Env) where
   gives_once (gives_variables e a h) (gives_variables f b k) = ap (λ z. objects (map entity.Var z)) (same_values (initialize_once a b) h k)
   gives_once (gives_alias a) (gives_alias b) = ap (λ z. objects (entity.TypeOf z ∷ [])) (type_once E a b)
   gives_once (gives_definition a e n h) (gives_definition b f m k) = ap (λ z. underlying (roll-Term z)) (sym e ∙ ap (under E.table) (type_once E a b) ∙ f)
-  gives_once (gives_function a) (gives_function b) = ap (λ z. objects (entity.Function z ∷ [])) (signature_once E a b)
-  gives_once (gives_method a) (gives_method b) = ap signed (signature_once E a b)
+  gives_once (gives_function a i) (gives_function b j) = ap (λ z. objects (entity.Function z ∷ [])) (signature_once E a b)
+  gives_once (gives_method a i) (gives_method b j) = ap signed (signature_once E a b)

@@ -32,8 +32,8 @@ use Rattle.go_rules.specs.declared.seen.Seen.{Seen}
 use Rattle.go_rules.specs.declared.seen.Seen.TheVariants as seen
 use Rattle.go_rules.proofs.LocalTerms.{close_in, close_signature, each_passes, passes_left, passes_right}
 use Rattle.go_rules.proofs.LocalRelations.{basic_in}
-use Rattle.go_typings.specs.Declarations.{Form, constants, variables, alias, definition, function, method, Declaration, Declared, declarations, declared}
-use Rattle.go_typings.specs.PackageEnvironments.{Entries, Entry, objects, underlying, signed, as_object, defined_at, defined_by, entity_by, environment, had, had_of, meaning_at, object_of, own_defined, own_type, path_in, signature_of, types_of, underlying_of}
+use Rattle.go_typings.specs.Declarations.{Form, constants, variables, alias, definition, function, method, Declaration, Declared, declarations, declared, is_init}
+use Rattle.go_typings.specs.PackageEnvironments.{Entries, Entry, objects, underlying, signed, as_object, defined_at, defined_by, entity_by, environment, had, had_of, import_of, meaning_at, object_of, own_defined, own_type, path_in, signature_of, types_of, underlying_of}
 use Rattle.go_typings.specs.ReachedPackages.{AreReached, is_reached}
 use Rattle.go_typings.specs.Receivers.{DeclaredMethod, methods}
 use Rattle.go_typings.specs.Sources.{AreFound, Import, PackageSource, Setting, import_name, imports_of}
@@ -78,6 +78,14 @@ first_has key (y ∷ ys) k x e = choose (bytes_eq (key y) k) (λ f. first_has ke
     choose : (b : Bool) → (first_with key ys k ≡ Some x → Has ys x) → (if b then Some y else first_with key ys k) ≡ Some x → (y ≡ x) ⊎ Has ys x
     choose true h f = inl (some_once y x f)
     choose false h f = inr (h f)
+
+unless : {A : Type 0} (b : Bool) (c : Option A) (x : A) → (if b then None else c) ≡ Some x → c ≡ Some x
+unless true c x e = none_some None x refl e
+unless false c x e = e
+
+-- an import that a name means is one of the file
+pub import_has : (u : PackageSource) (file : ℕ) (name : List ℕ) (i : Import) → import_of u file name ≡ Some i → Has (imports_of u file) i
+import_has u file name i e = first_has import_name (imports_of u file) name i (unless (is_init name) (first_with import_name (imports_of u file) name) i e)
 
 gathered : {A B : Type 0} (p : B → Bool) (f : A → List B) (xs : List A) (x : A) → Has xs x → Passes p (gather f xs) → Passes p (f x)
 gathered p f [] x h k = absurd h
@@ -218,7 +226,7 @@ module _ (s : Setting) (u : PackageSource) (reached : List ℕ → Bool) (r : Ar
 
     pub closed_region : (d : Declaration) → IsClosed (environment s u b d) R
     closed_region d = record {
-      meaning = λ name m i e. meaning_in name (first_with import_name (imports_of u d.file) name) (declared (declarations u) name) m (λ j f. r.imports d.file j (first_has import_name (imports_of u d.file) name j f) (all d.file j (first_has import_name (imports_of u d.file) name j f))) e;
+      meaning = λ name m i e. meaning_in name (import_of u d.file name) (declared (declarations u) name) m (λ j f. r.imports d.file j (import_has u d.file name j f) (all d.file j (import_has u d.file name j f))) e;
       object = λ path name x i e. found_object R (first_with path_of s.world.packages path) name x (package_in path i) e;
       underlying = λ n d i e. (type_in n d i e).underlying_in;
       methods = λ n d m i e k. (type_in n d i e).methods_in m k;

@@ -29,7 +29,7 @@ use Rattle.go_syntax.specs.declared.expression.Post.{Post}
 use Rattle.go_syntax.specs.declared.name.Name.{Name}
 use Rattle.go_syntax.specs.declared.types.«Type».{«Type» as Typ}
 use Rattle.go_typings.specs.Declarations.{Form}
-use Rattle.go_typings.specs.References.{Finds, FindsMethod, FindsOf, finds_value, finds_expression, HasLiteral, literal, literal_array, literal_key, literal_value, HoldsValues, holds_item, holds_slice_item, holds_map_item, IsOmitted, omitted_itself, omitted_base, IsFieldKey, Refers, Selects}
+use Rattle.go_typings.specs.References.{Finds, FindsMethod, FindsOf, finds_value, finds_expression, HasLiteral, literal, literal_array, literal_key, literal_value, HoldsValues, holds_item, holds_slice_item, holds_map_item, IsOmitted, omitted_itself, omitted_base, IsFieldKey, NamesDeclaration, Selects}
 use Rattle.go_typings.specs.Sources.{PackageSource}
 use Rattle.go_typings.proofs.LocalRules.{refers}
 
@@ -70,7 +70,7 @@ module _ (E F : Env) (R : Region) (w : IsClosed E R) (every : (name : List ℕ) 
 
   literal_same : {at : Node} {t : Term} {xs : List Element} → HasLiteral E at t xs → HasLiteral F at t xs × TermIn R t
   literal_same (literal s e a) = let f = of_type_same a in (literal s e f.0, f.1)
-  literal_same (literal_array {u = u} n s e a) = let f = of_type_same a in (literal_array n s e f.0, close_in R (Term-F.Array n u) f.1)
+  literal_same (literal_array {v = v} n s e a) = let f = of_type_same a in (literal_array n s e f.0, close_in R (Term-F.Array n v) f.1)
   literal_same (literal_key {t = t} {k = k} {e = e} x h i q p m o) = let f = literal_same h in let g = map_under t k e f.1 m in let j = omitted_same o g.1 in (literal_key x f.0 i q p g.0 j.0, j.1)
   literal_same (literal_value x h i p v o) = let f = literal_same h in let g = holds_same v f.1 in let j = omitted_same o g.1 in (literal_value x f.0 i p g.0 j.0, j.1)
 
@@ -89,8 +89,8 @@ module _ (E F : Env) (R : Region) (w : IsClosed E R) (every : (name : List ℕ) 
       }
 
   -- what counts in the second environment counts in the first
-  pub refers_back : (u : PackageSource) (f : Form) (rs : List Reference) (n : ℕ) → Refers F u f rs n → Refers E u f rs n
-  refers_back u f rs n r = record { reference = r.reference; has = r.has; names = r.names; counts = λ at i k. r.counts at i (key_same k) }
+  pub refers_back : (u : PackageSource) (f : Form) (rs : List Reference) (n : ℕ) → NamesDeclaration F u f rs n → NamesDeclaration E u f rs n
+  refers_back u f rs n r = record { reference = r.reference; has = r.has; names = r.names; counts = λ q at i k. r.counts q at i (key_same k) }
 
   -- ---- methods that are found
 

@@ -31,7 +31,7 @@ use Rattle.go_typings.specs.Declarations.{Form, constants, variables, alias, def
 use Rattle.go_typings.specs.Initializers.{Initialize}
 use Rattle.go_typings.specs.PackageEnvironments.{Entries, environment, own_defined}
 use Rattle.go_typings.specs.ReachedPackages.{ReachesSame}
-use Rattle.go_typings.specs.References.{LeadsTo, leads_here, leads_by_name, leads_by_method, Refers}
+use Rattle.go_typings.specs.References.{LeadsTo, leads_here, leads_by_name, leads_by_method, NamesDeclaration}
 use Rattle.go_typings.specs.Refusals.{IsRefused, Refusal, redeclared, missing_import, unsound}
 use Rattle.go_typings.specs.Sources.{AreFound, PackageSource, Setting}
 use Rattle.go_typings.specs.TypedPackages.{IsTypedAs}
@@ -95,9 +95,9 @@ module _ (u : PackageSource) (s t : Setting) (m : ReachesSame u s t) (all : AreF
       type = k.type;
       of = k.of;
       defined = k.defined;
-      stored = if_true (bytes_eq u.path u.path) (own_defined u a k.type) (table_of t.world.packages (record { path = u.path; name = k.type })) (own_path u.path)
-          ∙ sym (if_true (bytes_eq u.path u.path) (own_defined u a k.type) (table_of s.world.packages (record { path = u.path; name = k.type })) (own_path u.path)) ∙ k.stored;
-      bears = k.bears;
+      entry = if_true (bytes_eq u.path u.path) (own_defined u a k.type) (table_of t.world.packages (record { path = u.path; name = k.type })) (own_path u.path)
+          ∙ sym (if_true (bytes_eq u.path u.path) (own_defined u a k.type) (table_of s.world.packages (record { path = u.path; name = k.type })) (own_path u.path)) ∙ k.entry;
+      permits_methods = k.permits_methods;
       only = k.only;
       apart = k.apart;
       distinct = k.distinct;
@@ -114,7 +114,7 @@ module _ (u : PackageSource) (s t : Setting) (m : ReachesSame u s t) (all : AreF
     pub asks_same : (n : ℕ) (f : Form) → Asks E u n f → Asks F u n f
     asks_same n f k = record { form = form_asks_same n f k.form; meets = each_of (nodes f) (λ at j. meets_same at j) k.meets }
 
-    pub refers_same : (f : Form) (rs : _) (n : ℕ) → Refers F u f rs n → Refers E u f rs n
+    pub refers_same : (f : Form) (rs : _) (n : ℕ) → NamesDeclaration F u f rs n → NamesDeclaration E u f rs n
     refers_same f rs n k = refers_back E F R closed every (cut_grows u s t m all a d) u f rs n k
 
 -- a typing under the one setting is one under the other

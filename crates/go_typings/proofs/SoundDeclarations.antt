@@ -11,7 +11,7 @@ use Rattle.go_typings.specs.Assignments.{all_of}
 use Rattle.go_typings.specs.Declarations.{Form, constants, variables, alias, definition, function, method, Declaration, Declared, declarations, declared, declared_by, declared_from, is_init, names_of, place_from}
 use Rattle.go_typings.specs.PackageEnvironments.{Entries}
 use Rattle.go_typings.specs.Receivers.{DeclaredMethod, base, is_named, method_by, methods_from}
-use Rattle.go_typings.specs.References.{HasMethods, RefersTo, by_name, to_method}
+use Rattle.go_typings.specs.References.{HasMethods, DependsOn, by_name, to_method}
 use Rattle.go_typings.specs.Sources.{PackageSource, Setting}
 use Rattle.go_typings.specs.Typings.{IsClosed, IsSound, IsTyping}
 use Rattle.go_typings.proofs.Cells.{none_some, some_once}
@@ -74,7 +74,7 @@ has_method_within u (alias s) n h = absurd h
 has_method_within u (function f) n h = absurd h
 has_method_within u (method r f) n h = absurd h
 
-refers_within : (u : PackageSource) (f : Form) (n : ℕ) → RefersTo u f n → n < length (declarations u)
+refers_within : (u : PackageSource) (f : Form) (n : ℕ) → DependsOn u f n → n < length (declarations u)
 refers_within u f n (by_name r h (d, e, p)) = let l = named_within u r.name.text d e in omega (arith, l, p)
 refers_within u f n (to_method h) = has_method_within u f n h
 

@@ -1,6 +1,6 @@
 -- Constants of packages whose values are of their types or untyped kinds.
 -- Public source: Go specification, "Constants" and "Representability".
-use Rattle.std.specs.Prelude.{◌≡◌, ℕ, List, [], None, Some}
+use Rattle.std.specs.Prelude.{◌≡◌, ℕ, Bool, true, List, [], None, Some}
 use Rattle.go_base.specs.Keys.{first_with}
 use Rattle.go_base.specs.Lists.{Has}
 use Rattle.go_model.specs.declared.constants.value.Value.{Value}
@@ -32,6 +32,10 @@ imports_alone s = record {
 -- the value of each constant of the imports is of its type or untyped kind
 abbrev pub ImportsKept : Setting → Type 0
 ImportsKept s = (path name : List ℕ) (c : ConstTerm) (v : Value) → (imports_alone s).object path name ≡ Some (entity.Const c v) → IsKept (imports_alone s) c v
+
+-- so is that of each constant of the packages with these paths
+abbrev pub ReachedKept : Setting → (List ℕ → Bool) → Type 0
+ReachedKept s reached = (path name : List ℕ) (c : ConstTerm) (v : Value) → reached path ≡ true → (imports_alone s).object path name ≡ Some (entity.Const c v) → IsKept (imports_alone s) c v
 
 -- the value of each constant that a declaration is given is of its type or untyped kind
 abbrev pub EntriesKept : Setting → PackageSource → Entries → Type 0

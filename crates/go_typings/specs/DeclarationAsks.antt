@@ -29,10 +29,10 @@ use Rattle.go_typings.specs.Sources.{PackageSource}
 
 -- ---- variables
 
--- the values of variables of this type may be used as it; there may be none
+-- the values of variables of this type are as many and may be used as values of it, where there are any
 abbrev pub AreUsable : Env → Typ → ℕ → List Expr → Type 0
 AreUsable E t n [] = Unit {0}
-AreUsable E t n (e ∷ es) = (u : Term) × (os : List Operand) × OfType E t u × Initialize E n (e ∷ es) os × Each (λ o. UsableAs E o u) os
+AreUsable E t n (e ∷ es) = (v : Term) × (os : List Operand) × OfType E t v × Initialize E n (e ∷ es) os × Each (λ o. UsableAs E o v) os
 
 abbrev pub ValuesFit : Env → Option Typ → ℕ → List Expr → Type 0
 ValuesFit E None n es = Unit {0}
@@ -47,12 +47,12 @@ is_main u name = bytes_eq name (codes "main") && bytes_eq u.name (codes "main")
 abbrev pub IsBare : Sig → Type 0
 IsBare g = ((out-Sig g).parameters ≡ []) × ((out-Sig g).result ≡ None)
 
-pub record StartsProgram (u : PackageSource) (f : Func) : Type 0 where
+pub record IsSpecialFunction (u : PackageSource) (f : Func) : Type 0 where
   pub init : is_init f.name.text ≡ true → IsBare f.signature
   pub main : is_main u f.name.text ≡ true → IsBare f.signature
 
 -- nothing but a function is named so
-pub record IsFree (u : PackageSource) (name : Name) : Type 0 where
+pub record IsNotReserved (u : PackageSource) (name : Name) : Type 0 where
   pub init : is_init name.text ≡ false
   pub main : is_main u name.text ≡ false
 
@@ -71,8 +71,8 @@ pub record IsMethod (E : Env) (u : PackageSource) (number : ℕ) (receiver : Par
   pub type : List ℕ
   pub of : base (declarations u) receiver ≡ Some type
   pub defined : Defined
-  pub stored : E.table (record { path = u.path; name = type }) ≡ Some defined
-  pub bears : bars_methods (out-Term defined.underlying) ≡ false
+  pub entry : E.table (record { path = u.path; name = type }) ≡ Some defined
+  pub permits_methods : bars_methods (out-Term defined.underlying) ≡ false
   pub only : is_blank f.name.text ≡ false → IsOnly u number type f.name.text
   pub apart : is_blank f.name.text ≡ false → IsApart (out-Term defined.underlying) f.name.text
   pub distinct : AreDistinctNames (texts (out-ParameterDecl receiver).names ++ signature_names f.signature)
@@ -81,11 +81,11 @@ pub record IsMethod (E : Env) (u : PackageSource) (number : ℕ) (receiver : Par
 
 -- what the declaration of this number is asked by its kind
 abbrev pub FormAsks : Env → PackageSource → ℕ → Form → Type 0
-FormAsks E u number (constants s place) = Each (IsFree u) s.names
-FormAsks E u number (variables s) = Each (IsFree u) s.names × ValuesFit E s.type_ (length s.names) s.values
-FormAsks E u number (alias s) = IsFree u s.name
-FormAsks E u number (definition s) = IsFree u s.name
-FormAsks E u number (function f) = StartsProgram u f
+FormAsks E u number (constants s place) = Each (IsNotReserved u) s.names
+FormAsks E u number (variables s) = Each (IsNotReserved u) s.names × ValuesFit E s.type_ (length s.names) s.values
+FormAsks E u number (alias s) = IsNotReserved u s.name
+FormAsks E u number (definition s) = IsNotReserved u s.name
+FormAsks E u number (function f) = IsSpecialFunction u f
 FormAsks E u number (method receiver f) = IsMethod E u number receiver f
 
 -- what is asked of a declaration: also of each type and signature in it

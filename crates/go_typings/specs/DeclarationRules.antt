@@ -12,6 +12,7 @@ use Rattle.go_model.specs.declared.types.package.Entity.{Entity}
 use Rattle.go_model.specs.declared.types.package.Entity.TheVariants as entity
 use Rattle.go_model.specs.declared.types.term.Signature.{Signature}
 use Rattle.go_model.specs.declared.types.term.Term.{Term, Term-F, roll-Term}
+use Rattle.go_model.specs.types.Bounds.{IsWithinBounds}
 use Rattle.go_model.specs.types.Terms.{Layer}
 use Rattle.go_model.specs.types.Underlying.{under}
 use Rattle.go_syntax.specs.declared.declaration.ConstSpec.{ConstSpec}
@@ -25,7 +26,7 @@ use Rattle.go_syntax.specs.declared.types.Signature.{out-Signature as out-Sig}
 use Rattle.go_syntax.specs.declared.types.«Type».{«Type» as Typ}
 use Rattle.go_rules.specs.Environments.{Env}
 use Rattle.go_rules.specs.Expressions.{Has, OfSignature, OfType}
-use Rattle.go_rules.specs.Operands.{constant_of}
+use Rattle.go_rules.specs.Operands.{constant_of, function_of}
 use Rattle.go_rules.specs.Usability.{UsableAs}
 use Rattle.go_rules.specs.declared.operand.Operand.{Operand}
 use Rattle.go_typings.specs.Declarations.{Form, constants, variables, alias, definition, function, method, Declaration}
@@ -70,5 +71,5 @@ pub data Gives (E : Env) (ds : List Declaration) : Form → Entry → Type 0 whe
   gives_variables : {s : VarSpec} {os : List Operand} {ts : List Term} → s.type_ ≡ None → Initialize E (length s.names) s.values os → TypesOfValues E os ts → Gives E ds (variables s) (objects (map entity.Var ts))
   gives_alias : {s : TypeSpec} {u : Term} → OfType E s.type_ u → Gives E ds (alias s) (objects (entity.TypeOf u ∷ []))
   gives_definition : {s : TypeSpec} {u : Term} {l : Layer} → OfType E s.type_ u → under E.table u ≡ l → is_name l ≡ false → MayDefine E ds s.type_ l → Gives E ds (definition s) (underlying (roll-Term l))
-  gives_function : {f : Func} {g : Signature} → OfSignature E (out-Sig f.signature).parameters (out-Sig f.signature).result g → Gives E ds (function f) (objects (entity.Function g ∷ []))
-  gives_method : {receiver : ParameterDecl} {f : Func} {g : Signature} → OfSignature E (out-Sig f.signature).parameters (out-Sig f.signature).result g → Gives E ds (method receiver f) (signed g)
+  gives_function : {f : Func} {g : Signature} → OfSignature E (out-Sig f.signature).parameters (out-Sig f.signature).result g → IsWithinBounds (function_of g) → Gives E ds (function f) (objects (entity.Function g ∷ []))
+  gives_method : {receiver : ParameterDecl} {f : Func} {g : Signature} → OfSignature E (out-Sig f.signature).parameters (out-Sig f.signature).result g → IsWithinBounds (function_of g) → Gives E ds (method receiver f) (signed g)

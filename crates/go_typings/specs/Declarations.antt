@@ -23,7 +23,7 @@ pub data Form : Type 0 where
   -- constants, with the type and values that their spec has or repeats, and the place of the spec in its group
   constants : ConstSpec → ℕ → Form
   variables : VarSpec → Form
-  -- another name of a type
+  -- an alias, that is a name for a type
   alias : TypeSpec → Form
   -- a defined type
   definition : TypeSpec → Form

@@ -25,21 +25,21 @@ pub data IsAssertionOrReceive : Expr → Type 0 where
   is_in_parentheses : {e x : Expr} → out-Expr e ≡ Expr-F.«Expr::Paren» x → IsAssertionOrReceive x → IsAssertionOrReceive e
 
 -- the expression gives a value of this type and whether there was one
-pub data GivesTwo (E : Env) : Expr → Term → Type 0 where
-  two_of_map : {e : Expr} {t : Term} → Has E e (value_of mode.MapElement t) → GivesTwo E e t
-  two_of_value : {e : Expr} {t : Term} → IsAssertionOrReceive e → Has E e (plain t) → GivesTwo E e t
+pub data GivesValueAndTruth (E : Env) : Expr → Term → Type 0 where
+  two_of_map : {e : Expr} {t : Term} → Has E e (value_of mode.MapElement t) → GivesValueAndTruth E e t
+  two_of_value : {e : Expr} {t : Term} → IsAssertionOrReceive e → Has E e (plain t) → GivesValueAndTruth E e t
 
 -- the expressions give so many names these values
 pub data Initialize (E : Env) (n : ℕ) : List Expr → List Operand → Type 0 where
   by_each : {es : List Expr} {os : List Operand} → HasEach E es os → length es ≡ n → Initialize E n es os
   by_call : {e : Expr} {ts : List Term} → Has E e (tuple ts) → length ts ≡ n → 2 ≤ n → Initialize E n (e ∷ []) (map plain ts)
-  by_two : {e : Expr} {t : Term} → GivesTwo E e t → n ≡ 2 → Initialize E n (e ∷ []) (plain t ∷ loose untyped.BoolKind ∷ [])
+  by_two : {e : Expr} {t : Term} → GivesValueAndTruth E e t → n ≡ 2 → Initialize E n (e ∷ []) (plain t ∷ loose untyped.BoolKind ∷ [])
 
 -- the type of a variable that is given the value: the value's own, or its default type, which can hold it
 pub data TypeOfValue (E : Env) : Operand → Term → Type 0 where
   own_type : {o : Operand} {t : Term} → IsTyped o t → TypeOfValue E o t
   default_of_constant : {k : Untyped} {v : Value} → DefaultHolds E k v → TypeOfValue E (constant_of (constant.OfKind k) v) (default_type k)
-  default_of_truth : {k : Untyped} → TypeOfValue E (loose k) (default_type k)
+  default_of_truth : TypeOfValue E (loose untyped.BoolKind) (default_type untyped.BoolKind)
 
 -- the types of variables that are given the values
 pub data TypesOfValues (E : Env) : List Operand → List Term → Type 0 where

@@ -14,3 +14,4 @@ pub mod Typings
 pub mod Redeclarations
 pub mod Refusals
 pub mod TypedPackages
+pub mod PackageWorlds

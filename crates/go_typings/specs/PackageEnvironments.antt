@@ -22,7 +22,7 @@ use Rattle.go_rules.specs.Universe.{predeclared}
 use Rattle.go_rules.specs.declared.seen.Seen.{Seen}
 use Rattle.go_rules.specs.declared.seen.Seen.TheVariants as seen
 use Rattle.go_typings.specs.Assignments.{Assignment}
-use Rattle.go_typings.specs.Declarations.{Form, constants, definition, Declaration, Declared, declared, declarations}
+use Rattle.go_typings.specs.Declarations.{Form, constants, definition, Declaration, Declared, declared, declarations, is_init}
 use Rattle.go_typings.specs.Receivers.{DeclaredMethod, methods}
 use Rattle.go_typings.specs.Sources.{Import, PackageSource, Setting, import_name, imports_of}
 
@@ -82,9 +82,13 @@ abbrev pub path_in : Option Import → Option (List ℕ)
 path_in None = None
 path_in (Some i) = Some i.path
 
+-- the import that a name means in a file: `init` means none
+abbrev pub import_of : PackageSource → ℕ → List ℕ → Option Import
+import_of u file name = if is_init name then None else first_with import_name (imports_of u file) name
+
 -- what a name means in a file: the import of this name, else what it means in the package, else in the universe
 abbrev pub meaning_of : PackageSource → Entries → ℕ → List ℕ → Option Seen
-meaning_of u a file name = option_or (as_import (path_in (first_with import_name (imports_of u file) name))) (meaning_at u.path a name (declared (declarations u) name))
+meaning_of u a file name = option_or (as_import (path_in (import_of u file name))) (meaning_at u.path a name (declared (declarations u) name))
 
 -- ---- defined types
 

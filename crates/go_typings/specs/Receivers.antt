@@ -60,24 +60,24 @@ next_or q None further = q
 next_or q (Some next) further = further next
 
 -- the name that a type's name is after so many aliases of the package
-unfoldable pub after : List Declaration → ℕ → QualifiedName → QualifiedName
-after ds zero q = q
-after ds (suc n) q = next_or q (own_aliased ds q.qualifier q.name) (after ds n)
+unfoldable pub unaliased : List Declaration → ℕ → QualifiedName → QualifiedName
+unaliased ds zero q = q
+unaliased ds (suc n) q = next_or q (own_aliased ds q.qualifier q.name) (unaliased ds n)
 
 -- the name that a type's name is after the aliases of the package
 abbrev pub after_aliases : List Declaration → QualifiedName → QualifiedName
-after_aliases ds q = after ds (length ds) q
+after_aliases ds q = unaliased ds (length ds) q
 
 -- ---- the defined type that a method is declared for
 
-abbrev pub defined_by : Form → Option (List ℕ)
-defined_by (definition s) = Some s.name.text
-defined_by f = None
+abbrev pub definition_name : Form → Option (List ℕ)
+definition_name (definition s) = Some s.name.text
+definition_name f = None
 
 -- the defined type of the package that a name stands for
 abbrev pub defined_name : Option Declared → Option (List ℕ)
 defined_name None = None
-defined_name (Some d) = defined_by d.form
+defined_name (Some d) = definition_name d.form
 
 abbrev pub own_definition : List Declaration → Option Name → Name → Option (List ℕ)
 own_definition ds None name = defined_name (declared ds name.text)

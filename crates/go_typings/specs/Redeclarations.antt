@@ -1,6 +1,6 @@
 -- Names that are declared twice.
--- Public source: Go specification, "Declarations and scope", "Import declarations", "Method declarations" and
--- "Blank identifier". That a used import alone counts is own.
+-- Public source: Go specification, "Declarations and scope", "Uniqueness of identifiers", "Import declarations",
+-- "Method declarations" and "Blank identifier". That a used import alone counts is own.
 use Rattle.std.specs.Prelude.{◌≡◌, ◌≢◌, ◌<◌, ℕ, suc, false, if◌then◌else◌, List, [], ◌∷◌, ◌++◌, Option, None, Some, slice_get}
 use Rattle.go_base.specs.Gathered.{gather}
 use Rattle.go_syntax.specs.declared.name.Name.{Name}
@@ -54,11 +54,11 @@ abbrev pub sites_from : ℕ → List SourceFile → List Site
 sites_from file [] = []
 sites_from file (f ∷ fs) = file_sites file f ++ sites_from (suc file) fs
 
--- the names that a package declares, in the order of their places
+-- the names that a package declares, in the order of the lists: file by file, and in each the imports before the declarations
 abbrev pub sites : PackageSource → List Site
 sites u = sites_from 0 u.files
 
--- a name can't be declared as both; functions `init` may be several, and an import may have no name
+-- one name can't be declared in both roles; but several functions may be named `init`, and several imports have no name
 abbrev pub Collide : List ℕ → Role → Role → Type 0
 Collide name (of_import file) (of_import other) = (file ≡ other) × (name ≢ [])
 Collide name (of_import file) of_package = name ≢ []
@@ -79,7 +79,7 @@ pub record IsLater (ss : List Site) (n : ℕ) (s : Site) : Type 0 where
   pub stands : slice_get ss earlier ≡ Some site
   pub clash : Clash site s
 
--- the first name that was declared before stands at this place
+-- the first name, in the order of the lists, that was declared before stands at this place
 pub record IsRedeclared (u : PackageSource) (p : Place) : Type 0 where
   pub number : ℕ
   pub site : Site

@@ -32,8 +32,8 @@ use Rattle.go_typings.specs.Sources.{PackageSource, Setting}
 -- ---- the declarations of names
 
 -- the name is that of the declaration of this number
-abbrev pub Names : PackageSource → Name → ℕ → Type 0
-Names u name n = (d : Declared) × (declared (declarations u) name.text ≡ Some d) × (d.number ≡ n)
+abbrev pub IsDeclaredAs : PackageSource → Name → ℕ → Type 0
+IsDeclaredAs u name n = (d : Declared) × (declared (declarations u) name.text ≡ Some d) × (d.number ≡ n)
 
 -- a type has the method that is declared by the declaration of this number
 abbrev pub HasDeclared : PackageSource → List ℕ → ℕ → Type 0
@@ -43,10 +43,10 @@ abbrev pub HasMethods : PackageSource → Form → ℕ → Type 0
 HasMethods u (definition s) n = HasDeclared u s.name.text n
 HasMethods u f n = ⊥
 
--- a declaration refers to those of the names in it, and a defined type to all its methods
-pub data RefersTo (u : PackageSource) (f : Form) (n : ℕ) : Type 0 where
-  by_name : (r : Reference) → Has (references f) r → Names u r.name n → RefersTo u f n
-  to_method : HasMethods u f n → RefersTo u f n
+-- a declaration depends on those of the names in it, and a defined type on all its methods
+pub data DependsOn (u : PackageSource) (f : Form) (n : ℕ) : Type 0 where
+  by_name : (r : Reference) → Has (references f) r → IsDeclaredAs u r.name n → DependsOn u f n
+  to_method : HasMethods u f n → DependsOn u f n
 
 -- ---- keys of struct literals
 
@@ -63,10 +63,10 @@ pub data IsOmitted (E : Env) : Term → Term → Type 0 where
 
 -- a composite literal of this type with these elements stands in the tree
 pub data HasLiteral (E : Env) (at : Node) : Term → List Element → Type 0 where
-  literal : {e : Expr} {t : Typ} {xs : List Element} {u : Term} → Stands at (expression e) → out-Expr e ≡ Expr-F.Composite t xs → OfType E t u → HasLiteral E at u xs
-  literal_array : {e : Expr} {t : Typ} {xs : List Element} {u : Term} (n : ℕ) → Stands at (expression e) → out-Expr e ≡ Expr-F.CompositeArray t xs → OfType E t u → HasLiteral E at (array_of n u) xs
-  literal_key : {t k e u : Term} {xs ys : List Element} {v : ElementValue} (x : Element) → HasLiteral E at t xs → Has xs x → (out-Element x).key ≡ Some v → out-ElementValue v ≡ ElementValue-F.«ElementValue::Literal» ys → under E.table t ≡ Term-F.Map k e → IsOmitted E k u → HasLiteral E at u ys
-  literal_value : {t e u : Term} {xs ys : List Element} (x : Element) → HasLiteral E at t xs → Has xs x → out-ElementValue (out-Element x).value ≡ ElementValue-F.«ElementValue::Literal» ys → HoldsValues E t e → IsOmitted E e u → HasLiteral E at u ys
+  literal : {e : Expr} {t : Typ} {xs : List Element} {v : Term} → Stands at (expression e) → out-Expr e ≡ Expr-F.Composite t xs → OfType E t v → HasLiteral E at v xs
+  literal_array : {e : Expr} {t : Typ} {xs : List Element} {v : Term} (n : ℕ) → Stands at (expression e) → out-Expr e ≡ Expr-F.CompositeArray t xs → OfType E t v → HasLiteral E at (array_of n v) xs
+  literal_key : {t k e v : Term} {xs ys : List Element} {key : ElementValue} (x : Element) → HasLiteral E at t xs → Has xs x → (out-Element x).key ≡ Some key → out-ElementValue key ≡ ElementValue-F.«ElementValue::Literal» ys → under E.table t ≡ Term-F.Map k e → IsOmitted E k v → HasLiteral E at v ys
+  literal_value : {t e v : Term} {xs ys : List Element} (x : Element) → HasLiteral E at t xs → Has xs x → out-ElementValue (out-Element x).value ≡ ElementValue-F.«ElementValue::Literal» ys → HoldsValues E t e → IsOmitted E e v → HasLiteral E at v ys
 
 -- the name is a key of a struct's literal in the tree: that of a field
 pub record IsFieldKey (E : Env) (at : Node) (name : Name) : Type 0 where
@@ -80,11 +80,11 @@ pub record IsFieldKey (E : Env) (at : Node) (name : Name) : Type 0 where
   pub key : HasFieldKey element name
 
 -- one of the references names the declaration of this number, and not a field
-pub record Refers (E : Env) (u : PackageSource) (f : Form) (rs : List Reference) (n : ℕ) : Type 0 where
+pub record NamesDeclaration (E : Env) (u : PackageSource) (f : Form) (rs : List Reference) (n : ℕ) : Type 0 where
   pub reference : Reference
   pub has : Has rs reference
-  pub names : Names u reference.name n
-  pub counts : (at : Node) → Has (nodes f) at → IsFieldKey E at reference.name → ⊥
+  pub names : IsDeclaredAs u reference.name n
+  pub counts : reference.is_key ≡ true → (at : Node) → Has (nodes f) at → IsFieldKey E at reference.name → ⊥
 
 -- ---- methods that are found
 
@@ -128,13 +128,13 @@ module _ (s : Setting) (u : PackageSource) (a : Entries) where
   -- zero or more steps lead from the one declaration to the other: by names, and by methods that are found
   pub data LeadsTo : ℕ → ℕ → Type 0 where
     leads_here : {m : ℕ} → LeadsTo m m
-    leads_by_name : {k n : ℕ} (m : ℕ) → At (declarations u) k (λ d. Refers (environment s u a d) u d.form (references d.form) m) → LeadsTo m n → LeadsTo k n
+    leads_by_name : {k n : ℕ} (m : ℕ) → At (declarations u) k (λ d. NamesDeclaration (environment s u a d) u d.form (references d.form) m) → LeadsTo m n → LeadsTo k n
     leads_by_method : {k n : ℕ} (m : ℕ) → At (declarations u) k (λ d. FindsMethod (environment s u a d) u d.form m) → LeadsTo m n → LeadsTo k n
 
   -- no name in the length of an array leads back to the declaration of a type, function or method in which it stands
   abbrev pub NoLengthLeadsBack : (ℕ → Bool) → Type 0
-  NoLengthLeadsBack within = (m n : ℕ) → within m ≡ true → At (declarations u) m (λ d. Refers (environment s u a d) u d.form (length_references d.form) n) → LeadsTo n m → ⊥
+  NoLengthLeadsBack within = (m n : ℕ) → within m ≡ true → At (declarations u) m (λ d. NamesDeclaration (environment s u a d) u d.form (length_references d.form) n) → LeadsTo n m → ⊥
 
   -- a number for each declaration that falls along its strong references
   abbrev pub Falls : (ℕ → Bool) → (ℕ → ℕ) → Type 0
-  Falls within rank = (m n : ℕ) → within m ≡ true → At (declarations u) m (λ d. Refers (environment s u a d) u d.form (strong_references d.form) n) → rank n < rank m
+  Falls within rank = (m n : ℕ) → within m ≡ true → At (declarations u) m (λ d. NamesDeclaration (environment s u a d) u d.form (strong_references d.form) n) → rank n < rank m

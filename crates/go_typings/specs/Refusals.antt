@@ -27,7 +27,7 @@ abbrev pub imports_from : ℕ → List SourceFile → List (ℕ × Import)
 imports_from file [] = []
 imports_from file (f ∷ fs) = map (import_at file) f.imports ++ imports_from (suc file) fs
 
--- the first of the imports, each beside its file, that isn't found
+-- the first of the imports in the order of the list, each beside its file, that isn't found
 pub data IsFirstMissing : List (ℕ × Import) → Place → Type 0 where
   missing_here : {file : ℕ} {i : Import} {is : List (ℕ × Import)} → i.is_found ≡ false → IsFirstMissing ((file, i) ∷ is) (record { file = file; offset = i.place })
   missing_later : {file : ℕ} {i : Import} {is : List (ℕ × Import)} {p : Place} → i.is_found ≡ true → IsFirstMissing is p → IsFirstMissing ((file, i) ∷ is) p

@@ -1,4 +1,5 @@
--- A package as it is written: its files in the order of their names, each with the imports that it uses and its declarations.
+-- A package as it is written: its files in the order of their names, each with the imports that it uses and its declarations, both in the
+-- order of their places. All that is said to be first is so by the order of these lists.
 -- Public source: Go specification, "Source file organization" and "Import declarations". That an import need not be found
 -- is own.
 use Rattle.std.specs.Prelude.{◌≡◌, ℕ, Bool, true, List, [], Option, None, Some, slice_get}
@@ -6,8 +7,8 @@ use Rattle.go_base.specs.Lists.{Has}
 use Rattle.go_model.specs.worlds.Worlds.{Packages}
 use Rattle.go_syntax.specs.declared.declaration.Decl.{Decl}
 
--- an import that a file uses: its name in the file, the path, whether a package is found there, and the byte offset of the
--- path's first quote
+-- an import that a file uses: its name in the file, the path, whether a package is found there, typed or not, and the byte offset of
+-- the path's first quote
 pub record Import : Type 0 where
   pub name : List ℕ
   pub path : List ℕ

@@ -7,7 +7,7 @@ use Rattle.go_typings.specs.DeclarationAsks.{Asks}
 use Rattle.go_typings.specs.DeclarationRules.{Gives}
 use Rattle.go_typings.specs.Declarations.{Declaration, declarations}
 use Rattle.go_typings.specs.PackageEnvironments.{Entries, Entry, environment}
-use Rattle.go_typings.specs.References.{Falls, NoLengthLeadsBack, RefersTo}
+use Rattle.go_typings.specs.References.{Falls, NoLengthLeadsBack, DependsOn}
 use Rattle.go_typings.specs.Sources.{PackageSource, Setting}
 
 module _ (s : Setting) (u : PackageSource) where
@@ -19,7 +19,7 @@ module _ (s : Setting) (u : PackageSource) where
   pub record Typing (within : ℕ → Bool) (a : Entries) : Type 0 where
     -- the entry of each is given under those that stand before it in an order
     pub had : Below given (declarations u) within a
-    -- what else each is asked holds once all entries are had
+    -- once all entries are had, each declaration meets what it is asked besides
     pub asks : (n : ℕ) → within n ≡ true → At (declarations u) n (λ d. Asks (environment s u a d) u n d.form)
     -- what has to be settled first is of a lower rank
     pub rank : ℕ → ℕ
@@ -31,9 +31,9 @@ module _ (s : Setting) (u : PackageSource) where
   abbrev pub IsTyping : Entries → Type 0
   IsTyping a = Typing (all_of (declarations u)) a
 
-  -- a set of declarations holds all that its members refer to
+  -- a set of declarations holds all that its members depend on
   abbrev pub IsClosed : (ℕ → Bool) → Type 0
-  IsClosed within = (m n : ℕ) → within m ≡ true → At (declarations u) m (λ d. RefersTo u d.form n) → within n ≡ true
+  IsClosed within = (m n : ℕ) → within m ≡ true → At (declarations u) m (λ d. DependsOn u d.form n) → within n ≡ true
 
   -- a declaration stands in a closed set that has a typing
   pub record IsSound (n : ℕ) : Type 0 where
