@@ -9,12 +9,11 @@ use Rattle.std.proofs.lemmas.List.{take-append-drop}
 use Rattle.go_base.specs.Lists.{Has, Each, Before}
 use Rattle.go_base.proofs.Members.{has_split}
 use Rattle.go_base.proofs.Ordered.{Narrowed}
+use Rattle.go_imports.proofs.GrowingSets.{order, texts_tie}
+use Rattle.go_imports.proofs.Members.{has_at, below_or, get_or_same}
 use Rattle.go_units.specs.Folders.{no_folder, folder_of, path_of, AreOrdered}
-use Rattle.go_units.specs.inner.Answers.{FindsOne}
-use Rattle.go_units.specs.inner.FolderPlaces.{IsAt}
+use Rattle.go_units.specs.inner.FolderPlaces.{FindsOne, IsAt}
 use Rattle.go_units.specs.declared.folder.Folder.{Folder}
-use Rattle.go_units.proofs.GrowingSets.{order, texts_tie}
-use Rattle.go_units.proofs.Members.{has_at, below_or, get_or_same}
 
 itself : (path : List ℕ) → order path path ≡ Equal
 itself path = tied_itself nat_list_cmp_total path

@@ -3,8 +3,8 @@ use Rattle.std.proofs.Common.{◌≡◌, ◌⊎◌, ℕ, ◌+◌, ◌<◌, ◌�
 use Rattle.std.proofs.lemmas.List.{take_more, reverse-append, reverse-reverse, append-nil}
 use Rattle.go_base.specs.Lists.{Has}
 use Rattle.go_base.proofs.Lists.{take_past}
-use Rattle.go_units.specs.Gives.{Gives, none, next, optional}
-use Rattle.go_units.proofs.Members.{has_left, has_back}
+use Rattle.go_imports.specs.Gives.{Gives, none, next, optional}
+use Rattle.go_imports.proofs.Members.{has_left, has_back}
 
 module _ {A B : Type 0} (R : A → Option B → Type 0) where
   pub gives_first : (xs : List A) (ys : List B) → ys ≡ [] → Gives R (take 0 xs) ys

@@ -2,12 +2,12 @@
 use Rattle.std.proofs.Common.{◌≡◌, ℕ, zero, suc, ◌+◌, ◌<◌, ◌≤◌, Bool, List, [], ◌∷◌, ◌++◌, length, refl, sym, ap, ◌∙◌, subst, inl, inr, arith, length-append}
 use Rattle.go_base.specs.Lists.{Has}
 use Rattle.go_base.specs.Growing.{Grows}
-use Rattle.go_units.specs.Orders.{IsGraph, needs_of}
-use Rattle.go_units.specs.Reached.{Slots}
+use Rattle.go_imports.specs.Orders.{IsGraph, needs_of}
+use Rattle.go_imports.proofs.Members.{below_or, has_back, has_left, has_last}
+use Rattle.go_units.specs.Reached.{ReadFolders}
 use Rattle.go_units.specs.UnitsOfModules.{packages_in, AreNeeds}
 use Rattle.go_units.specs.inner.UnitMaking.{NeedsBy}
 use Rattle.go_units.specs.declared.folder.Folder.{Folder}
-use Rattle.go_units.proofs.Members.{below_or, has_back, has_left, has_last}
 use Rattle.go_units.proofs.WalkedFiles.{slot_within}
 
 pub grows_pushed : (old new : List ℕ) (n : ℕ) → new ≡ old ++ n ∷ [] → Grows (λ m. n ≡ m) old new
@@ -32,7 +32,7 @@ row_past [] (suc n) h = refl
 row_past (r ∷ rows) zero h = absurd (omega (arith, h))
 row_past (r ∷ rows) (suc n) h = row_past rows n (omega (arith, h))
 
-module _ (module_path : List ℕ) (folders : List Folder) (slots : Slots) where
+module _ (module_path : List ℕ) (folders : List Folder) (slots : ReadFolders) where
   abbrev packages : List Bool
   packages = packages_in slots
 

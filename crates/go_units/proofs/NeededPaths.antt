@@ -4,10 +4,10 @@ use mathlib.Core.Bool.{true≢false}
 use Rattle.std.specs.BTreeSet.{insert_key}
 use Rattle.go_base.specs.Lists.{Has}
 use Rattle.go_base.specs.Growing.{Grows}
+use Rattle.go_imports.proofs.GrowingSets.{order, texts_tie, grows_inserted}
 use Rattle.go_units.specs.UnitFacts.{with_import, with_imports, with_files, needed_by}
 use Rattle.go_units.specs.declared.unit.UnitFile.{UnitFile}
 use Rattle.go_units.specs.declared.unit.UsedImport.{UsedImport}
-use Rattle.go_units.proofs.GrowingSets.{order, texts_tie, grows_inserted}
 
 abbrev pub IsNeededImport : UsedImport → List ℕ → Type 0
 IsNeededImport i path = (i.found ≡ true) × (i.path ≡ path)

@@ -3,9 +3,9 @@ use Rattle.std.proofs.Common.{◌≡◌, ℕ, zero, suc, ◌+◌, ◌<◌, ◌�
 use Rattle.std.proofs.lemmas.List.{take_more}
 use Rattle.go_base.specs.Lists.{Has, Once}
 use Rattle.go_base.proofs.Lists.{take_past}
-use Rattle.go_units.specs.Orders.{IsOrder, none, next, IsNext}
-use Rattle.go_units.proofs.Members.{has_back, below_or}
-use Rattle.go_units.proofs.Pigeonholes.{short, once_last}
+use Rattle.go_imports.specs.Orders.{IsOrder, none, next, IsNext}
+use Rattle.go_imports.proofs.Members.{has_back, below_or}
+use Rattle.go_imports.proofs.Pigeonholes.{short, once_last}
 
 head_same : (x y : ℕ) (xs ys : List ℕ) → x ∷ xs ≡ y ∷ ys → (x ≡ y) × (xs ≡ ys)
 head_same x y xs ys e = (cc, cc)

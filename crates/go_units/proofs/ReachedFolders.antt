@@ -4,17 +4,17 @@ use mathlib.Core.Bool.{true≢false}
 use Rattle.std.proofs.lemmas.List.{length-set, get_or-set_same, get_or-set_other}
 use Rattle.go_base.specs.Lists.{Has}
 use Rattle.go_base.specs.Growing.{Grows}
+use Rattle.go_imports.specs.declared.package_files.SourceFile.{SourceFile}
+use Rattle.go_imports.proofs.Members.{same_or, below_or}
 use Rattle.go_units.specs.Folders.{AsksFor}
-use Rattle.go_units.specs.Reached.{Slots, slot, IsFresh, is_std, IsAsked, FilesAsk, IsNext, Walked, start, next, Stops, AreUnsound, IsWhole}
-use Rattle.go_units.specs.inner.Reaching.{AsksNew, FilesAskNew, HasModule, HasModuleTo, GivesSound, Reaching, ReachCause}
+use Rattle.go_units.specs.Reached.{ReadFolders, slot, IsFresh, is_std, IsAsked, FilesAsk, IsNextFolder, Walked, start, next, IsRefusedFor, AreRefused, AllAreRead}
+use Rattle.go_units.specs.inner.Reaching.{AsksNew, FilesAskNew, HasModule, HasModuleTo, GivesAccepted, Reaching, ReachCause}
 use Rattle.go_units.specs.declared.folder.Folder.{Folder}
-use Rattle.go_units.specs.declared.package_files.SourceFile.{SourceFile}
 use Rattle.go_units.specs.declared.package_uses.PackageFile.{PackageFile}
 use Rattle.go_units.specs.declared.reader.Reading.{Reading}
 use Rattle.go_units.specs.declared.reader.Reading.TheVariants as reading
 use Rattle.go_units.specs.declared.unit_error.UnitError.{UnitError}
 use Rattle.go_units.specs.declared.unit_error.UnitError.TheVariants as error
-use Rattle.go_units.proofs.Members.{same_or, below_or}
 
 none_or : {A : Type 0} (o : Option A) → (o ≡ None) ⊎ ((x : A) × (o ≡ Some x))
 none_or None = inl refl
@@ -28,8 +28,8 @@ bool_or true = inl refl
 bool_or false = inr refl
 
 -- one slot is filled
-module _ (slots : Slots) (n : ℕ) (files : List PackageFile) where
-  abbrev filled : Slots
+module _ (slots : ReadFolders) (n : ℕ) (files : List PackageFile) where
+  abbrev filled : ReadFolders
   filled = set slots n (Some files)
 
   pub filled_here : n < length slots → slot filled n ≡ Some files
@@ -49,23 +49,23 @@ module _ (slots : Slots) (n : ℕ) (files : List PackageFile) where
   was_fresh h m f = sym (filled_other m (fresh_other h m f)) ∙ f
 
 module _ (module_path : List ℕ) (folders : List Folder) where
-  asks_any : (slots : Slots) (from_std : Bool) (files : List PackageFile) (m : ℕ) → FilesAskNew module_path folders slots from_std files m → FilesAsk module_path folders from_std files m × IsFresh slots m
+  asks_any : (slots : ReadFolders) (from_std : Bool) (files : List PackageFile) (m : ℕ) → FilesAskNew module_path folders slots from_std files m → FilesAsk module_path folders from_std files m × IsFresh slots m
   asks_any slots from_std files m p = ((p.0, p.1, (p.2.0, p.2.1, p.2.2.0)), p.2.2.1)
 
-  asks_new : (slots : Slots) (from_std : Bool) (files : List PackageFile) (m : ℕ) → IsFresh slots m → FilesAsk module_path folders from_std files m → FilesAskNew module_path folders slots from_std files m
+  asks_new : (slots : ReadFolders) (from_std : Bool) (files : List PackageFile) (m : ℕ) → IsFresh slots m → FilesAsk module_path folders from_std files m → FilesAskNew module_path folders slots from_std files m
   asks_new slots from_std files m f p = (p.0, p.1, (p.2.0, p.2.1, (p.2.2, f)))
 
-  asks_of : (slots : Slots) (m : ℕ) (p : IsAsked module_path folders slots m) → AsksFor module_path folders (is_std folders p.0) p.3.2.0.path m
+  asks_of : (slots : ReadFolders) (m : ℕ) (p : IsAsked module_path folders slots m) → AsksFor module_path folders (is_std folders p.0) p.3.2.0.path m
   asks_of slots m p = p.3.2.2
 
-  pub asked_within : (slots : Slots) (m : ℕ) → IsAsked module_path folders slots m → m < length folders
+  pub asked_within : (slots : ReadFolders) (m : ℕ) → IsAsked module_path folders slots m → m < length folders
   asked_within slots m p = (asks_of slots m p).names.within
 
-  asked_std : (slots : Slots) (m : ℕ) → IsAsked module_path folders slots m → is_std folders m ≡ true
-  asked_std slots m p = (asks_of slots m p).stands
+  asked_std : (slots : ReadFolders) (m : ℕ) → IsAsked module_path folders slots m → is_std folders m ≡ true
+  asked_std slots m p = (asks_of slots m p).side
 
   -- a folder of the module is next
-  pub own_next : (slots : Slots) (n : ℕ) → n < length folders → is_std folders n ≡ false → HasModuleTo folders slots n → IsNext module_path folders slots n
+  pub own_next : (slots : ReadFolders) (n : ℕ) → n < length folders → is_std folders n ≡ false → HasModuleTo folders slots n → IsNextFolder module_path folders slots n
   own_next slots n h own to = record {
     wanted = record { within = h; why = inl own };
     fresh = elim (none_or (slot slots n)) [ inl e ↦ e | inr p ↦ absurd (let k : n < n = to.1 n (λ f. not_both p.0 (slot slots n) f p.1) in omega arith) ];
@@ -75,7 +75,7 @@ module _ (module_path : List ℕ) (folders : List Folder) where
     ];
   }
 
-  pub own_to : (slots : Slots) (n : ℕ) (files : List PackageFile) → n < length slots → HasModuleTo folders slots n → HasModuleTo folders (set slots n (Some files)) (n + 1)
+  pub own_to : (slots : ReadFolders) (n : ℕ) (files : List PackageFile) → n < length slots → HasModuleTo folders slots n → HasModuleTo folders (set slots n (Some files)) (n + 1)
   own_to slots n files h to = (
     λ m less own f. to.0 m (let d = fresh_other slots n files h m f in elim (below_or m n) [ inl l ↦ l | inr g ↦ absurd (d (omega (arith, less, g))) ]) own (was_fresh slots n files h m f),
     λ m held. elim (same_or m n) [
@@ -84,23 +84,23 @@ module _ (module_path : List ℕ) (folders : List Folder) where
     ],
   )
 
-  pub other_to : (slots : Slots) (n : ℕ) → is_std folders n ≡ true → HasModuleTo folders slots n → HasModuleTo folders slots (n + 1)
+  pub other_to : (slots : ReadFolders) (n : ℕ) → is_std folders n ≡ true → HasModuleTo folders slots n → HasModuleTo folders slots (n + 1)
   other_to slots n std to = (
     λ m less own f. elim (below_or m n) [ inl l ↦ to.0 m l own f | inr g ↦ absurd (true≢false (sym std ∙ ap (is_std folders) (let e : n ≡ m = omega (arith, less, g) in e) ∙ own)) ],
     λ m held. let l = to.1 m held in omega (arith, l),
   )
 
-  pub all_to : (slots : Slots) (n : ℕ) → length folders ≤ n → HasModuleTo folders slots n → HasModule folders slots
+  pub all_to : (slots : ReadFolders) (n : ℕ) → length folders ≤ n → HasModuleTo folders slots n → HasModule folders slots
   all_to slots n h to m within own f = to.0 m (omega (arith, h, within)) own f
 
-  pub none_to : (slots : Slots) → ((n : ℕ) → IsFresh slots n) → HasModuleTo folders slots 0
+  pub none_to : (slots : ReadFolders) → ((n : ℕ) → IsFresh slots n) → HasModuleTo folders slots 0
   none_to slots fresh = (λ m less own f. absurd (omega (arith, less)), λ m held. absurd (held (fresh m)))
 
-  pub still_module : (slots : Slots) (n : ℕ) (files : List PackageFile) → n < length slots → HasModule folders slots → HasModule folders (set slots n (Some files))
+  pub still_module : (slots : ReadFolders) (n : ℕ) (files : List PackageFile) → n < length slots → HasModule folders slots → HasModule folders (set slots n (Some files))
   still_module slots n files h all m within own f = all m within own (was_fresh slots n files h m f)
 
   module _ (gives : ℕ → Reading → Type 0) where
-    pub reaching_first : (slots : Slots) (pending : List ℕ) → length slots ≡ length folders → ((n : ℕ) → IsFresh slots n) → pending ≡ [] → Reaching module_path folders gives slots pending (λ m. ⊥)
+    pub reaching_first : (slots : ReadFolders) (pending : List ℕ) → length slots ≡ length folders → ((n : ℕ) → IsFresh slots n) → pending ≡ [] → Reaching module_path folders gives slots pending (λ m. ⊥)
     reaching_first slots pending rows fresh e = record {
       walked = start rows fresh;
       rows = rows;
@@ -108,7 +108,7 @@ module _ (module_path : List ℕ) (folders : List Folder) where
       cover = λ m asked f. absurd (not_both asked.1 (slot slots asked.0) (fresh asked.0) asked.2);
     }
 
-    pub reaching_as : (slots : Slots) (pending : List ℕ) (left left2 : ℕ → Type 0) → ((m : ℕ) → left m → left2 m) → Reaching module_path folders gives slots pending left → Reaching module_path folders gives slots pending left2
+    pub reaching_as : (slots : ReadFolders) (pending : List ℕ) (left left2 : ℕ → Type 0) → ((m : ℕ) → left m → left2 m) → Reaching module_path folders gives slots pending left → Reaching module_path folders gives slots pending left2
     reaching_as slots pending left left2 to r = record {
       walked = r.walked;
       rows = r.rows;
@@ -116,11 +116,11 @@ module _ (module_path : List ℕ) (folders : List Folder) where
       cover = λ m asked f. elim (r.cover m asked f) [ inl h ↦ inl h | inr l ↦ inr (to m l) ];
     }
 
-    module _ (slots : Slots) (n : ℕ) (files : List PackageFile) (pending pending2 : List ℕ) (is : IsNext module_path folders slots n) (apart : (m : ℕ) → Has pending m → m ≢ n) (r : Reaching module_path folders gives slots pending (λ m. m ≡ n)) where
+    module _ (slots : ReadFolders) (n : ℕ) (files : List PackageFile) (pending pending2 : List ℕ) (is : IsNextFolder module_path folders slots n) (apart : (m : ℕ) → Has pending m → m ≢ n) (r : Reaching module_path folders gives slots pending (λ m. m ≡ n)) where
       within : n < length slots
       within = omega (arith, r.rows, is.wanted.within)
 
-      abbrev new : Slots
+      abbrev new : ReadFolders
       new = set slots n (Some files)
 
       asked_on : (m : ℕ) → IsAsked module_path folders slots m → IsAsked module_path folders new m
@@ -138,7 +138,7 @@ module _ (module_path : List ℕ) (folders : List Folder) where
         | inr d ↦ inl (p.0, p.1, sym (filled_other slots n files p.0 d) ∙ p.2, p.3)
       ]
 
-      pub advanced : GivesSound module_path folders gives n files → Grows (AsksNew module_path folders new n) pending pending2 → Reaching module_path folders gives new pending2 (λ m. ⊥)
+      pub advanced : GivesAccepted module_path folders gives n files → Grows (AsksNew module_path folders new n) pending pending2 → Reaching module_path folders gives new pending2 (λ m. ⊥)
       advanced g grows = record {
         walked = next r.walked is g.1 g.2;
         rows = length-set slots n (Some files) ∙ r.rows;
@@ -153,7 +153,7 @@ module _ (module_path : List ℕ) (folders : List Folder) where
       }
 
     -- the least folder for which an import asks is next, once the module is read
-    pub asked_next : (slots : Slots) (n : ℕ) (rest : List ℕ) → HasModule folders slots → ((m : ℕ) → Has rest m → n < m) → Reaching module_path folders gives slots (n ∷ rest) (λ m. ⊥) → IsNext module_path folders slots n
+    pub asked_next : (slots : ReadFolders) (n : ℕ) (rest : List ℕ) → HasModule folders slots → ((m : ℕ) → Has rest m → n < m) → Reaching module_path folders gives slots (n ∷ rest) (λ m. ⊥) → IsNextFolder module_path folders slots n
     asked_next slots n rest all above r =
         let here = r.sound n (inl refl) in
         record {
@@ -169,7 +169,7 @@ module _ (module_path : List ℕ) (folders : List Folder) where
     pub asked_apart : (n : ℕ) (rest : List ℕ) → ((m : ℕ) → Has rest m → n < m) → (m : ℕ) → Has rest m → m ≢ n
     asked_apart n rest above m h e = let l = above m h in absurd (omega (arith, l, e))
 
-    pub asked_left : (slots : Slots) (n : ℕ) (rest : List ℕ) → Reaching module_path folders gives slots (n ∷ rest) (λ m. ⊥) → Reaching module_path folders gives slots rest (λ m. m ≡ n)
+    pub asked_left : (slots : ReadFolders) (n : ℕ) (rest : List ℕ) → Reaching module_path folders gives slots (n ∷ rest) (λ m. ⊥) → Reaching module_path folders gives slots rest (λ m. m ≡ n)
     asked_left slots n rest r = record {
       walked = r.walked;
       rows = r.rows;
@@ -178,10 +178,10 @@ module _ (module_path : List ℕ) (folders : List Folder) where
     }
 
     -- a folder of the module isn't pending
-    pub own_apart : (slots : Slots) (n : ℕ) (pending : List ℕ) → is_std folders n ≡ false → Reaching module_path folders gives slots pending (λ m. ⊥) → (m : ℕ) → Has pending m → m ≢ n
+    pub own_apart : (slots : ReadFolders) (n : ℕ) (pending : List ℕ) → is_std folders n ≡ false → Reaching module_path folders gives slots pending (λ m. ⊥) → (m : ℕ) → Has pending m → m ≢ n
     own_apart slots n pending own r m h e = absurd (true≢false (sym (asked_std slots m (r.sound m h).0) ∙ ap (is_std folders) e ∙ own))
 
-    pub all_read : (slots : Slots) (pending : List ℕ) → pending ≡ [] → HasModule folders slots → Reaching module_path folders gives slots pending (λ m. ⊥) → IsWhole module_path folders gives slots
+    pub all_read : (slots : ReadFolders) (pending : List ℕ) → pending ≡ [] → HasModule folders slots → Reaching module_path folders gives slots pending (λ m. ⊥) → AllAreRead module_path folders gives slots
     all_read slots pending e all r = record {
       walked = r.walked;
       all = λ m w f. elim w.why [
@@ -191,16 +191,16 @@ module _ (module_path : List ℕ) (folders : List Folder) where
     }
 
     -- the folder that is next is the first that is refused
-    pub first_refused : (slots : Slots) (n : ℕ) (e : UnitError) → Walked module_path folders gives slots → IsNext module_path folders slots n → Stops module_path folders gives n e → ReachCause module_path folders gives e
+    pub first_refused : (slots : ReadFolders) (n : ℕ) (e : UnitError) → Walked module_path folders gives slots → IsNextFolder module_path folders slots n → IsRefusedFor module_path folders gives n e → ReachCause module_path folders gives e
     first_refused slots n (error.File at fault) w is s = (slots, w, n, is, s)
     first_refused slots n (error.MixedNames path) w is s = (slots, w, n, is, s)
     first_refused slots n (error.InternalUse at place) w is s = (slots, w, n, is, s)
     first_refused slots n (error.Cycle path) w is s = absurd s
     first_refused slots n error.NoMemory w is s = tt
 
-    pub stops_of : (n : ℕ) (sources : List SourceFile) (e : UnitError) → gives n (reading.Files sources) → AreUnsound module_path folders n sources e → Stops module_path folders gives n e
-    stops_of n sources (error.File at fault) g u = absurd u
-    stops_of n sources (error.MixedNames path) g u = (sources, g, u)
-    stops_of n sources (error.InternalUse at place) g u = (sources, g, u)
-    stops_of n sources (error.Cycle path) g u = absurd u
-    stops_of n sources error.NoMemory g u = tt
+    pub refusal_of : (n : ℕ) (sources : List SourceFile) (e : UnitError) → gives n (reading.Files sources) → AreRefused module_path folders n sources e → IsRefusedFor module_path folders gives n e
+    refusal_of n sources (error.File at fault) g u = absurd u
+    refusal_of n sources (error.MixedNames path) g u = (sources, g, u)
+    refusal_of n sources (error.InternalUse at place) g u = (sources, g, u)
+    refusal_of n sources (error.Cycle path) g u = absurd u
+    refusal_of n sources error.NoMemory g u = tt

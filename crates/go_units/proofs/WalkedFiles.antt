@@ -5,18 +5,18 @@ use Rattle.std.specs.Prelude.{IfSome}
 use Rattle.std.proofs.Math.ListN.{get_or-map}
 use Rattle.std.proofs.lemmas.Bool.Decides.{nat_tests}
 use Rattle.std.proofs.lemmas.List.{length-set}
+use Rattle.go_imports.specs.declared.package_files.SourceFile.{SourceFile}
+use Rattle.go_imports.proofs.Members.{same_or}
 use Rattle.go_units.specs.PackageUses.{GivesFile}
-use Rattle.go_units.specs.Reached.{Slots, slot, is_std, AreSound, Walked, start, next}
+use Rattle.go_units.specs.Reached.{ReadFolders, slot, is_std, AreAccepted, Walked, start, next}
 use Rattle.go_units.specs.UnitsOfModules.{holds_files, packages_in, HoldsPackage}
 use Rattle.go_units.specs.inner.UnitMaking.{AreAlike}
 use Rattle.go_units.specs.inner.UnitOrder.{AreReadable}
 use Rattle.go_units.specs.declared.folder.Folder.{Folder}
-use Rattle.go_units.specs.declared.package_files.SourceFile.{SourceFile}
 use Rattle.go_units.specs.declared.package_uses.PackageFile.{PackageFile}
 use Rattle.go_units.specs.declared.reader.Reading.{Reading}
 use Rattle.go_units.specs.declared.reader.Reading.TheVariants as reading
 use Rattle.go_units.proofs.Giving.{given_by, gives_fewer}
-use Rattle.go_units.proofs.Members.{same_or}
 use Rattle.go_units.proofs.ReachedFolders.{filled_here, filled_other}
 
 pub some_same : {A : Type 0} (a b : A) → ◌≡◌ {A = Option A} (Some a) (Some b) → a ≡ b
@@ -26,7 +26,7 @@ none_some : {A : Type 0} (a : A) → ◌≡◌ {A = Option A} None (Some a) → 
 none_some a e = absurd (cc)
 
 -- a slot that holds files stands in the list
-pub slot_within : (slots : Slots) (n : ℕ) (files : List PackageFile) → slot slots n ≡ Some files → n < length slots
+pub slot_within : (slots : ReadFolders) (n : ℕ) (files : List PackageFile) → slot slots n ≡ Some files → n < length slots
 slot_within [] n files e = absurd (none_some files (sym (past n) ∙ e))
   where
     past : (n : ℕ) → slot [] n ≡ None
@@ -36,29 +36,29 @@ slot_within (s ∷ slots) zero files e = omega arith
 slot_within (s ∷ slots) (suc n) files e = let h = slot_within slots n files e in omega (arith, h)
 
 -- whether a folder holds a package
-pub flag_is : (slots : Slots) (n : ℕ) → get_or (packages_in slots) n (holds_files None) ≡ holds_files (slot slots n)
+pub flag_is : (slots : ReadFolders) (n : ℕ) → get_or (packages_in slots) n (holds_files None) ≡ holds_files (slot slots n)
 flag_is slots n = get_or-map holds_files slots n None
 
-pub holds_some : (slots : Slots) (n : ℕ) (files : List PackageFile) → slot slots n ≡ Some files → 0 < length files → HoldsPackage slots n
+pub holds_some : (slots : ReadFolders) (n : ℕ) (files : List PackageFile) → slot slots n ≡ Some files → 0 < length files → HoldsPackage slots n
 holds_some slots n files e h = flag_is slots n ∙ ap holds_files e ∙ (let t : nat_lt 0 (length files) ≡ true = grind (arith, nat_tests) in t)
 
 held_or : (o : Option (List PackageFile)) → holds_files o ≡ true → (files : List PackageFile) × (o ≡ Some files)
 held_or None e = absurd (true≢false (sym e))
 held_or (Some files) e = (files, refl)
 
-pub holds_within : (slots : Slots) (n : ℕ) → HoldsPackage slots n → n < length slots
+pub holds_within : (slots : ReadFolders) (n : ℕ) → HoldsPackage slots n → n < length slots
 holds_within slots n h = let p = held_or (slot slots n) (sym (flag_is slots n) ∙ h) in slot_within slots n p.0 p.1
 
 module _ (module_path : List ℕ) (folders : List Folder) (gives : ℕ → Reading → Type 0) where
-  pub walked_rows : {slots : Slots} → Walked module_path folders gives slots → length slots ≡ length folders
+  pub walked_rows : {slots : ReadFolders} → Walked module_path folders gives slots → length slots ≡ length folders
   walked_rows (start rows fresh) = rows
   walked_rows (next {slots = slots} {n = n} {files = files} w is g s) = length-set slots n (Some files) ∙ walked_rows w
 
   abbrev IsRead : ℕ → List PackageFile → Type 0
-  IsRead n files = (sources : List SourceFile) × gives n (reading.Files sources) × AreSound module_path folders n sources files
+  IsRead n files = (sources : List SourceFile) × gives n (reading.Files sources) × AreAccepted module_path folders n sources files
 
   -- the files of a package were read and are sound
-  pub walked_read : {slots : Slots} → Walked module_path folders gives slots → (m : ℕ) (held : List PackageFile) → slot slots m ≡ Some held → IsRead m held
+  pub walked_read : {slots : ReadFolders} → Walked module_path folders gives slots → (m : ℕ) (held : List PackageFile) → slot slots m ≡ Some held → IsRead m held
   walked_read (start {slots = slots} rows fresh) m held e = absurd (none_some held (sym (fresh m) ∙ e))
   walked_read (next {slots = slots} {n = n} {sources = sources} {files = files} w is g s) m held e = elim (same_or m n) [
     | inl same ↦
@@ -79,13 +79,13 @@ module _ (module_path : List ℕ) (folders : List Folder) (gives : ℕ → Readi
       named_by (is_std folders n) given.names p.0 f p.2 ∙ r.2.one p.0 q.0 p.1 q.1 ∙ sym (named_by (is_std folders n) given.names q.0 g q.2)
 
   -- packages that are read can make units
-  pub readable : ((n : ℕ) (sources : List SourceFile) → gives n (reading.Files sources) → length sources < 4294967296) → {slots : Slots} → Walked module_path folders gives slots → AreReadable slots
+  pub readable : ((n : ℕ) (sources : List SourceFile) → gives n (reading.Files sources) → length sources < 4294967296) → {slots : ReadFolders} → Walked module_path folders gives slots → AreReadable slots
   readable few w n files e =
       let r = walked_read w n files e in
       let many = few n r.0 r.1 in
       let fewer = gives_fewer (GivesFile module_path folders (is_std folders n) r.2.given.names) r.2.given.given in
       (omega (arith, many, fewer), alike n files r)
 
-pub readable_some : (slots : Slots) → AreReadable slots → (n : ℕ) (held : Option (List PackageFile)) → slot slots n ≡ held → IfSome held (λ (files : List PackageFile). (length files < 4294967296) × AreAlike files)
+pub readable_some : (slots : ReadFolders) → AreReadable slots → (n : ℕ) (held : Option (List PackageFile)) → slot slots n ≡ held → IfSome held (λ (files : List PackageFile). (length files < 4294967296) × AreAlike files)
 readable_some slots r n None e = tt
 readable_some slots r n (Some files) e = r n files e

@@ -3,11 +3,11 @@
 -- Own: there is one module and one tree of the standard library, and a path is sought in one of them alone.
 use Rattle.std.specs.Prelude.{◌≡◌, ◌≢◌, ◌<◌, ◌⊎◌, ℕ, Bool, true, false, Option, Some, None, List, [], length, get_or, map, codes}
 use Rattle.go_base.specs.Lists.{Ascending}
-use Rattle.go_units.specs.ImportPaths.{IsUnder}
+use Rattle.go_imports.specs.ImportPaths.{IsUnder}
 use Rattle.go_units.specs.declared.folder.Folder.{Folder}
 
 abbrev pub no_folder : Folder
-no_folder = record { path = []; from_std = false; clause = None }
+no_folder = record { path = []; from_std = false; package_name = None }
 
 -- the folder of a number
 abbrev pub folder_of : List Folder → ℕ → Folder
@@ -31,28 +31,28 @@ IsSought module_path false path false = IsUnder path module_path
 -- a package may be found in the folder: its path isn't `unsafe`, and its name isn't `main`
 pub record MayBeFound (folder : Folder) : Type 0 where
   pub safe : folder.path ≢ codes "unsafe"
-  pub library : folder.clause ≢ Some (codes "main")
+  pub library : folder.package_name ≢ Some (codes "main")
 
 module _ (module_path : List ℕ) (folders : List Folder) where
   -- an import path, in a package of the standard library or of the module, names the folder of this number
-  pub record IsNamed (from_std : Bool) (path : List ℕ) (n : ℕ) : Type 0 where
+  pub record NamesFolder (from_std : Bool) (path : List ℕ) (n : ℕ) : Type 0 where
     pub within : n < length folders
     pub same : (folder_of folders n).path ≡ path
     pub sought : IsSought module_path from_std path (folder_of folders n).from_std
 
   -- the name in the package clause of what an import path names, where that is there and says one
-  abbrev pub IsClause : Bool → List ℕ → Option (List ℕ) → Type 0
-  IsClause from_std path said = ((n : ℕ) × IsNamed from_std path n × ((folder_of folders n).clause ≡ said)) ⊎ (((n : ℕ) → IsNamed from_std path n → ⊥) × (said ≡ None))
+  abbrev pub IsImportedName : Bool → List ℕ → Option (List ℕ) → Type 0
+  IsImportedName from_std path said = ((n : ℕ) × NamesFolder from_std path n × ((folder_of folders n).package_name ≡ said)) ⊎ (((n : ℕ) → NamesFolder from_std path n → ⊥) × (said ≡ None))
 
   -- a used import asks for the folder, which stands in the standard library
   pub record AsksFor (from_std : Bool) (path : List ℕ) (n : ℕ) : Type 0 where
-    pub names : IsNamed from_std path n
-    pub stands : (folder_of folders n).from_std ≡ true
-    pub may : MayBeFound (folder_of folders n)
+    pub names : NamesFolder from_std path n
+    pub side : (folder_of folders n).from_std ≡ true
+    pub permitted : MayBeFound (folder_of folders n)
 
   -- an import is found in the folder, where these folders hold packages
   pub record IsFound (packages : List Bool) (from_std : Bool) (path : List ℕ) (n : ℕ) : Type 0 where
-    pub names : IsNamed from_std path n
-    pub may : MayBeFound (folder_of folders n)
-    pub says : (folder_of folders n).clause ≢ None
+    pub names : NamesFolder from_std path n
+    pub permitted : MayBeFound (folder_of folders n)
+    pub known : (folder_of folders n).package_name ≢ None
     pub holds : get_or packages n false ≡ true

@@ -1,13 +1,7 @@
 pub mod Folders
-pub mod Gives
-pub mod ImportPaths
-pub mod InternalUses
-pub mod Orders
-pub mod PackageFiles
 pub mod PackageUses
 pub mod Reached
 pub mod UnitFacts
 pub mod UnitOrders
 pub mod UnitsOfModules
-pub mod UsedImports
 pub mod inner

@@ -1,22 +1,22 @@
 -- What the files of a folder give to its package: those that don't import `"C"`, each with the imports that it uses.
 -- Public source: Go specification, "Packages", "Import declarations", "Declarations and scope"; Go's command cgo (`import "C"`). Own: a file that imports `"C"` counts for
--- the package's name alone.
+-- its tokens, its grammar and the package name that importers see, and gives nothing else.
 use Rattle.std.specs.Prelude.{◌≡◌, ◌⊎◌, ℕ, Bool, Option, Some, None, List, [], ◌∷◌}
 use Rattle.go_base.specs.Lists.{Has}
 use Rattle.go_base.specs.Growing.{Grows}
 use Rattle.go_syntax.specs.declared.declaration.File.{File}
 use Rattle.go_syntax.specs.declared.declaration.ImportSpec.{ImportSpec}
 use Rattle.go_syntax.specs.declared.name.Name.{Name}
-use Rattle.go_units.specs.Folders.{IsClause}
-use Rattle.go_units.specs.Gives.{Gives}
-use Rattle.go_units.specs.InternalUses.{IsFirstBarred}
-use Rattle.go_units.specs.PackageFiles.{HasC}
-use Rattle.go_units.specs.UsedImports.{IsDeclaredIn, IsQualifierIn, AreUsed}
+use Rattle.go_imports.specs.Gives.{Gives}
+use Rattle.go_imports.specs.InternalUses.{IsFirstInternalImport}
+use Rattle.go_imports.specs.PackageFiles.{HasC}
+use Rattle.go_imports.specs.UsedImports.{IsDeclaredIn, IsQualifierIn, AreUsed}
+use Rattle.go_imports.specs.declared.package_files.SourceFile.{SourceFile}
+use Rattle.go_imports.specs.declared.used_imports.Import.{Import}
+use Rattle.go_imports.specs.declared.used_imports.NamedImport.{NamedImport}
+use Rattle.go_units.specs.Folders.{IsImportedName}
 use Rattle.go_units.specs.declared.folder.Folder.{Folder}
-use Rattle.go_units.specs.declared.package_files.SourceFile.{SourceFile}
 use Rattle.go_units.specs.declared.package_uses.PackageFile.{PackageFile}
-use Rattle.go_units.specs.declared.used_imports.Import.{Import}
-use Rattle.go_units.specs.declared.used_imports.NamedImport.{NamedImport}
 
 abbrev pub text_of : Option Name → Option (List ℕ)
 text_of None = None
@@ -33,10 +33,10 @@ IsDeclaredAmong sources text = (s : SourceFile) × Has sources s × IsDeclaredBy
 module _ (module_path : List ℕ) (folders : List Folder) (from_std : Bool) where
   -- an import as it is written, with the name in the package clause of what it names
   pub record IsImportOf (spec : ImportSpec) (i : Import) : Type 0 where
-    pub writes : i.written ≡ text_of spec.name
-    pub says : IsClause module_path folders from_std spec.path i.clause
-    pub leads : i.path ≡ spec.path
-    pub stands : i.place ≡ spec.place
+    pub written : i.written ≡ text_of spec.name
+    pub package_name : IsImportedName module_path folders from_std spec.path i.package_name
+    pub path : i.path ≡ spec.path
+    pub place : i.place ≡ spec.place
 
   abbrev pub GivesImport : ImportSpec → Option Import → Type 0
   GivesImport spec None = ⊥
@@ -63,10 +63,10 @@ module _ (module_path : List ℕ) (folders : List Folder) (from_std : Bool) wher
 
 -- no file of the package uses an import that the package may not import
 abbrev pub AreFree : List ℕ → Bool → List PackageFile → Type 0
-AreFree path from_std files = (f : PackageFile) → Has files f → IsFirstBarred path from_std f.uses None
+AreFree path from_std files = (f : PackageFile) → Has files f → IsFirstInternalImport path from_std f.uses None
 
 -- the first place at which a file of the package uses such an import
 abbrev pub IsFirstInternal : List ℕ → Bool → List PackageFile → List ℕ → ℕ → Type 0
-IsFirstInternal path from_std [] name place = ⊥
-IsFirstInternal path from_std (f ∷ fs) name place =
-    ((f.path ≡ name) × IsFirstBarred path from_std f.uses (Some place)) ⊎ (IsFirstBarred path from_std f.uses None × IsFirstInternal path from_std fs name place)
+IsFirstInternal path from_std [] file place = ⊥
+IsFirstInternal path from_std (f ∷ fs) file place =
+    ((f.path ≡ file) × IsFirstInternalImport path from_std f.uses (Some place)) ⊎ (IsFirstInternalImport path from_std f.uses None × IsFirstInternal path from_std fs file place)

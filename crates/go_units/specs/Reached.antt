@@ -3,27 +3,27 @@
 -- Public source: Go specification, "Import declarations". Own: the order.
 use Rattle.std.specs.Prelude.{◌≡◌, ◌<◌, ◌≤◌, ◌⊎◌, ℕ, Bool, true, false, Option, Some, None, List, length, get_or, slice_set}
 use Rattle.go_base.specs.Lists.{Has}
+use Rattle.go_imports.specs.PackageFiles.{AreOfOnePackage}
+use Rattle.go_imports.specs.declared.package_files.SourceFile.{SourceFile}
+use Rattle.go_imports.specs.declared.used_imports.NamedImport.{NamedImport}
 use Rattle.go_units.specs.Folders.{folder_of, AsksFor}
-use Rattle.go_units.specs.PackageFiles.{AreOfOnePackage}
 use Rattle.go_units.specs.PackageUses.{ArePackageFiles, AreFree, IsFirstInternal}
 use Rattle.go_units.specs.declared.folder.Folder.{Folder}
-use Rattle.go_units.specs.declared.package_files.SourceFile.{SourceFile}
 use Rattle.go_units.specs.declared.package_uses.PackageFile.{PackageFile}
-use Rattle.go_units.specs.declared.used_imports.NamedImport.{NamedImport}
 use Rattle.go_units.specs.declared.reader.Reading.{Reading}
 use Rattle.go_units.specs.declared.reader.Reading.TheVariants as reading
 use Rattle.go_units.specs.declared.unit_error.UnitError.{UnitError}
 use Rattle.go_units.specs.declared.unit_error.UnitError.TheVariants as error
 
 -- the files of the package in each folder that is read
-abbrev pub Slots : Type 0
-Slots = List (Option (List PackageFile))
+abbrev pub ReadFolders : Type 0
+ReadFolders = List (Option (List PackageFile))
 
-abbrev pub slot : Slots → ℕ → Option (List PackageFile)
+abbrev pub slot : ReadFolders → ℕ → Option (List PackageFile)
 slot slots n = get_or slots n None
 
 -- the folder isn't read yet
-abbrev pub IsFresh : Slots → ℕ → Type 0
+abbrev pub IsFresh : ReadFolders → ℕ → Type 0
 IsFresh slots n = slot slots n ≡ None
 
 abbrev pub is_std : List Folder → ℕ → Bool
@@ -38,11 +38,11 @@ module _ (module_path : List ℕ) (folders : List Folder) where
   FilesAsk from_std files m = (f : PackageFile) × Has files f × FileAsks from_std f m
 
   -- a package that is read asks for a folder
-  abbrev pub IsAsked : Slots → ℕ → Type 0
+  abbrev pub IsAsked : ReadFolders → ℕ → Type 0
   IsAsked slots m = (n : ℕ) × (files : List PackageFile) × (slot slots n ≡ Some files) × FilesAsk (is_std folders n) files m
 
   -- the folder is to be read
-  pub record IsWanted (slots : Slots) (n : ℕ) : Type 0 where
+  pub record IsWanted (slots : ReadFolders) (n : ℕ) : Type 0 where
     pub within : n < length folders
     pub why : (is_std folders n ≡ false) ⊎ IsAsked slots n
 
@@ -51,46 +51,46 @@ module _ (module_path : List ℕ) (folders : List Folder) where
   ComesFirst n m = ((is_std folders n ≡ false) × (is_std folders m ≡ true)) ⊎ ((is_std folders n ≡ is_std folders m) × (n ≤ m))
 
   -- the folder that is read next
-  pub record IsNext (slots : Slots) (n : ℕ) : Type 0 where
+  pub record IsNextFolder (slots : ReadFolders) (n : ℕ) : Type 0 where
     pub wanted : IsWanted slots n
     pub fresh : IsFresh slots n
     pub first : (m : ℕ) → IsWanted slots m → IsFresh slots m → ComesFirst n m
 
   -- the files of a folder give these to its package, and nothing is refused
-  pub record AreSound (n : ℕ) (sources : List SourceFile) (files : List PackageFile) : Type 0 where
+  pub record AreAccepted (n : ℕ) (sources : List SourceFile) (files : List PackageFile) : Type 0 where
     pub one : AreOfOnePackage sources
     pub given : ArePackageFiles module_path folders (is_std folders n) sources files
     pub free : AreFree (folder_of folders n).path (is_std folders n) files
 
   -- why the files of a folder are refused, once they are read: first for their names, and then for an import; want of memory may come at any time
-  abbrev pub AreUnsound : ℕ → List SourceFile → UnitError → Type 0
-  AreUnsound n sources (error.File at fault) = ⊥
-  AreUnsound n sources (error.MixedNames path) = ((folder_of folders n).path ≡ path) × (AreOfOnePackage sources → ⊥)
-  AreUnsound n sources (error.InternalUse at place) =
+  abbrev pub AreRefused : ℕ → List SourceFile → UnitError → Type 0
+  AreRefused n sources (error.File at fault) = ⊥
+  AreRefused n sources (error.MixedNames path) = ((folder_of folders n).path ≡ path) × (AreOfOnePackage sources → ⊥)
+  AreRefused n sources (error.InternalUse at place) =
       ((folder_of folders n).path ≡ at.path) × AreOfOnePackage sources
       × (files : List PackageFile) × ArePackageFiles module_path folders (is_std folders n) sources files × IsFirstInternal (folder_of folders n).path (is_std folders n) files at.file place
-  AreUnsound n sources (error.Cycle path) = ⊥
-  AreUnsound n sources error.NoMemory = Unit {0}
+  AreRefused n sources (error.Cycle path) = ⊥
+  AreRefused n sources error.NoMemory = Unit {0}
 
   module _ (gives : ℕ → Reading → Type 0) where
     -- the folders that are read after some time
-    pub data Walked : Slots → Type 0 where
-      start : {slots : Slots} → length slots ≡ length folders → ((n : ℕ) → IsFresh slots n) → Walked slots
-      next : {slots : Slots} {n : ℕ} {sources : List SourceFile} {files : List PackageFile} → Walked slots → IsNext slots n → gives n (reading.Files sources) → AreSound n sources files → Walked (slice_set slots n (Some files))
+    pub data Walked : ReadFolders → Type 0 where
+      start : {slots : ReadFolders} → length slots ≡ length folders → ((n : ℕ) → IsFresh slots n) → Walked slots
+      next : {slots : ReadFolders} {n : ℕ} {sources : List SourceFile} {files : List PackageFile} → Walked slots → IsNextFolder slots n → gives n (reading.Files sources) → AreAccepted n sources files → Walked (slice_set slots n (Some files))
 
     -- why a folder is refused: first a file of it, and then all of them together
-    abbrev pub Stops : ℕ → UnitError → Type 0
-    Stops n (error.File at fault) = ((folder_of folders n).path ≡ at.path) × gives n (reading.Refused at.file fault)
-    Stops n (error.MixedNames path) = (sources : List SourceFile) × gives n (reading.Files sources) × AreUnsound n sources (error.MixedNames path)
-    Stops n (error.InternalUse at place) = (sources : List SourceFile) × gives n (reading.Files sources) × AreUnsound n sources (error.InternalUse at place)
-    Stops n (error.Cycle path) = ⊥
-    Stops n error.NoMemory = Unit {0}
+    abbrev pub IsRefusedFor : ℕ → UnitError → Type 0
+    IsRefusedFor n (error.File at fault) = ((folder_of folders n).path ≡ at.path) × gives n (reading.Refused at.file fault)
+    IsRefusedFor n (error.MixedNames path) = (sources : List SourceFile) × gives n (reading.Files sources) × AreRefused n sources (error.MixedNames path)
+    IsRefusedFor n (error.InternalUse at place) = (sources : List SourceFile) × gives n (reading.Files sources) × AreRefused n sources (error.InternalUse at place)
+    IsRefusedFor n (error.Cycle path) = ⊥
+    IsRefusedFor n error.NoMemory = Unit {0}
 
     -- the first folder that is refused, in the order in which they are read
     abbrev pub IsFirstRefusal : UnitError → Type 0
-    IsFirstRefusal e = (slots : Slots) × Walked slots × (n : ℕ) × IsNext slots n × Stops n e
+    IsFirstRefusal e = (slots : ReadFolders) × Walked slots × (n : ℕ) × IsNextFolder slots n × IsRefusedFor n e
 
     -- every folder that is to be read is, and none is refused
-    pub record IsWhole (slots : Slots) : Type 0 where
+    pub record AllAreRead (slots : ReadFolders) : Type 0 where
       pub walked : Walked slots
       pub all : (n : ℕ) → IsWanted slots n → IsFresh slots n → ⊥

@@ -9,8 +9,8 @@ use Rattle.go_units.specs.declared.unit.UnitFile.{UnitFile}
 use Rattle.go_units.specs.declared.unit.UsedImport.{UsedImport}
 
 -- the package clauses of the files have this name
-abbrev pub AreNamed : List UnitFile → List ℕ → Type 0
-AreNamed files name = (f : UnitFile) → Has files f → f.outline.«package».text ≡ name
+abbrev pub UnitFilesAreNamed : List UnitFile → List ℕ → Type 0
+UnitFilesAreNamed files name = (f : UnitFile) → Has files f → f.outline.«package».text ≡ name
 
 -- the paths with the one of an import among them, where that is found
 abbrev pub with_import : List (List ℕ) → UsedImport → List (List ℕ)

@@ -1,11 +1,5 @@
-pub mod Answers
-pub mod Files
 pub mod FolderPlaces
-pub mod Levels
-pub mod OrderCauses
 pub mod Reaching
-pub mod Sorting
-pub mod Soundness
+pub mod Refusals
 pub mod UnitMaking
 pub mod UnitOrder
-pub mod Uses

@@ -2,12 +2,12 @@
 ghost use Rattle.std.specs.Prelude.{◌≡◌, ◌<◌, length, get_or, false};
 ghost use Rattle.std.specs.Ordering.{nat_cmp};
 ghost use Rattle.std.specs.Cmp.Lexicographic.{slice_cmp};
-ghost use Rattle.go_units.specs.Folders.{folder_of, AreOrdered, IsSought, MayBeFound, IsNamed, AsksFor, IsFound};
-ghost use Rattle.go_units.specs.inner.Answers.{Decides, FindsOne};
-ghost use Rattle.go_units.specs.inner.FolderPlaces.{IsAt, IsLibrary, IsAskedFor, HoldsPackage};
+ghost use Rattle.go_imports.specs.Answers.{Decides};
+ghost use Rattle.go_units.specs.Folders.{folder_of, AreOrdered, IsSought, MayBeFound, NamesFolder, AsksFor, IsFound};
+ghost use Rattle.go_units.specs.inner.FolderPlaces.{FindsOne, IsAt, IsLibrary, IsAskedFor, IsFoundable};
 
-use crate::import_paths::is_under;
 use go_base::text::Text;
+use go_imports::import_paths::is_under;
 use std::cmp::Ordering;
 
 /// A folder of a tree that may hold a package.
@@ -19,7 +19,7 @@ pub struct Folder {
     pub from_std: bool,
     /// The name in the package clause of its first file that says one: the platform chooses the file, and its header isn't
     /// refused.
-    pub clause: Option<Text>,
+    pub package_name: Option<Text>,
 }
 
 pub(crate) fn folder_at(folders: &[Folder], number: usize) -> &Folder
@@ -73,7 +73,7 @@ fn stands_there(
     number: usize,
 ) -> bool
     requires { IsAt folders.now path.now number }
-    ensures { Decides result (IsNamed module_path.now folders.now from_std path.now number) }
+    ensures { Decides result (NamesFolder module_path.now folders.now from_std path.now number) }
 {
     is_sought(
         module_path,
@@ -91,7 +91,7 @@ pub(crate) fn named(
     path: &[u8],
 ) -> Option<usize>
     requires { AreOrdered folders.now }
-    ensures { FindsOne (IsNamed module_path.now folders.now from_std path.now) result }
+    ensures { FindsOne (NamesFolder module_path.now folders.now from_std path.now) result }
 {
     match place_of(folders, path) {
         None => None,
@@ -104,10 +104,10 @@ pub(crate) fn named(
     }
 }
 
-fn is_library(clause: &Option<Text>) -> bool
-    ensures { Decides result (IsLibrary clause.now) }
+fn is_library(package_name: &Option<Text>) -> bool
+    ensures { Decides result (IsLibrary package_name.now) }
 {
-    match clause {
+    match package_name {
         None => true,
         Some(name) => name.bytes() != b"main".as_slice(),
     }
@@ -119,7 +119,7 @@ fn may_be_found(folder: &Folder) -> bool
     if folder.path.bytes() == b"unsafe".as_slice() {
         return false;
     }
-    is_library(&folder.clause)
+    is_library(&folder.package_name)
 }
 
 fn is_asked(folder: &Folder) -> bool
@@ -162,9 +162,9 @@ fn is_flagged(packages: &[bool], number: usize) -> bool
 }
 
 fn holds_package(packages: &[bool], folder: &Folder, number: usize) -> bool
-    ensures { Decides result (HoldsPackage packages.now folder.now number) }
+    ensures { Decides result (IsFoundable packages.now folder.now number) }
 {
-    if folder.clause.is_none() {
+    if folder.package_name.is_none() {
         return false;
     }
     if !may_be_found(folder) {

@@ -2,17 +2,17 @@
 ghost use Rattle.std.specs.Prelude.{◌≡◌, ◌<◌, length, IfOk, IfErr, OnOk};
 ghost use Rattle.go_units.specs.Folders.{AreOrdered};
 ghost use Rattle.go_units.specs.PackageUses.{AreFree};
-ghost use Rattle.go_units.specs.Reached.{AreSound, AreUnsound};
-ghost use Rattle.go_units.specs.inner.Soundness.{IsMixed, IsRefused, IsInternal, InternalCause};
+ghost use Rattle.go_units.specs.Reached.{AreAccepted, AreRefused};
+ghost use Rattle.go_units.specs.inner.Refusals.{IsMixed, IsRefused, IsInternal, InternalCause};
 
 use crate::folder::{Folder, folder_at};
-use crate::package_files::{SourceFile, are_of_one_package};
 use crate::package_uses::{PackageFile, package_files};
 use crate::reader::FileFault;
 use crate::unit_error::{FileAt, UnitError};
-use crate::used_imports::first_internal;
 use go_base::list::List;
 use go_base::text::Text;
+use go_imports::package_files::{SourceFile, are_of_one_package};
+use go_imports::used_imports::first_internal;
 use std::alloc::Global;
 
 fn mixed_names(alloc: Global, folder: &Folder) -> UnitError
@@ -69,7 +69,7 @@ fn check_free(alloc: Global, folder: &Folder, files: &[PackageFile]) -> Result<(
 ///
 /// `MixedNames` comes exactly where the package clauses of these files have several names, and `InternalUse` where they have
 /// one and a file uses an import that the package may not import, with the first such place.
-pub(crate) fn sound_files(
+pub(crate) fn accepted_files(
     alloc: Global,
     module_path: &[u8],
     folders: &[Folder],
@@ -78,8 +78,8 @@ pub(crate) fn sound_files(
 ) -> Result<List<PackageFile>, UnitError>
     requires ordered { AreOrdered folders.now }
     requires within { number < length folders.now }
-    ensures ok { IfOk result (AreSound module_path.now folders.now number sources) }
-    ensures cause { IfErr result (AreUnsound module_path.now folders.now number sources) }
+    ensures ok { IfOk result (AreAccepted module_path.now folders.now number sources) }
+    ensures cause { IfErr result (AreRefused module_path.now folders.now number sources) }
 {
     let folder = folder_at(folders, number);
     if !are_of_one_package(sources.items()) {

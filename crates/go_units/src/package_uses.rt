@@ -1,16 +1,16 @@
 //! The files of a folder that make its package, with the imports that they use.
 ghost use Rattle.std.specs.Prelude.{◌≡◌, ◌++◌, [], reverse, IfOk, OnOk};
 ghost use Rattle.go_base.specs.Growing.{Grows};
-ghost use Rattle.go_units.specs.Folders.{AreOrdered, IsClause};
-ghost use Rattle.go_units.specs.Gives.{Gives, optional};
+ghost use Rattle.go_imports.specs.Gives.{Gives, optional};
+ghost use Rattle.go_units.specs.Folders.{AreOrdered, IsImportedName};
 ghost use Rattle.go_units.specs.PackageUses.{text_of, IsDeclaredByFile, IsDeclaredAmong, IsImportOf, GivesImport, UsesIn, GivesFile, ArePackageFiles};
 
 use crate::folder::{Folder, folder_at, named};
-use crate::package_files::{SourceFile, imports_c};
-use crate::used_imports::{Import, NamedImport, add_declared, qualifiers, used_imports};
 use go_base::list::List;
 use go_base::memory::NoMemory;
 use go_base::text::Text;
+use go_imports::package_files::{SourceFile, imports_c};
+use go_imports::used_imports::{Import, NamedImport, add_declared, qualifiers, used_imports};
 use go_syntax::declaration::{File, ImportSpec};
 use go_syntax::name::Name;
 use std::alloc::Global;
@@ -43,7 +43,7 @@ fn written_name(alloc: Global, name: &Option<Name>) -> Result<Option<Text>, NoMe
     }
 }
 
-fn clause_of(
+fn imported_name(
     alloc: Global,
     module_path: &[u8],
     folders: &[Folder],
@@ -51,11 +51,11 @@ fn clause_of(
     path: &[u8],
 ) -> Result<Option<Text>, NoMemory>
     requires { AreOrdered folders.now }
-    ensures { IfOk result (IsClause module_path.now folders.now from_std path.now) }
+    ensures { IfOk result (IsImportedName module_path.now folders.now from_std path.now) }
 {
     match named(module_path, folders, from_std, path) {
         None => Ok(None),
-        Some(number) => copied(alloc, &folder_at(folders, number).clause),
+        Some(number) => copied(alloc, &folder_at(folders, number).package_name),
     }
 }
 
@@ -71,7 +71,7 @@ fn import_of(
 {
     Ok(Import {
         written: written_name(alloc, &spec.name)?,
-        clause: clause_of(alloc, module_path, folders, from_std, spec.path.bytes())?,
+        package_name: imported_name(alloc, module_path, folders, from_std, spec.path.bytes())?,
         path: Text::of(alloc, spec.path.bytes())?,
         place: spec.place,
     })

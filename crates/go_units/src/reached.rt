@@ -3,19 +3,19 @@
 ghost use Rattle.std.specs.Prelude.{◌≡◌, ◌≢◌, ◌<◌, ◌+◌, ℕ, length, slice_set, IfOk, IfErr, OnOk};
 ghost use Rattle.go_base.specs.Lists.{Has};
 ghost use Rattle.go_base.specs.Growing.{Grows};
+ghost use Rattle.go_imports.specs.Answers.{Decides};
 ghost use Rattle.go_units.specs.Folders.{AreOrdered};
-ghost use Rattle.go_units.specs.Reached.{IsFresh, IsNext, IsWhole, Stops};
-ghost use Rattle.go_units.specs.inner.Answers.{Decides};
-ghost use Rattle.go_units.specs.inner.Reaching.{PathAsks, UsesAsk, FilesAskNew, AsksNew, HasModule, HasModuleTo, GivesSound, Reaching, Advances, ReachCause};
+ghost use Rattle.go_units.specs.Reached.{IsFresh, IsNextFolder, AllAreRead, IsRefusedFor};
+ghost use Rattle.go_units.specs.inner.Reaching.{PathAsks, UsesAsk, FilesAskNew, AsksNew, HasModule, HasModuleTo, GivesAccepted, Reaching, Advances, ReachCause};
 
 use crate::folder::{Folder, asked, folder_at};
-use crate::package_checks::{refused, sound_files};
+use crate::package_checks::{accepted_files, refused};
 use crate::package_uses::PackageFile;
 use crate::reader::{FolderReader, Reading};
 use crate::unit_error::UnitError;
-use crate::used_imports::NamedImport;
 use go_base::list::List;
 use go_base::memory::NoMemory;
+use go_imports::used_imports::NamedImport;
 use std::alloc::Global;
 use std::collections::BTreeSet;
 
@@ -128,11 +128,11 @@ fn read_folder<R: FolderReader>(
 ) -> Result<List<PackageFile>, UnitError>
     requires ordered { AreOrdered folders.now }
     requires within { number < length folders.now }
-    ensures ok { IfOk result (GivesSound module_path.now folders.now (R.gives reader.now) number) }
-    ensures cause { IfErr result (Stops module_path.now folders.now (R.gives reader.now) number) }
+    ensures ok { IfOk result (GivesAccepted module_path.now folders.now (R.gives reader.now) number) }
+    ensures cause { IfErr result (IsRefusedFor module_path.now folders.now (R.gives reader.now) number) }
 {
     match reader.read(alloc, number)? {
-        Reading::Files(sources) => sound_files(alloc, module_path, folders, number, sources),
+        Reading::Files(sources) => accepted_files(alloc, module_path, folders, number, sources),
         Reading::Refused(file, fault) => {
             Err(refused(alloc, folder_at(folders, number), file, fault))
         }
@@ -157,12 +157,12 @@ fn advance<R: FolderReader>(
     number: usize,
 ) -> Result<(), UnitError>
     requires ordered { AreOrdered folders.now }
-    requires next { IsNext module_path.now folders.now slots.old.items number }
+    requires next { IsNextFolder module_path.now folders.now slots.old.items number }
     requires apart { (m : ℕ) → Has pending.old.keys m → m ≢ number }
     requires reaching { Reaching module_path.now folders.now (R.gives reader.now) slots.old.items pending.old.keys (λ m. m ≡ number) }
     ensures advances { OnOk result (Advances slots.old.items number slots.new.items) }
     ensures reaches { OnOk result (Reaching module_path.now folders.now (R.gives reader.now) slots.new.items pending.new.keys (λ m. ⊥)) }
-    ensures cause { IfErr result (Stops module_path.now folders.now (R.gives reader.now) number) }
+    ensures cause { IfErr result (IsRefusedFor module_path.now folders.now (R.gives reader.now) number) }
 {
     let files = match read_folder(alloc, reader, module_path, folders, number) {
         Err(error) => return Err(error),
@@ -242,7 +242,7 @@ fn read_asked<R: FolderReader>(
     requires ordered { AreOrdered folders.now }
     requires module { HasModule folders.now slots.old.items }
     requires reaching { Reaching module_path.now folders.now (R.gives reader.now) slots.old.items pending.old.keys (λ m. ⊥) }
-    ensures ok { OnOk result (IsWhole module_path.now folders.now (R.gives reader.now) slots.new.items) }
+    ensures ok { OnOk result (AllAreRead module_path.now folders.now (R.gives reader.now) slots.new.items) }
     ensures cause { IfErr result (ReachCause module_path.now folders.now (R.gives reader.now)) }
 {
     for _ in 0..usize::MAX {
@@ -277,7 +277,7 @@ pub(crate) fn reached<R: FolderReader>(
     folders: &[Folder],
 ) -> Result<Vec<Option<List<PackageFile>>>, UnitError>
     requires { AreOrdered folders.now }
-    ensures ok { IfOk result (λ slots. IsWhole module_path.now folders.now (R.gives reader.now) slots.items) }
+    ensures ok { IfOk result (λ slots. AllAreRead module_path.now folders.now (R.gives reader.now) slots.items) }
     ensures cause { IfErr result (ReachCause module_path.now folders.now (R.gives reader.now)) }
 {
     let mut slots = empty_slots(alloc, folders.len())?;

@@ -1,13 +1,13 @@
 //! What reads the files of a folder.
 ghost use Rattle.std.specs.Prelude.{◌<◌, ℕ, List, length, IfOk};
-ghost use Rattle.go_units.specs.declared.package_files.SourceFile.{SourceFile};
+ghost use Rattle.go_imports.specs.declared.package_files.SourceFile.{SourceFile};
 ghost use Rattle.go_units.specs.declared.reader.Reading.{Reading};
 ghost use Rattle.go_units.specs.declared.reader.Reading.TheVariants.{Files};
 
-use crate::package_files::SourceFile;
 use go_base::list::List;
 use go_base::memory::NoMemory;
 use go_base::text::Text;
+use go_imports::package_files::SourceFile;
 use std::alloc::Global;
 
 /// Why a file is refused.
@@ -36,10 +36,10 @@ pub enum Reading {
 
 /// What reads the files of numbered folders.
 pub trait FolderReader {
-    /// What the folder of a number gives.
+    /// Whether the folder of a number may give a reading.
     ghost gives: { Self → ℕ → Reading → Type 0 };
 
-    /// What the folder of a number gives.
+    /// Reads the folder of a number.
     fn read(&self, alloc: Global, folder: usize) -> Result<Reading, NoMemory>
         ensures { IfOk result (gives self.now folder) };
 

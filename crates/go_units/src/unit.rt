@@ -1,6 +1,6 @@
 //! Packages as they are typed: their files with the imports that these use.
 ghost use Rattle.std.specs.Prelude.{◌≡◌, ◌<◌, length};
-ghost use Rattle.go_units.specs.UnitFacts.{AreNamed, needed_by};
+ghost use Rattle.go_units.specs.UnitFacts.{UnitFilesAreNamed, needed_by};
 
 use go_base::list::List;
 use go_base::text::Text;
@@ -43,6 +43,6 @@ pub struct Unit {
     pub needs: List<Text>,
     pub ghost some: { 0 < length files },
     pub ghost few: { length files < 4294967296 },
-    pub ghost named: { AreNamed files name },
+    pub ghost named: { UnitFilesAreNamed files name },
     pub ghost needed: { needs ≡ needed_by files },
 }

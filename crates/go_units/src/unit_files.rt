@@ -1,18 +1,18 @@
 //! Units that are made from the files of packages.
 ghost use Rattle.std.specs.Prelude.{◌≡◌, ◌<◌, ◌++◌, [], length, reverse, IfOk, OnOk};
+ghost use Rattle.go_imports.specs.Gives.{Gives};
 ghost use Rattle.go_units.specs.Folders.{AreOrdered};
-ghost use Rattle.go_units.specs.Gives.{Gives};
 ghost use Rattle.go_units.specs.UnitFacts.{with_import, with_imports, needed_by};
 ghost use Rattle.go_units.specs.UnitsOfModules.{IsUsedImport, GivesUse, IsUnitFile, GivesUnitFile};
-ghost use Rattle.go_units.specs.inner.UnitMaking.{AreCalled, AreAlike, IsUnitWith};
+ghost use Rattle.go_units.specs.inner.UnitMaking.{PackageFilesAreNamed, AreAlike, IsUnitWith};
 
 use crate::folder::{Folder, folder_at, found};
 use crate::package_uses::PackageFile;
 use crate::unit::{Unit, UnitFile, UsedImport};
-use crate::used_imports::NamedImport;
 use go_base::list::List;
 use go_base::memory::NoMemory;
 use go_base::text::Text;
+use go_imports::used_imports::NamedImport;
 use std::alloc::Global;
 use std::collections::BTreeSet;
 
@@ -179,7 +179,7 @@ fn needed(alloc: Global, files: &[UnitFile]) -> Result<List<Text>, NoMemory>
 fn name_of(alloc: Global, files: &[PackageFile]) -> Result<Text, NoMemory>
     requires some { 0 < length files.now }
     requires alike { AreAlike files.now }
-    ensures { IfOk result (AreCalled files.now) }
+    ensures { IfOk result (PackageFilesAreNamed files.now) }
 {
     Text::of(alloc, files[0].outline.package.text.bytes())
 }

@@ -3,13 +3,13 @@ ghost use Rattle.std.specs.Prelude.{◌≡◌, ◌++◌, ◌∷◌, ◌<◌, [],
 ghost use Rattle.go_base.specs.Growing.{Grows};
 ghost use Rattle.go_units.specs.Folders.{AreOrdered};
 ghost use Rattle.go_units.specs.UnitsOfModules.{holds_files, packages_in, AreNeeds, FilesNeed, Needs};
-ghost use Rattle.go_units.specs.inner.UnitMaking.{PathNeeds, UsesNeed, FilesNeedBy, NeedsBy};
+ghost use Rattle.go_units.specs.inner.UnitMaking.{PathNeeds, UsesNeed, NeedsBy};
 
 use crate::folder::{Folder, folder_at, found};
 use crate::package_uses::PackageFile;
-use crate::used_imports::NamedImport;
 use go_base::list::List;
 use go_base::memory::NoMemory;
+use go_imports::used_imports::NamedImport;
 use std::alloc::Global;
 
 fn holds_files(files: &Option<List<PackageFile>>) -> bool
@@ -85,7 +85,7 @@ fn needs_of_files(
     files: &[PackageFile],
 ) -> Result<List<usize>, NoMemory>
     requires { AreOrdered folders.now }
-    ensures { IfOk result (Grows (FilesNeedBy module_path.now folders.now packages.now from_std files.now) []) }
+    ensures { IfOk result (Grows (FilesNeed module_path.now folders.now packages.now from_std files.now) []) }
 {
     let mut needs = List::new(alloc);
     for file in files {

@@ -7,7 +7,6 @@ ghost use Rattle.go_units.specs.inner.UnitMaking.{AreAlike};
 ghost use Rattle.go_units.specs.inner.UnitOrder.{IsCycleOf, AreReadable, AddsUnit, HasOrder, UnitsAre, Orders};
 
 use crate::folder::{Folder, folder_at};
-use crate::order::{OrderError, canonical_order};
 use crate::package_uses::PackageFile;
 use crate::reached::reached;
 use crate::reader::FolderReader;
@@ -19,6 +18,7 @@ use crate::unit_list::Units;
 use go_base::list::List;
 use go_base::memory::NoMemory;
 use go_base::text::Text;
+use go_imports::order::{OrderError, canonical_order};
 use std::alloc::Global;
 
 fn cycle(alloc: Global, folder: &Folder) -> UnitError

@@ -3,7 +3,7 @@ use Rattle.std.proofs.Common.{◌≡◌, ◌<◌, ◌+◌, ◌∙◌, ℕ, List,
 use Rattle.std.proofs.lemmas.List.{get_or_default}
 use Rattle.go_base.specs.Lists.{Has, Each}
 use Rattle.go_base.proofs.Members.{each_has}
-use Rattle.go_units.proofs.Members.{below_or}
+use Rattle.go_imports.proofs.Members.{below_or}
 
 -- what is needed up to a package is there, where it is before that package and at it
 pub next_bound : (graph : List (List ℕ)) (i n m end : ℕ) (needs given : List ℕ) → i < length graph → given ≡ get_or graph i given → needs ≡ given → Each (λ k. k < end) needs

@@ -1,13 +1,13 @@
 //! Questions on packages and their paths.
 ghost use Rattle.std.specs.Prelude.{◌≡◌, ◌<◌, ℕ, true, length};
 ghost use Rattle.go_base.specs.Lists.{Each};
-ghost use Rattle.go_units.specs.Orders.{IsGraph};
+ghost use Rattle.go_imports.specs.Orders.{IsGraph};
 
 use crate::refusal::Refusal;
 use go_base::list::List;
-use go_units::cycle::least_on_cycle;
-use go_units::import_paths::{assumed_name, is_internal_use, is_under};
-use go_units::order::{OrderError, canonical_order};
+use go_imports::cycle::least_on_cycle;
+use go_imports::import_paths::{assumed_name, is_internal_use, is_under};
+use go_imports::order::{OrderError, canonical_order};
 use std::alloc::Global;
 
 fn truth(alloc: Global, truth: bool) -> Result<Vec<u8>, Refusal> {

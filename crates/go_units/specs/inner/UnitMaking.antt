@@ -1,14 +1,14 @@
 -- What the functions gather that make units.
 use Rattle.std.specs.Prelude.{◌≡◌, ℕ, Bool, Some, List}
 use Rattle.go_base.specs.Lists.{Has}
+use Rattle.go_imports.specs.Gives.{Gives}
+use Rattle.go_imports.specs.declared.used_imports.NamedImport.{NamedImport}
 use Rattle.go_units.specs.Folders.{folder_of, IsFound}
-use Rattle.go_units.specs.Gives.{Gives}
-use Rattle.go_units.specs.Reached.{Slots, slot, is_std}
-use Rattle.go_units.specs.UnitsOfModules.{GivesUnitFile}
+use Rattle.go_units.specs.Reached.{ReadFolders, slot, is_std}
+use Rattle.go_units.specs.UnitsOfModules.{GivesUnitFile, FilesNeed}
 use Rattle.go_units.specs.declared.folder.Folder.{Folder}
 use Rattle.go_units.specs.declared.package_uses.PackageFile.{PackageFile}
 use Rattle.go_units.specs.declared.unit.«Unit».{«Unit» as PackageUnit}
-use Rattle.go_units.specs.declared.used_imports.NamedImport.{NamedImport}
 
 module _ (module_path : List ℕ) (folders : List Folder) (packages : List Bool) where
   abbrev pub PathNeeds : Bool → List ℕ → ℕ → Type 0
@@ -17,21 +17,18 @@ module _ (module_path : List ℕ) (folders : List Folder) (packages : List Bool)
   abbrev pub UsesNeed : Bool → List NamedImport → ℕ → Type 0
   UsesNeed from_std uses m = (u : NamedImport) × Has uses u × PathNeeds from_std u.path m
 
-  abbrev pub FilesNeedBy : Bool → List PackageFile → ℕ → Type 0
-  FilesNeedBy from_std files m = (f : PackageFile) × Has files f × UsesNeed from_std f.uses m
-
-  abbrev pub NeedsBy : Slots → ℕ → ℕ → Type 0
-  NeedsBy slots n m = (files : List PackageFile) × (slot slots n ≡ Some files) × FilesNeedBy (is_std folders n) files m
+  abbrev pub NeedsBy : ReadFolders → ℕ → ℕ → Type 0
+  NeedsBy slots n m = (files : List PackageFile) × (slot slots n ≡ Some files) × FilesNeed module_path folders packages (is_std folders n) files m
 
   -- the unit of these files in a folder
   pub record IsUnitWith (n : ℕ) (files : List PackageFile) (u : PackageUnit) : Type 0 where
-    pub stands : u.path ≡ (folder_of folders n).path
-    pub from : u.from_std ≡ is_std folders n
+    pub path : u.path ≡ (folder_of folders n).path
+    pub side : u.from_std ≡ is_std folders n
     pub given : Gives (GivesUnitFile module_path folders packages (is_std folders n)) files u.files
 
 -- the package clauses of the files have this name
-abbrev pub AreCalled : List PackageFile → List ℕ → Type 0
-AreCalled files name = (f : PackageFile) → Has files f → f.outline.«package».text ≡ name
+abbrev pub PackageFilesAreNamed : List PackageFile → List ℕ → Type 0
+PackageFilesAreNamed files name = (f : PackageFile) → Has files f → f.outline.«package».text ≡ name
 
 -- the package clauses of the files have one name
 abbrev pub AreAlike : List PackageFile → Type 0

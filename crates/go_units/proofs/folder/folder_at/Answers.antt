@@ -1,6 +1,6 @@
 use Rattle.std.proofs.Common.{◌∙◌}
+use Rattle.go_imports.proofs.Members.{get_or_same}
 use Rattle.go_units.specs.Folders.{no_folder}
-use Rattle.go_units.proofs.Members.{get_or_same}
 use Rattle.go_units.proofs.folder.folder_at.Goals as goal
 
 pub returns : goal.returns

@@ -1,9 +1,9 @@
 use Rattle.std.proofs.Common.{List, subst, sym}
 use Rattle.go_base.specs.Growing.{Grows}
 use Rattle.go_syntax.specs.declared.declaration.Decl.{Decl}
+use Rattle.go_imports.specs.UsedImports.{IsDeclaredIn}
+use Rattle.go_imports.proofs.GrowingSets.{grows_as}
 use Rattle.go_units.specs.PackageUses.{IsDeclaredByFile}
-use Rattle.go_units.specs.UsedImports.{IsDeclaredIn}
-use Rattle.go_units.proofs.GrowingSets.{grows_as}
 use Rattle.go_units.proofs.Results.{on_ok_as}
 use Rattle.go_units.proofs.package_uses.add_declared_by.Goals as goal
 

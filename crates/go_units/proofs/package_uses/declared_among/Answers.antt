@@ -1,5 +1,5 @@
+use Rattle.go_imports.proofs.GrowingSets.{grows_next}
 use Rattle.go_units.specs.PackageUses.{IsDeclaredByFile}
-use Rattle.go_units.proofs.GrowingSets.{grows_next}
 use Rattle.go_units.proofs.package_uses.declared_among.Goals as goal
 
 pub loop-source-preserved : goal.loop-source-preserved

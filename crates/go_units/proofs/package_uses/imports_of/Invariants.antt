@@ -1,5 +1,5 @@
 use Rattle.std.proofs.Common.{take}
-use Rattle.go_units.specs.Gives.{Gives}
+use Rattle.go_imports.specs.Gives.{Gives}
 use Rattle.go_units.specs.PackageUses.{GivesImport}
 use Rattle.go_units.proofs.package_uses.imports_of.Given as goal
 

@@ -1,8 +1,8 @@
 use Rattle.std.proofs.Common.{List, subst}
 use Rattle.go_base.specs.Growing.{Grows}
+use Rattle.go_imports.specs.declared.used_imports.NamedImport.{NamedImport}
+use Rattle.go_imports.proofs.GrowingSets.{grows_next}
 use Rattle.go_units.specs.inner.Reaching.{UsesAsk, FileAsksNew}
-use Rattle.go_units.specs.declared.used_imports.NamedImport.{NamedImport}
-use Rattle.go_units.proofs.GrowingSets.{grows_next}
 use Rattle.go_units.proofs.reached.add_asked_by_files.Goals as goal
 
 pub loop-file-preserved : goal.loop-file-preserved

@@ -1,7 +1,7 @@
 use Rattle.std.proofs.Common.{take}
 use Rattle.go_base.specs.Growing.{Grows}
+use Rattle.go_imports.proofs.GrowingSets.{OfSome}
 use Rattle.go_units.specs.inner.Reaching.{FileAsksNew}
-use Rattle.go_units.proofs.GrowingSets.{OfSome}
 use Rattle.go_units.proofs.reached.add_asked_by_files.Given as goal
 
 abbrev pub invariant-loop-file : goal.invariant-loop-file

@@ -1,7 +1,7 @@
 use Rattle.std.proofs.Common.{ℕ, List, subst}
 use Rattle.go_base.specs.Growing.{Grows}
+use Rattle.go_imports.proofs.GrowingSets.{grows_next}
 use Rattle.go_units.specs.inner.Reaching.{PathAsks, UseAsks}
-use Rattle.go_units.proofs.GrowingSets.{grows_next}
 use Rattle.go_units.proofs.reached.add_asked_by_uses.Goals as goal
 
 pub loop-import-preserved : goal.loop-import-preserved

@@ -1,4 +1,4 @@
-use Rattle.go_units.proofs.Members.{grows_placed}
+use Rattle.go_imports.proofs.Members.{grows_placed}
 use Rattle.go_units.proofs.reached.add_number.Goals as goal
 
 pub returns : goal.returns

@@ -1,6 +1,6 @@
 use Rattle.std.proofs.Common.{ℕ, List, subst}
+use Rattle.go_imports.proofs.Members.{above_least}
 use Rattle.go_units.specs.inner.Reaching.{Reaching}
-use Rattle.go_units.proofs.Members.{above_least}
 use Rattle.go_units.proofs.ReachedFolders.{asked_next, asked_apart, asked_left, first_refused}
 use Rattle.go_units.proofs.reached.read_asked.Goals as goal
 

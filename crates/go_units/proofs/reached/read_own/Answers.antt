@@ -1,5 +1,5 @@
 use Rattle.std.proofs.Common.{sym, ap, ◌∙◌}
-use Rattle.go_units.specs.Reached.{Stops}
+use Rattle.go_units.specs.Reached.{IsRefusedFor}
 use Rattle.go_units.specs.inner.Reaching.{ReachCause}
 use Rattle.go_units.specs.declared.folder.Folder.{Folder}
 use Rattle.go_units.proofs.ReachedFolders.{own_next, first_refused}
@@ -8,7 +8,7 @@ use Rattle.go_units.proofs.reached.read_own.Goals as goal
 
 pub returns-clause-cause : goal.returns-clause-cause
 returns-clause-cause g c =
-    if_err_as (Stops c.args.module_path.now c.args.folders.now (g.R.FolderReader.gives c.args.reader.now) c.args.number) (ReachCause c.args.module_path.now c.args.folders.now (g.R.FolderReader.gives c.args.reader.now))
+    if_err_as (IsRefusedFor c.args.module_path.now c.args.folders.now (g.R.FolderReader.gives c.args.reader.now) c.args.number) (ReachCause c.args.module_path.now c.args.folders.now (g.R.FolderReader.gives c.args.reader.now))
     (λ e s.
     first_refused c.args.module_path.now c.args.folders.now (g.R.FolderReader.gives c.args.reader.now) c.args.slots.now.items c.args.number e c.requires.reaching.walked
     (own_next c.args.module_path.now c.args.folders.now c.args.slots.now.items c.args.number c.requires.within (sym (ap (λ (f : Folder). f.from_std) c.folder_at.ensures) ∙ c.if-folder_at.false) c.requires.before)

@@ -1,5 +1,5 @@
 use Rattle.std.proofs.Common.{take}
-use Rattle.go_units.specs.Gives.{Gives}
+use Rattle.go_imports.specs.Gives.{Gives}
 use Rattle.go_units.specs.UnitsOfModules.{GivesUse}
 use Rattle.go_units.proofs.unit_files.used_imports.Given as goal
 

@@ -1,8 +1,8 @@
 use Rattle.std.proofs.Common.{ℕ, List, subst}
 use Rattle.go_base.specs.Growing.{Grows}
+use Rattle.go_imports.specs.declared.used_imports.NamedImport.{NamedImport}
+use Rattle.go_imports.proofs.GrowingSets.{grows_next}
 use Rattle.go_units.specs.inner.UnitMaking.{PathNeeds}
-use Rattle.go_units.specs.declared.used_imports.NamedImport.{NamedImport}
-use Rattle.go_units.proofs.GrowingSets.{grows_next}
 use Rattle.go_units.proofs.unit_graph.add_needs_of_uses.Goals as goal
 
 pub loop-import-preserved : goal.loop-import-preserved

@@ -1,8 +1,8 @@
 use Rattle.std.proofs.Common.{take}
 use Rattle.go_base.specs.Growing.{Grows}
+use Rattle.go_imports.specs.declared.used_imports.NamedImport.{NamedImport}
+use Rattle.go_imports.proofs.GrowingSets.{OfSome}
 use Rattle.go_units.specs.inner.UnitMaking.{PathNeeds}
-use Rattle.go_units.specs.declared.used_imports.NamedImport.{NamedImport}
-use Rattle.go_units.proofs.GrowingSets.{OfSome}
 use Rattle.go_units.proofs.unit_graph.add_needs_of_uses.Given as goal
 
 abbrev pub invariant-loop-import : goal.invariant-loop-import

@@ -1,9 +1,9 @@
 use Rattle.std.proofs.Common.{List, subst}
 use Rattle.go_base.specs.Growing.{Grows}
+use Rattle.go_imports.specs.declared.used_imports.NamedImport.{NamedImport}
+use Rattle.go_imports.proofs.GrowingSets.{grows_next}
 use Rattle.go_units.specs.inner.UnitMaking.{UsesNeed}
 use Rattle.go_units.specs.declared.package_uses.PackageFile.{PackageFile}
-use Rattle.go_units.specs.declared.used_imports.NamedImport.{NamedImport}
-use Rattle.go_units.proofs.GrowingSets.{grows_next}
 use Rattle.go_units.proofs.unit_graph.needs_of_files.Goals as goal
 
 pub loop-file-preserved : goal.loop-file-preserved

@@ -1,8 +1,8 @@
 use Rattle.std.proofs.Common.{take, []}
 use Rattle.go_base.specs.Growing.{Grows}
+use Rattle.go_imports.proofs.GrowingSets.{OfSome}
 use Rattle.go_units.specs.inner.UnitMaking.{UsesNeed}
 use Rattle.go_units.specs.declared.package_uses.PackageFile.{PackageFile}
-use Rattle.go_units.proofs.GrowingSets.{OfSome}
 use Rattle.go_units.proofs.unit_graph.needs_of_files.Given as goal
 
 abbrev pub invariant-loop-file : goal.invariant-loop-file

@@ -1,0 +1,13 @@
+pub mod Cycles
+pub mod Files
+pub mod GrowingSets
+pub mod Members
+pub mod OneOrder
+pub mod Paths
+pub mod Pigeonholes
+pub mod Sorted
+pub mod StuckOrders
+pub mod TextKeys
+pub mod Uses
+pub mod Waits
+pub mod Worklist

@@ -1,0 +1,8 @@
+use Rattle.std.proofs.Common.{take, []}
+use Rattle.go_base.specs.Growing.{Grows}
+use Rattle.go_imports.specs.UsedImports.{IsQualifierOf}
+use Rattle.go_imports.proofs.GrowingSets.{OfSome}
+use Rattle.go_imports.proofs.used_imports.qualifiers.Given as goal
+
+abbrev pub invariant-loop-decl : goal.invariant-loop-decl
+invariant-loop-decl l = Grows (OfSome (IsQualifierOf l.declared.keys) (take l.decl-index l.decls)) [] l.set.keys

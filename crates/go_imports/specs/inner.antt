@@ -1,0 +1,5 @@
+pub mod Files
+pub mod Levels
+pub mod OrderCauses
+pub mod Sorting
+pub mod Uses

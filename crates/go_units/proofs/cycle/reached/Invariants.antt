@@ -1,7 +1,0 @@
-use Rattle.go_units.specs.Orders.{needs_of}
-use Rattle.go_units.specs.inner.Levels.{at_level}
-use Rattle.go_units.proofs.Worklist.{Worked}
-use Rattle.go_units.proofs.cycle.reached.Given as goal
-
-abbrev pub invariant-loop-at : goal.invariant-loop-at
-invariant-loop-at l = Worked (λ m. at_level l.levels l.level (needs_of l.graph m)) (at_level l.levels l.level (needs_of l.graph l.from)) l.seen.keys l.at

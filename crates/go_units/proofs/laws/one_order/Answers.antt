@@ -1,5 +1,0 @@
-use Rattle.go_units.proofs.OneOrder.{one_canonical}
-use Rattle.go_units.proofs.laws.one_order.Goals as goal
-
-pub returns : goal.returns
-returns c graph a b p q = one_canonical graph a b p q

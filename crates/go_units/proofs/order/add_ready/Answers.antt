@@ -1,5 +1,0 @@
-use Rattle.go_units.proofs.Members.{grows_placed}
-use Rattle.go_units.proofs.order.add_ready.Goals as goal
-
-pub returns : goal.returns
-returns c = grows_placed _ _ c.args.node c.in_ok-insert.ensures.keys

@@ -1,6 +1,0 @@
-use Rattle.std.proofs.Common.{drop}
-use Rattle.go_units.specs.inner.Sorting.{Sorting, IsWokenBy}
-use Rattle.go_units.proofs.order.wake.Given as goal
-
-abbrev pub invariant-loop-wait : goal.invariant-loop-wait
-invariant-loop-wait l = Sorting l.graph l.standing.keys l.ready.keys l.waits.items (IsWokenBy (drop l.wait-index l.woken))

@@ -1,8 +1,0 @@
-use Rattle.std.proofs.Common.{take}
-use Rattle.go_base.specs.Lists.{Has}
-use Rattle.go_syntax.specs.declared.declaration.ImportSpec.{ImportSpec}
-use Rattle.go_units.specs.PackageFiles.{IsC}
-use Rattle.go_units.proofs.package_files.has_c.Given as goal
-
-abbrev pub invariant-loop-import : goal.invariant-loop-import
-invariant-loop-import l = (i : ImportSpec) → Has (take l.import-index l.imports) i → IsC i → ⊥

@@ -1,6 +1,0 @@
-use Rattle.std.proofs.Common.{sym, ◌∙◌}
-use Rattle.go_units.proofs.TextKeys.{has_key, key_has}
-use Rattle.go_units.proofs.text_set.has_text.Goals as goal
-
-pub returns : goal.returns
-returns c = ((λ h. key_has c.args.set.now.keys c.args.text.now (sym c.contains.ensures ∙ h)), (λ h. c.contains.ensures ∙ has_key c.args.set.now.keys c.args.text.now h))

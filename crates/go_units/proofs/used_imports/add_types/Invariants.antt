@@ -1,8 +1,0 @@
-use Rattle.std.proofs.Common.{take}
-use Rattle.go_base.specs.Growing.{Grows}
-use Rattle.go_units.specs.UsedImports.{IsTypeName}
-use Rattle.go_units.proofs.GrowingSets.{OfSome}
-use Rattle.go_units.proofs.used_imports.add_types.Given as goal
-
-abbrev pub invariant-loop-spec : goal.invariant-loop-spec
-invariant-loop-spec l = Grows (OfSome (IsTypeName) (take l.spec-index l.specs)) l.fn.set.keys l.set.keys
