@@ -124,7 +124,7 @@ module _ (a b : Entries) (h : Within a b) where
   form_defined u name n (function f) d e = none_some (defined_by u a name n (function f)) d refl e
   form_defined u name n (method r f) d e = none_some (defined_by u a name n (method r f)) d refl e
 
-  defined_more : (u : PackageSource) (name : List ℕ) (w : Option Declared) (d : Defined) → defined_at u a name w ≡ Some d → Both u name (defined_at u b name w) d
+  pub defined_more : (u : PackageSource) (name : List ℕ) (w : Option Declared) (d : Defined) → defined_at u a name w ≡ Some d → Both u name (defined_at u b name w) d
   defined_more u name None d e = none_some (defined_at u a name None) d refl e
   defined_more u name (Some w) d e = form_defined u name w.number w.form d e
 

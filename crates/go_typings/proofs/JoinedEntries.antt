@@ -13,20 +13,20 @@ use Rattle.go_typings.proofs.Agree.{GivesOne, Grows, agree, held}
 use Rattle.go_typings.proofs.Cells.{before_has, either, if_false, if_true, maybe, or_false, some_once}
 use Rattle.go_typings.proofs.OneTyping.{grows, one}
 
-or_cases : (b c : Bool) → (b || c) ≡ true → (b ≡ true) ⊎ ((b ≡ false) × (c ≡ true))
+pub or_cases : (b c : Bool) → (b || c) ≡ true → (b ≡ true) ⊎ ((b ≡ false) × (c ≡ true))
 or_cases true c e = inl refl
 or_cases false c e = inr (refl, e)
 
 -- ---- a bound on the orders of what is declared
 
-top : (ℕ → ℕ) → ℕ → ℕ
+pub top : (ℕ → ℕ) → ℕ → ℕ
 top f zero = zero
 top f (suc n) = f n + top f n
 
-is_last : (k n : ℕ) → k < suc n → (k ≡ n) ⊎ (k < n)
+pub is_last : (k n : ℕ) → k < suc n → (k ≡ n) ⊎ (k < n)
 is_last k n h = grind (arith, h)
 
-top_at : (f : ℕ → ℕ) (n k : ℕ) → k < n → f k ≤ top f n
+pub top_at : (f : ℕ → ℕ) (n k : ℕ) → k < n → f k ≤ top f n
 unfolding top
 top_at f zero k h = absurd (omega (arith, h))
 top_at f (suc n) k h = elim (is_last k n h) [ inl e ↦ subst (λ (j : ℕ). f j ≤ f n + top f n) (sym e) (omega arith) | inr l ↦ (let r = top_at f n k l in omega (arith, r)) ]

@@ -10,6 +10,7 @@ pub mod ReachedRegion
 pub mod LocalRules
 pub mod SameImports
 pub mod SameReferences
+pub mod SameAsks
 pub mod ReachedConstants
 pub mod SameTypings
 pub mod FoundImports

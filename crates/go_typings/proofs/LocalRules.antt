@@ -1,5 +1,5 @@
--- What a declaration is given depends on a closed region alone, where the names of the region are all names, and is of it.
-use Rattle.std.proofs.Common.{◌≡◌, ℕ, zero, suc, true, List, [], ◌∷◌, Option, map}
+-- What a declaration is given depends on a closed region alone, where it refers to that alone, and is of it.
+use Rattle.std.proofs.Common.{◌≡◌, ℕ, zero, suc, true, List, [], ◌∷◌, ◌++◌, Option, Some, map, subst}
 use Rattle.std.specs.Prelude.{replicate}
 use Rattle.go_base.specs.Lists.{Each}
 use Rattle.go_model.specs.declared.constants.value.Untyped.{Untyped}
@@ -12,13 +12,13 @@ use Rattle.go_model.specs.declared.types.package.Entity.TheVariants as entity
 use Rattle.go_model.specs.declared.types.term.Term.{Term, Term-F}
 use Rattle.go_rules.specs.Environments.{Env}
 use Rattle.go_rules.specs.Expressions.{HasEach, each_none, each_more}
-use Rattle.go_rules.specs.Nodes.{Node, expression, signature as at_signature, type}
+use Rattle.go_rules.specs.Nodes.{Node, expression, optional, type}
 use Rattle.go_rules.specs.Operands.{default_type}
 use Rattle.go_rules.specs.Regions.{ConstIn, EntityIn, IsClosed, NameIn, RefersIn, Region, TermIn, cut, node_names}
 use Rattle.go_rules.specs.declared.operand.Operand.{Operand}
 use Rattle.go_rules.proofs.LocalAsks.{whole_signature_local}
 use Rattle.go_rules.proofs.LocalOperand.{has_local, type_local}
-use Rattle.go_rules.proofs.LocalParts.{plains_in}
+use Rattle.go_rules.proofs.LocalParts.{each_left, each_right, plains_in}
 use Rattle.go_rules.proofs.LocalRelations.{OperandIn, basic_in, typed_in, usable_local}
 use Rattle.go_rules.proofs.LocalTerms.{close_in, form_in}
 use Rattle.go_rules.proofs.LocalTypes.{form_same}
@@ -26,6 +26,7 @@ use Rattle.go_syntax.specs.declared.expression.Expr.{Expr}
 use Rattle.go_syntax.specs.declared.name.Name.{Name}
 use Rattle.go_syntax.specs.declared.types.«Type».{«Type» as Typ}
 use Rattle.go_typings.specs.DeclarationRules.{AreConstants, constants_none, constants_more, Gives, gives_constants, gives_typed_variables, gives_variables, gives_alias, gives_definition, gives_function, gives_method, TypeOfConstant, own_kind, given_type}
+use Rattle.go_typings.specs.DeclarationNodes.{nodes}
 use Rattle.go_typings.specs.Declarations.{Declaration, Form}
 use Rattle.go_typings.specs.Initializers.{GivesValueAndTruth, two_of_map, two_of_value, Initialize, by_each, by_call, by_two, TypeOfValue, own_type, default_of_constant, default_of_truth, TypesOfValues, types_none, types_more}
 use Rattle.go_typings.specs.PackageEnvironments.{Entry}
@@ -37,43 +38,52 @@ default_in R untyped.RuneKind = basic_in R basic.Int32
 default_in R untyped.StrKind = basic_in R basic.Str
 default_in R untyped.BoolKind = basic_in R basic.Bool
 
-module _ (E : Env) (R : Region) (w : IsClosed E R) (every : (name : List ℕ) → R.names name ≡ true) where
+-- where all names are of the region, each tree refers to it alone
+names_all : (R : Region) → ((name : List ℕ) → R.names name ≡ true) → (ns : List Name) → Each (NameIn R) ns
+names_all R every [] = tt
+names_all R every (n ∷ ns) = (every n.text, names_all R every ns)
+
+refers : (R : Region) → ((name : List ℕ) → R.names name ≡ true) → (at : Node) → RefersIn R at
+refers R every at b h = names_all R every (node_names b)
+
+pub all_refer : (R : Region) → ((name : List ℕ) → R.names name ≡ true) → (xs : List Node) → Each (RefersIn R) xs
+all_refer R every [] = tt
+all_refer R every (x ∷ xs) = (refers R every x, all_refer R every xs)
+
+module _ (E : Env) (R : Region) (w : IsClosed E R) where
   abbrev C : Env
   C = cut R E
 
-  names_all : (ns : List Name) → Each (NameIn R) ns
-  names_all [] = tt
-  names_all (n ∷ ns) = (every n.text, names_all ns)
-
-  pub refers : (at : Node) → RefersIn R at
-  refers at b h = names_all (node_names b)
+  -- the trees refer to the region alone
+  abbrev Refer : List Node → Type 0
+  Refer xs = Each (RefersIn R) xs
 
   -- ---- constants
 
-  constant_local : {t : Option Typ} {c d : ConstTerm} {v : Value} → TypeOfConstant E t c v d → ConstIn R c → TypeOfConstant C t c v d × ConstIn R d
-  constant_local own_kind i = (own_kind, i)
-  constant_local (given_type {t = t} {u = u} {b = b} a e i h) k = let f = type_local E R w a (refers (type t)) in (given_type f.0 (form_same E R w u (Term-F.Plain b) f.1 e) i (usable_local E R w k f.1 h), f.1)
+  constant_local : {t : Option Typ} {c d : ConstTerm} {v : Value} → Refer (optional type t) → TypeOfConstant E t c v d → ConstIn R c → TypeOfConstant C t c v d × ConstIn R d
+  constant_local n own_kind i = (own_kind, i)
+  constant_local n (given_type {u = u} {b = b} a e i h) k = let f = type_local E R w a n.0 in (given_type f.0 (form_same E R w u (Term-F.Plain b) f.1 e) i (usable_local E R w k f.1 h), f.1)
 
-  constants_local : {t : Option Typ} {es : List Expr} {xs : List Entity} → AreConstants E t es xs → AreConstants C t es xs × Each (EntityIn R) xs
-  constants_local constants_none = (constants_none, tt)
-  constants_local (constants_more {e = e} a h r) =
-      let f = has_local E R w a (refers (expression e)) in let g = constant_local h f.1 in let q = constants_local r in
+  constants_local : {t : Option Typ} {es : List Expr} {xs : List Entity} → Refer (optional type t) → Refer (map expression es) → AreConstants E t es xs → AreConstants C t es xs × Each (EntityIn R) xs
+  constants_local n m constants_none = (constants_none, tt)
+  constants_local n m (constants_more a h r) =
+      let f = has_local E R w a m.0 in let g = constant_local n h f.1 in let q = constants_local n m.1 r in
       (constants_more f.0 g.0 q.0, (g.1, q.1))
 
   -- ---- variables
 
-  each_local : {es : List Expr} {os : List Operand} → HasEach E es os → HasEach C es os × Each (OperandIn R) os
-  each_local each_none = (each_none, tt)
-  each_local (each_more {e = e} a r) = let f = has_local E R w a (refers (expression e)) in let q = each_local r in (each_more f.0 q.0, (f.1, q.1))
+  each_local : {es : List Expr} {os : List Operand} → Refer (map expression es) → HasEach E es os → HasEach C es os × Each (OperandIn R) os
+  each_local n each_none = (each_none, tt)
+  each_local n (each_more a r) = let f = has_local E R w a n.0 in let q = each_local n.1 r in (each_more f.0 q.0, (f.1, q.1))
 
-  two_local : {e : Expr} {t : Term} → GivesValueAndTruth E e t → GivesValueAndTruth C e t × TermIn R t
-  two_local {e = e} (two_of_map a) = let f = has_local E R w a (refers (expression e)) in (two_of_map f.0, f.1)
-  two_local {e = e} (two_of_value i a) = let f = has_local E R w a (refers (expression e)) in (two_of_value i f.0, f.1)
+  two_local : {e : Expr} {t : Term} → RefersIn R (expression e) → GivesValueAndTruth E e t → GivesValueAndTruth C e t × TermIn R t
+  two_local n (two_of_map a) = let f = has_local E R w a n in (two_of_map f.0, f.1)
+  two_local n (two_of_value i a) = let f = has_local E R w a n in (two_of_value i f.0, f.1)
 
-  pub initialize_local : {n : ℕ} {es : List Expr} {os : List Operand} → Initialize E n es os → Initialize C n es os × Each (OperandIn R) os
-  initialize_local (by_each a e) = let f = each_local a in (by_each f.0 e, f.1)
-  initialize_local (by_call {e = x} {ts = ts} a e l) = let f = has_local E R w a (refers (expression x)) in (by_call f.0 e l, plains_in R ts f.1)
-  initialize_local (by_two a e) = let f = two_local a in (by_two f.0 e, (f.1, (tt, tt)))
+  pub initialize_local : {n : ℕ} {es : List Expr} {os : List Operand} → Refer (map expression es) → Initialize E n es os → Initialize C n es os × Each (OperandIn R) os
+  initialize_local n (by_each a e) = let f = each_local n a in (by_each f.0 e, f.1)
+  initialize_local n (by_call {ts = ts} a e l) = let f = has_local E R w a n.0 in (by_call f.0 e l, plains_in R ts f.1)
+  initialize_local n (by_two a e) = let f = two_local n.0 a in (by_two f.0 e, (f.1, (tt, tt)))
 
   value_local : {o : Operand} {t : Term} → TypeOfValue E o t → OperandIn R o → TypeOfValue C o t × TermIn R t
   value_local (own_type h) i = (own_type h, typed_in R i h)
@@ -90,11 +100,14 @@ module _ (E : Env) (R : Region) (w : IsClosed E R) (every : (name : List ℕ) �
 
   -- ---- declarations
 
-  pub gives_local : {ds : List Declaration} {f : Form} {x : Entry} → Gives E ds f x → Gives C ds f x × EntryIn R x
-  gives_local (gives_constants a e) = let f = constants_local a in (gives_constants f.0 e, f.1)
-  gives_local (gives_typed_variables {t = t} {u = u} e a) = let f = type_local E R w a (refers (type t)) in (gives_typed_variables e f.0, same_in _ u f.1)
-  gives_local (gives_variables e a h) = let f = initialize_local a in let g = variables_in h f.1 in (gives_variables e f.0 g.0, g.1)
-  gives_local (gives_alias {s = s} a) = let f = type_local E R w a (refers (type s.type_)) in (gives_alias f.0, (f.1, tt))
-  gives_local (gives_definition {s = s} {u = u} {l = l} a e n h) = let f = type_local E R w a (refers (type s.type_)) in (gives_definition f.0 (form_same E R w u l f.1 e) n h, close_in R l (form_in E R w u l f.1 e))
-  gives_local (gives_function {f = x} a b) = let f = whole_signature_local E R w x.signature (refers (at_signature x.signature)) a in (gives_function f.0 b, (f.1, tt))
-  gives_local (gives_method {f = x} a b) = let f = whole_signature_local E R w x.signature (refers (at_signature x.signature)) a in (gives_method f.0 b, f.1)
+  typed_refer : (c : Option Typ) (t : Typ) (es : List Expr) → c ≡ Some t → Refer (optional type c ++ map expression es) → RefersIn R (type t)
+  typed_refer c t es e n = (subst (λ z. Refer (optional type z)) e (each_left (RefersIn R) (optional type c) (map expression es) n)).0
+
+  pub gives_local : {ds : List Declaration} {f : Form} {x : Entry} → Refer (nodes f) → Gives E ds f x → Gives C ds f x × EntryIn R x
+  gives_local n (gives_constants {s = s} a e) = let f = constants_local (each_left (RefersIn R) (optional type s.type_) (map expression s.values) n) (each_right (RefersIn R) (optional type s.type_) (map expression s.values) n) a in (gives_constants f.0 e, f.1)
+  gives_local n (gives_typed_variables {s = s} {t = t} {u = u} e a) = let f = type_local E R w a (typed_refer s.type_ t s.values e n) in (gives_typed_variables e f.0, same_in _ u f.1)
+  gives_local n (gives_variables {s = s} e a h) = let f = initialize_local (each_right (RefersIn R) (optional type s.type_) (map expression s.values) n) a in let g = variables_in h f.1 in (gives_variables e f.0 g.0, g.1)
+  gives_local n (gives_alias a) = let f = type_local E R w a n.0 in (gives_alias f.0, (f.1, tt))
+  gives_local n (gives_definition {u = u} {l = l} a e m h) = let f = type_local E R w a n.0 in (gives_definition f.0 (form_same E R w u l f.1 e) m h, close_in R l (form_in E R w u l f.1 e))
+  gives_local n (gives_function {f = x} a b) = let f = whole_signature_local E R w x.signature n.0 a in (gives_function f.0 b, (f.1, tt))
+  gives_local n (gives_method {f = x} a b) = let f = whole_signature_local E R w x.signature n.1.0 a in (gives_method f.0 b, f.1)

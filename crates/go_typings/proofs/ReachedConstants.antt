@@ -19,6 +19,7 @@ use Rattle.go_rules.proofs.LocalTypes.{form_same}
 use Rattle.go_rules.proofs.OneKind.{no_truth}
 use Rattle.go_typings.specs.Assignments.{Below, Within, before}
 use Rattle.go_typings.specs.ConstantKinds.{EntriesKept, ReachedKept}
+use Rattle.go_typings.specs.DeclarationNodes.{nodes}
 use Rattle.go_typings.specs.Declarations.{Declaration, declarations, declared}
 use Rattle.go_typings.specs.PackageEnvironments.{Entries, Entry, objects, environment, import_of, path_in}
 use Rattle.go_typings.specs.ReachedPackages.{AreReached, ReachesSame}
@@ -29,7 +30,7 @@ use Rattle.go_typings.proofs.Cells.{before_has, before_within, either, if_false,
 use Rattle.go_typings.proofs.ConstantKinds.{kind_kept, member_kept, other_entry, whole_apart, whole_is}
 use Rattle.go_typings.proofs.GrowEnvironments.{environment_more, object_back}
 use Rattle.go_typings.proofs.KeptEntries.{EntityKept, EntryKept, entry_kept_more, gives_kept}
-use Rattle.go_typings.proofs.LocalRules.{gives_local}
+use Rattle.go_typings.proofs.LocalRules.{all_refer, gives_local}
 use Rattle.go_typings.proofs.OneTyping.{grows, one}
 use Rattle.go_typings.proofs.ReachedRegion.{EntriesIn, closed_region, region}
 use Rattle.go_typings.proofs.SameImports.{cut_grows, entries_in}
@@ -101,7 +102,7 @@ module _ (s : Setting) (u : PackageSource) (absent : first_with path_of s.world.
             cut_kept n g.0 c v i (at_each (EntityKept (E n g.0)) f.0 q.1 (entity.Const c v) f.2 j);
         imported = imported_kept n g.0;
       } in
-      let y = gives_local (E n g.0) R (closed n g.0) (λ name. refl) g.2.2 in
+      let y = gives_local (E n g.0) R (closed n g.0) (all_refer R (λ name. refl) (nodes g.0.form)) g.2.2 in
       let z = entry_kept_more (C n g.0) (E n g.0) (cut_grows u s s same all (part n) g.0) g.2.0 (gives_kept (C n g.0) w y.0) in
       other_entry s u absent (part n) g.0 d x (subst (EntryKept (E n g.0)) (some_once g.2.0 x (sym g.2.1 ∙ e)) z)
 

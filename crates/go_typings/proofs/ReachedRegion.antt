@@ -65,7 +65,7 @@ pub or_second : (a b : Bool) → a ≡ false → (a || b) ≡ true → b ≡ tru
 or_second true b f e = let g : true ≡ false = f in absurd (cc)
 or_second false b f e = e
 
-weaker : {A : Type 0} (p q : A → Bool) → ((x : A) → p x ≡ true → q x ≡ true) → (xs : List A) → Passes p xs → Passes q xs
+pub weaker : {A : Type 0} (p q : A → Bool) → ((x : A) → p x ≡ true → q x ≡ true) → (xs : List A) → Passes p xs → Passes q xs
 weaker p q h [] k = tt
 weaker p q h (x ∷ xs) k = (h x k.0, weaker p q h xs k.1)
 
@@ -106,7 +106,7 @@ module _ (R : Region) where
   object_in_region p None x h k e = none_some (entity_of None) x refl e
   object_in_region p (Some o) x h k e = subst (EntityIn R) (some_once o.entity x e) (entity_in o.entity (gathered R.types object_names p.objects o (h o refl) (passes_left R.types (gather object_names p.objects) (gather defined_names p.defined) k)))
 
-  found_object : (c : Option Package) (name : List ℕ) (x : Entity) → ((p : Package) → c ≡ Some p → Passes R.types (package_names p)) → entity_of (object_in c name) ≡ Some x → EntityIn R x
+  pub found_object : (c : Option Package) (name : List ℕ) (x : Entity) → ((p : Package) → c ≡ Some p → Passes R.types (package_names p)) → entity_of (object_in c name) ≡ Some x → EntityIn R x
   found_object None name x h e = none_some (entity_of (object_in None name)) x refl e
   found_object (Some p) name x h e = object_in_region p (first_with object_name p.objects name) x (λ y f. first_has object_name p.objects name y f) (h p refl) e
 
@@ -115,7 +115,7 @@ module _ (R : Region) where
     pub underlying_in : TermIn R d.underlying
     pub methods_in : (m : MethodOf) → Has d.methods m → SignatureIn R m.signature
 
-  found_defined : (c : Option Package) (name : List ℕ) (d : Defined) → ((p : Package) → c ≡ Some p → Passes R.types (package_names p)) → defined_in c name ≡ Some d → DefinedIn d
+  pub found_defined : (c : Option Package) (name : List ℕ) (d : Defined) → ((p : Package) → c ≡ Some p → Passes R.types (package_names p)) → defined_in c name ≡ Some d → DefinedIn d
   found_defined None name d h e = none_some (defined_in None name) d refl e
   found_defined (Some p) name d h e =
       let k = gathered R.types defined_names p.defined d (first_has name_of p.defined name d e) (passes_right R.types (gather object_names p.objects) (gather defined_names p.defined) (h p refl)) in
@@ -136,7 +136,7 @@ error_signature R =
     close_signature R (roll-Signature (record { params = []; variadic = false; results = roll-Term (Term-F.Plain basic.Str) ∷ [] }))
     (subst (λ z. Each (TermIn R) z.params) (sym p) tt) (subst (λ z. Each (TermIn R) z.results) (sym p) (basic_in R basic.Str, tt))
 
-error_in : (R : Region) → DefinedIn R error_type
+pub error_in : (R : Region) → DefinedIn R error_type
 error_in R = record {
   underlying_in = close_in R (Term-F.Interface (error_method ∷ [])) (each_passes R.types (λ m. signature_names (out-Method m).signature) (error_method ∷ [])
       (subst (λ z. SignatureIn R z.signature) (sym (out-roll-Method (record { sel = record { name = codes "Error"; «package» = [] }; signature = roll-Signature (record { params = []; variadic = false; results = roll-Term (Term-F.Plain basic.Str) ∷ [] }) }))) (error_signature R), tt));

@@ -12,6 +12,7 @@ use Rattle.go_rules.specs.Growth.{Grown, Grows}
 use Rattle.go_rules.specs.Regions.{cut}
 use Rattle.go_rules.specs.Scopes.{entity_of}
 use Rattle.go_typings.specs.Assignments.{Below, before}
+use Rattle.go_typings.specs.DeclarationNodes.{nodes}
 use Rattle.go_typings.specs.Declarations.{Declaration, declarations}
 use Rattle.go_typings.specs.PackageEnvironments.{Entries, Entry, environment, own_defined, types_of}
 use Rattle.go_typings.specs.ReachedPackages.{ReachesSame, is_reached}
@@ -20,7 +21,7 @@ use Rattle.go_typings.specs.Typings.{given}
 use Rattle.go_typings.proofs.Agree.{held}
 use Rattle.go_typings.proofs.Cells.{before_has, either, if_false, if_true, none_some, some_once}
 use Rattle.go_typings.proofs.GrowRules.{gives_more}
-use Rattle.go_typings.proofs.LocalRules.{gives_local}
+use Rattle.go_typings.proofs.LocalRules.{all_refer, gives_local}
 use Rattle.go_typings.proofs.OneTyping.{grows, one}
 use Rattle.go_typings.proofs.ReachedRegion.{EntriesIn, EntryIn, closed_region, or_second, region}
 
@@ -76,7 +77,7 @@ module _ (u : PackageSource) (s t : Setting) (m : ReachesSame u s t) (all : AreF
     }
 
     pub given_same : {x : Entry} → EntriesIn (region u m.reached) b → given s u b d x → given t u b d x × EntryIn (region u m.reached) x
-    given_same h a = let g = gives_local E (region u m.reached) (closed_region s u m.reached m.are all b h d) (λ name. refl) a in (gives_more C F cut_grows g.0, g.1)
+    given_same h a = let g = gives_local E (region u m.reached) (closed_region s u m.reached m.are all b h d) (all_refer (region u m.reached) (λ name. refl) (nodes d.form)) a in (gives_more C F cut_grows g.0, g.1)
 
   -- entries that are had from below under the one setting are had under the other
   module _ (S : ℕ → Bool) (a : Entries) (T : Below (given s u) (declarations u) S a) where

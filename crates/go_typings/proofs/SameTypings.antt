@@ -1,34 +1,15 @@
 -- Under settings that are the same in all that a package reaches it has the same typing and the same refusal.
-use Rattle.std.proofs.Common.{◌≡◌, ℕ, Bool, true, List, [], ◌∷◌, Option, Some, None, length, refl, sym, ◌∙◌, subst}
+use Rattle.std.proofs.Common.{◌≡◌, ℕ, Bool, true, List, refl, sym, ◌∙◌}
 use Rattle.std.specs.Str.{bytes_eq}
 use Rattle.go_base.specs.Lists.{Each}
 use Rattle.go_model.specs.declared.types.package.Package.{Package}
-use Rattle.go_model.specs.declared.types.term.Term.{Term}
 use Rattle.go_model.specs.worlds.Worlds.{table_of}
-use Rattle.go_rules.specs.Asks.{Meets}
 use Rattle.go_rules.specs.Environments.{Env}
-use Rattle.go_rules.specs.Expressions.{OfType}
-use Rattle.go_rules.specs.Nodes.{Node, type}
-use Rattle.go_rules.specs.Regions.{IsClosed, Region, cut}
-use Rattle.go_rules.specs.Usability.{UsableAs}
-use Rattle.go_rules.specs.declared.operand.Operand.{Operand}
-use Rattle.go_rules.proofs.GrowAsks.{meets_more}
-use Rattle.go_rules.proofs.GrowOperand.{type_more}
-use Rattle.go_rules.proofs.GrowRelations.{usable_more}
-use Rattle.go_rules.proofs.GrowResults.{each_of}
-use Rattle.go_rules.proofs.GrowTypes.{joined_is}
-use Rattle.go_rules.proofs.LocalAsks.{meets_local}
-use Rattle.go_rules.proofs.LocalOperand.{type_local}
-use Rattle.go_rules.proofs.LocalResults.{each_usable}
-use Rattle.go_syntax.specs.declared.declaration.Func.{Func}
-use Rattle.go_syntax.specs.declared.expression.Expr.{Expr}
-use Rattle.go_syntax.specs.declared.types.ParameterDecl.{ParameterDecl}
-use Rattle.go_syntax.specs.declared.types.«Type».{«Type» as Typ}
+use Rattle.go_rules.specs.Regions.{IsClosed, RefersIn, Region, cut}
 use Rattle.go_typings.specs.Assignments.{At}
-use Rattle.go_typings.specs.DeclarationAsks.{AreUsable, Asks, FormAsks, IsMethod, ValuesFit}
+use Rattle.go_typings.specs.DeclarationAsks.{Asks}
 use Rattle.go_typings.specs.DeclarationNodes.{length_references, nodes, references, strong_references}
 use Rattle.go_typings.specs.Declarations.{Form, constants, variables, alias, definition, function, method, Declaration, declarations}
-use Rattle.go_typings.specs.Initializers.{Initialize}
 use Rattle.go_typings.specs.PackageEnvironments.{Entries, environment, own_defined}
 use Rattle.go_typings.specs.ReachedPackages.{ReachesSame}
 use Rattle.go_typings.specs.References.{LeadsTo, leads_here, leads_by_name, leads_by_method, NamesDeclaration}
@@ -38,10 +19,10 @@ use Rattle.go_typings.specs.TypedPackages.{IsTypedAs}
 use Rattle.go_typings.specs.Typings.{IsFirstUnsound, IsSound, Typing}
 use Rattle.go_typings.proofs.Cells.{if_true}
 use Rattle.go_typings.proofs.FoundImports.{are_found}
-use Rattle.go_typings.proofs.GrowRules.{initialize_more}
-use Rattle.go_typings.proofs.LocalRules.{initialize_local, refers}
+use Rattle.go_typings.proofs.LocalRules.{all_refer}
 use Rattle.go_typings.proofs.ReachedRegion.{EntriesIn, closed_region, own_path, region}
 use Rattle.go_typings.proofs.SameImports.{cut_grows, entries_in, had_same}
+use Rattle.go_typings.proofs.SameAsks.{KeepsBase, asks_same}
 use Rattle.go_typings.proofs.SameReferences.{finds_method_same, refers_back}
 
 -- the same the other way round
@@ -54,7 +35,7 @@ turned u s t m = record {
   profile = sym m.profile;
 }
 
-module _ (u : PackageSource) (s t : Setting) (m : ReachesSame u s t) (all : AreFound u) (a : Entries) (h : EntriesIn (region u m.reached) a) where
+module _ (u : PackageSource) (s t : Setting) (m : ReachesSame u s t) (found : AreFound u) (a : Entries) (h : EntriesIn (region u m.reached) a) where
   module _ (d : Declaration) where
     abbrev E : Env
     E = environment s u a d
@@ -69,53 +50,31 @@ module _ (u : PackageSource) (s t : Setting) (m : ReachesSame u s t) (all : AreF
     C = cut R E
 
     closed : IsClosed E R
-    closed = closed_region s u m.reached m.are all a h d
+    closed = closed_region s u m.reached m.are found a h d
 
     every : (name : List ℕ) → R.names name ≡ true
     every name = refl
 
-    meets_same : (at : Node) → Meets E at → Meets F at
-    meets_same at k = subst (λ z. Meets z at) (joined_is C F (cut_grows u s t m all a d)) (meets_more C F (cut_grows u s t m all a d) (meets_local E R closed at (refers E R closed every at) k))
+    all : (f : Form) → Each (RefersIn R) (nodes f)
+    all f = all_refer R every (nodes f)
 
-    usable_same : (x : Typ) (n : ℕ) (es : List Expr) → AreUsable E x n es → AreUsable F x n es
-    usable_same x n [] k = tt
-    usable_same x n (e ∷ es) (v, os, k, i, g) =
-        let q = type_local E R closed k (refers E R closed every (type x)) in
-        let p = initialize_local E R closed every i in
-        let b = each_usable E R closed v os q.1 p.1 g in
-        subst (λ z. (v : Term) × (os : List Operand) × OfType z x v × Initialize z n (e ∷ es) os × Each (λ o. UsableAs z o v) os) (joined_is C F (cut_grows u s t m all a d))
-        (v, os, type_more C F (cut_grows u s t m all a d) q.0, initialize_more C F (cut_grows u s t m all a d) p.0, each_of os (λ o j. usable_more C F (cut_grows u s t m all a d) j) b)
+    own_same : (name : List ℕ) → E.table (record { path = u.path; name = name }) ≡ F.table (record { path = u.path; name = name })
+    own_same name = if_true (bytes_eq u.path u.path) (own_defined u a name) (table_of s.world.packages (record { path = u.path; name = name })) (own_path u.path)
+        ∙ sym (if_true (bytes_eq u.path u.path) (own_defined u a name) (table_of t.world.packages (record { path = u.path; name = name })) (own_path u.path))
 
-    fit_same : (x : Option Typ) (n : ℕ) (es : List Expr) → ValuesFit E x n es → ValuesFit F x n es
-    fit_same None n es k = tt
-    fit_same (Some x) n es k = usable_same x n es k
+    keeps_base : (f : Form) → KeepsBase E F u f
+    keeps_base (method r f) = λ name d h e. (d, sym (own_same name) ∙ e, refl)
+    keeps_base (constants c place) = tt
+    keeps_base (variables c) = tt
+    keeps_base (alias c) = tt
+    keeps_base (definition c) = tt
+    keeps_base (function f) = tt
 
-    method_same : (n : ℕ) (receiver : ParameterDecl) (f : Func) → IsMethod E u n receiver f → IsMethod F u n receiver f
-    method_same n receiver f k = record {
-      type = k.type;
-      of = k.of;
-      defined = k.defined;
-      entry = if_true (bytes_eq u.path u.path) (own_defined u a k.type) (table_of t.world.packages (record { path = u.path; name = k.type })) (own_path u.path)
-          ∙ sym (if_true (bytes_eq u.path u.path) (own_defined u a k.type) (table_of s.world.packages (record { path = u.path; name = k.type })) (own_path u.path)) ∙ k.entry;
-      permits_methods = k.permits_methods;
-      only = k.only;
-      apart = k.apart;
-      distinct = k.distinct;
-    }
-
-    form_asks_same : (n : ℕ) (f : Form) → FormAsks E u n f → FormAsks F u n f
-    form_asks_same n (constants c place) k = k
-    form_asks_same n (variables v) k = (k.0, fit_same v.type_ (length v.names) v.values k.1)
-    form_asks_same n (alias c) k = k
-    form_asks_same n (definition c) k = k
-    form_asks_same n (function f) k = k
-    form_asks_same n (method r f) k = method_same n r f k
-
-    pub asks_same : (n : ℕ) (f : Form) → Asks E u n f → Asks F u n f
-    asks_same n f k = record { form = form_asks_same n f k.form; meets = each_of (nodes f) (λ at j. meets_same at j) k.meets }
+    pub asks_kept : (n : ℕ) (f : Form) → Asks E u n f → Asks F u n f
+    asks_kept n f k = asks_same E F R closed (cut_grows u s t m found a d) u n f (all f) (keeps_base f) k
 
     pub refers_same : (f : Form) (rs : _) (n : ℕ) → NamesDeclaration F u f rs n → NamesDeclaration E u f rs n
-    refers_same f rs n k = refers_back E F R closed every (cut_grows u s t m all a d) u f rs n k
+    refers_same f rs n k = refers_back E F R closed (cut_grows u s t m found a d) u f rs n (all f) k
 
 -- a typing under the one setting is one under the other
 module _ (u : PackageSource) (s t : Setting) (m : ReachesSame u s t) (all : AreFound u) where
@@ -131,12 +90,12 @@ module _ (u : PackageSource) (s t : Setting) (m : ReachesSame u s t) (all : AreF
     leads_back leads_here = leads_here
     leads_back (leads_by_name {k = k} n i r) = leads_by_name n (at_of (declarations u) k (λ d. refers_same u s t m all a inside d d.form (references d.form) n) i) (leads_back r)
     leads_back (leads_by_method {k = k} n i r) = leads_by_method n (at_of (declarations u) k (λ d.
-        finds_method_same (environment t u a d) (environment s u a d) (region u m.reached) (closed_region t u m.reached (turned u s t m).are all a inside d) (λ name. refl) (cut_grows u t s (turned u s t m) all a d) u d.form n) i) (leads_back r)
+        finds_method_same (environment t u a d) (environment s u a d) (region u m.reached) (closed_region t u m.reached (turned u s t m).are all a inside d) (cut_grows u t s (turned u s t m) all a d) u d.form n (all_refer (region u m.reached) (λ name. refl) (nodes d.form))) i) (leads_back r)
 
     pub typing_same : Typing t u S a
     typing_same = record {
       had = had_same u s t m all S a T.had;
-      asks = λ n i. at_of (declarations u) n (λ d. asks_same u s t m all a inside d n d.form) (T.asks n i);
+      asks = λ n i. at_of (declarations u) n (λ d. asks_kept u s t m all a inside d n d.form) (T.asks n i);
       rank = T.rank;
       falls = λ n k i r. T.falls n k i (at_of (declarations u) n (λ d. refers_same u s t m all a inside d d.form (strong_references d.form) k) r);
       lengths = λ n k i r l. T.lengths n k i (at_of (declarations u) n (λ d. refers_same u s t m all a inside d d.form (length_references d.form) k) r) (leads_back l);

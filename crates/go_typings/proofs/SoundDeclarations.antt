@@ -74,11 +74,11 @@ has_method_within u (alias s) n h = absurd h
 has_method_within u (function f) n h = absurd h
 has_method_within u (method r f) n h = absurd h
 
-refers_within : (u : PackageSource) (f : Form) (n : ℕ) → DependsOn u f n → n < length (declarations u)
+pub refers_within : (u : PackageSource) (f : Form) (n : ℕ) → DependsOn u f n → n < length (declarations u)
 refers_within u f n (by_name r h (d, e, p)) = let l = named_within u r.name.text d e in omega (arith, l, p)
 refers_within u f n (to_method h) = has_method_within u f n h
 
-within : (n l : ℕ) → n < l → nat_lt n l ≡ true
+pub within : (n l : ℕ) → n < l → nat_lt n l ≡ true
 within n l h = grind (arith, nat_tests, h)
 
 all_closed : (s : Setting) (u : PackageSource) → IsClosed s u (all_of (declarations u))
