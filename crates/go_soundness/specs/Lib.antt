@@ -1,0 +1,4 @@
+pub mod LostDeclarations
+pub mod Ranks
+pub mod Settled
+pub mod Apart
