@@ -1,0 +1,2 @@
+pub mod UnitSources
+pub mod inner

@@ -1,0 +1,4 @@
+pub mod KnownNames
+pub mod DeclarationSites
+pub mod ReceiverNames
+pub mod MissingImports

@@ -1,0 +1,15 @@
+-- The names by which types are written.
+-- Own: words of the contracts inside this crate.
+use Rattle.std.specs.Prelude.{◌≡◌, ℕ, List, Option, None, Some}
+use denote.Ref.{Bor}
+use Rattle.go_syntax.specs.declared.name.QualifiedName.{QualifiedName}
+use Rattle.go_typings.specs.Receivers.{NameForm}
+use Rattle.go_sources.specs.declared.receivers.WrittenName.{WrittenName}
+
+abbrev pub form_of : Option WrittenName → Option NameForm
+form_of None = None
+form_of (Some w) = Some (record { pointer = w.pointer; name = w.name.now })
+
+abbrev pub text_of : Option (Bor (List ℕ)) → Option (List ℕ)
+text_of None = None
+text_of (Some t) = Some t.now
