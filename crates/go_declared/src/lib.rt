@@ -1,0 +1,4 @@
+//! What the declarations of a package declare, by name: where each name is declared.
+#![tactic(auto)]
+
+pub mod names;

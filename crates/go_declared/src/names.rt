@@ -1,0 +1,137 @@
+//! Where names are declared.
+ghost use Rattle.std.specs.Prelude.{◌≡◌, ◌||◌, [], IfOk, OnOk, is_some};
+ghost use Rattle.go_declarations.specs.Forms.{form_of};
+ghost use Rattle.go_declarations.specs.Listings.{declarations_of};
+ghost use Rattle.go_rules.specs.Names.{value_at, with_value};
+ghost use Rattle.go_typings.specs.Declarations.{is_init, names_of};
+ghost use Rattle.go_rules.specs.Expressions.{is_blank};
+ghost use Rattle.go_declared.specs.NameTables.{AreDeclared};
+ghost use Rattle.go_declared.specs.inner.Adding.{with_first, with_names};
+
+use go_base::memory::NoMemory;
+use go_base::text::Text;
+use go_declarations::form::Form;
+use go_declarations::listing::Declaration;
+use go_syntax::name::Name;
+use std::alloc::Global;
+use std::collections::BTreeMap;
+use std::marker::Model;
+
+/// Where a name is declared: the number of the declaration, and the place of the name among those that it declares,
+/// both from 0.
+#[derive(Clone, Copy, Debug, PartialEq, Eq)]
+pub struct NamePlace {
+    pub number: usize,
+    pub place: usize,
+}
+
+/// The names that a package declares, but for blank ones and `init`, in the order of bytes, each with where it is
+/// declared first.
+pub struct DeclaredNames {
+    entries: BTreeMap<Vec<u8>, NamePlace>,
+}
+
+impl Drop for DeclaredNames {
+    fn drop(self) {
+        let DeclaredNames { entries: _ } = self;
+    }
+}
+
+impl Model for DeclaredNames {
+    ghost use Rattle.std.specs.Coded.{coded_list, coded×, coded_ℕ};
+    ghost use Rattle.go_rules.specs.Names.{Named};
+    ghost use Rattle.go_rules.specs.inner.Entries.{by_text};
+    ghost use Rattle.go_declared.specs.declared.names.NamePlace as place;
+    ghost use Rattle.go_declared.specs.contracts.names.NamePlace as p;
+
+    ghost Value = { Named place.NamePlace };
+
+    ghost coded = { coded_list (coded× (coded_list coded_ℕ) p.the_row.coded) };
+
+    ghost view = { λ n. by_text n.entries.entries };
+}
+
+fn is_left_out(name: &[u8]) -> bool
+    ensures { result ≡ (is_blank name.now || is_init name.now) }
+{
+    name == b"_".as_slice() || name == b"init".as_slice()
+}
+
+impl DeclaredNames {
+    fn new(alloc: Global) -> DeclaredNames
+        ensures { result ≡ [] }
+    {
+        DeclaredNames {
+            entries: BTreeMap::new(alloc),
+        }
+    }
+
+    /// Where a name is declared; None where it isn't.
+    pub fn get(&self, name: &[u8]) -> Option<NamePlace>
+        ensures { result ≡ value_at self.now name.now }
+    {
+        self.entries.get(name).copied()
+    }
+
+    fn has(&self, name: &[u8]) -> bool
+        ensures { result ≡ is_some (value_at self.now name.now) }
+    {
+        self.entries.contains_key(name)
+    }
+
+    fn put(&mut self, alloc: Global, name: &Text, place: NamePlace) -> Result<(), NoMemory>
+        ensures { OnOk result (self.new ≡ with_value self.old name.now place) }
+    {
+        let key = Text::of(alloc, name.bytes())?.into_vec()?;
+        self.entries.insert(key, place)?;
+        Ok(())
+    }
+
+    fn add(&mut self, alloc: Global, name: &Text, place: NamePlace) -> Result<(), NoMemory>
+        ensures { OnOk result (self.new ≡ with_first self.old name.now place) }
+    {
+        if is_left_out(name.bytes()) || self.has(name.bytes()) {
+            return Ok(());
+        }
+        self.put(alloc, name, place)
+    }
+
+    fn add_names(&mut self, alloc: Global, number: usize, names: &[Name]) -> Result<(), NoMemory>
+        ensures { OnOk result (self.new ≡ with_names self.old number 0 names.now) }
+    {
+        for place in 0..names.len() {
+            self.add(alloc, &names[place].text, NamePlace { number, place })?;
+        }
+        Ok(())
+    }
+
+    fn add_name(&mut self, alloc: Global, number: usize, name: &Name) -> Result<(), NoMemory>
+        ensures { OnOk result (self.new ≡ with_first self.old name.now.text (record { number = number; place = 0 })) }
+    {
+        self.add(alloc, &name.text, NamePlace { number, place: 0 })
+    }
+
+    fn add_form(&mut self, alloc: Global, number: usize, form: &Form<'_>) -> Result<(), NoMemory>
+        ensures { OnOk result (self.new ≡ with_names self.old number 0 (names_of (form_of form.now))) }
+    {
+        match form {
+            Form::Constants(constants) => self.add_names(alloc, number, constants.names),
+            Form::Variables(spec) => self.add_names(alloc, number, spec.names.items()),
+            Form::Alias(spec) => self.add_name(alloc, number, &spec.name),
+            Form::Definition(spec) => self.add_name(alloc, number, &spec.name),
+            Form::Function(func) => self.add_name(alloc, number, &func.name),
+            Form::Method(_, _) => Ok(()),
+        }
+    }
+
+    /// The names that these declarations declare.
+    pub fn of(alloc: Global, declarations: &[Declaration<'_>]) -> Result<DeclaredNames, NoMemory>
+        ensures { IfOk result (AreDeclared (declarations_of declarations.now)) }
+    {
+        let mut names = DeclaredNames::new(alloc);
+        for number in 0..declarations.len() {
+            names.add_form(alloc, number, &declarations[number].form)?;
+        }
+        Ok(names)
+    }
+}
