@@ -181,7 +181,7 @@ names_next t u v number i x xs h e f g =
 pub names_whole : (t u : Named NamePlace) (number i : ℕ) (xs : List Name) → length xs ≤ i → u ≡ with_names t number 0 (take i xs) → u ≡ with_names t number 0 xs
 names_whole t u number i xs h f = f ∙ ap (with_names t number 0) (take_past i xs h)
 
-as_long : (xs : List Borrowed) → length (declarations_of xs) ≡ length xs
+pub as_long : (xs : List Borrowed) → length (declarations_of xs) ≡ length xs
 as_long [] = refl
 as_long (x ∷ xs) = ap suc (as_long xs)
 

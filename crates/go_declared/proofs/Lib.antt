@@ -1,1 +1,4 @@
+pub mod Aliases
 pub mod Declared
+pub mod Stands
+pub mod ToldMethods

@@ -1,2 +1,4 @@
+pub mod MethodTables
 pub mod NameTables
+pub mod ReceiverNames
 pub mod inner

@@ -2,7 +2,9 @@
 -- Public source: Go specification, "Declarations and scope" and "Uniqueness of identifiers".
 use Rattle.std.specs.Prelude.{◌≡◌, ℕ, List, Option, None, Some}
 use Rattle.go_rules.specs.Names.{Named, value_at}
-use Rattle.go_typings.specs.Declarations.{declared, Declaration, Declared}
+use Rattle.go_declarations.specs.Forms.{form_of}
+use Rattle.go_declarations.specs.declared.form.Form.{Form as Borrowed}
+use Rattle.go_typings.specs.Declarations.{declared, Declaration, Declared, Form}
 use Rattle.go_declared.specs.declared.names.NamePlace.{NamePlace}
 
 -- where a name is declared, its form aside
@@ -13,3 +15,13 @@ place_of (Some d) = Some (record { number = d.number; place = d.place })
 -- the table tells where each name is declared
 abbrev pub AreDeclared : List Declaration → Named NamePlace → Type 0
 AreDeclared ds names = (name : List ℕ) → value_at names name ≡ place_of (declared ds name)
+
+-- ---- the forms of declarations
+
+abbrev pub found_form : Option Borrowed → Option Form
+found_form None = None
+found_form (Some f) = Some (form_of f)
+
+abbrev pub declared_form : Option Declared → Option Form
+declared_form None = None
+declared_form (Some d) = Some d.form

@@ -1,4 +1,3 @@
 pub mod KnownNames
 pub mod DeclarationSites
-pub mod ReceiverNames
 pub mod MissingImports

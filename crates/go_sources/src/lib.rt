@@ -3,5 +3,4 @@
 
 mod known_names;
 pub mod missing_imports;
-mod receivers;
 pub mod redeclared;

@@ -7,12 +7,12 @@ ghost use Rattle.go_typings.specs.Declarations.{func_form};
 ghost use Rattle.go_sources.specs.UnitSources.{import_of, source_of};
 ghost use Rattle.go_sources.specs.inner.DeclarationSites.{const_sites, decl_sites, type_sites, unit_file_sites, var_sites};
 ghost use Rattle.go_sources.specs.inner.KnownNames.{Steps};
-ghost use Rattle.go_sources.specs.inner.ReceiverNames.{text_of};
+ghost use Rattle.go_declared.specs.ReceiverNames.{text_of};
 
 use crate::known_names::{Key, NameRole, visit};
-use crate::receivers::receiver_name;
 use go_base::memory::NoMemory;
 use go_base::text::Text;
+use go_declared::receivers::receiver_name;
 use go_syntax::declaration::{ConstSpec, Decl, Func, TypeSpec, VarSpec};
 use go_syntax::name::{Name, Place};
 use go_units::unit::{Unit, UnitFile, UsedImport};

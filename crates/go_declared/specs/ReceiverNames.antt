@@ -1,10 +1,10 @@
 -- The names by which types are written.
--- Own: words of the contracts inside this crate.
+-- Public source: Go specification, "Method declarations". Own: words of contracts.
 use Rattle.std.specs.Prelude.{◌≡◌, ℕ, List, Option, None, Some}
 use denote.Ref.{Bor}
 use Rattle.go_syntax.specs.declared.name.QualifiedName.{QualifiedName}
 use Rattle.go_typings.specs.Receivers.{NameForm}
-use Rattle.go_sources.specs.declared.receivers.WrittenName.{WrittenName}
+use Rattle.go_declared.specs.declared.receivers.WrittenName.{WrittenName}
 
 abbrev pub form_of : Option WrittenName → Option NameForm
 form_of None = None

@@ -1,0 +1,159 @@
+//! The methods that are declared for defined types.
+ghost use Rattle.std.specs.Prelude.{◌≡◌, [], IfOk, OnOk};
+ghost use Rattle.go_declarations.specs.Listings.{declarations_of};
+ghost use Rattle.go_rules.specs.Names.{items_at, with_value};
+ghost use Rattle.go_declared.specs.MethodTables.{AreMethods};
+ghost use Rattle.go_declared.specs.NameTables.{AreDeclared};
+ghost use Rattle.go_declarations.specs.Forms.{form_of};
+ghost use Rattle.go_typings.specs.Receivers.{base, is_pointer_form, receiver_form};
+ghost use Rattle.go_declared.specs.inner.AddingMethods.{with_form, with_method, with_row};
+
+use crate::bases::base;
+use crate::names::DeclaredNames;
+use crate::receivers::is_pointer;
+use go_base::list::List;
+use go_base::memory::NoMemory;
+use go_base::text::Text;
+use go_declarations::form::Form;
+use go_declarations::listing::Declaration;
+use go_syntax::types::ParameterDecl;
+use std::alloc::Global;
+use std::collections::BTreeMap;
+use std::marker::Model;
+
+/// A method as it is declared: the number of its declaration, and whether its receiver is a pointer.
+#[derive(Clone, Copy, Debug, PartialEq, Eq)]
+pub struct MethodRow {
+    pub number: usize,
+    pub pointer: bool,
+}
+
+/// The methods that are declared for each defined type of a package, blank ones too, in the order of their declarations.
+pub struct DeclaredMethods {
+    entries: BTreeMap<Vec<u8>, List<MethodRow>>,
+}
+
+impl Drop for DeclaredMethods {
+    fn drop(self) {
+        let DeclaredMethods { entries: _ } = self;
+    }
+}
+
+impl Model for DeclaredMethods {
+    ghost use Rattle.std.specs.Coded.{coded_list, coded×, coded_ℕ};
+    ghost use Rattle.std.specs.Prelude.{List as Items};
+    ghost use Rattle.go_rules.specs.Names.{Named};
+    ghost use Rattle.go_rules.specs.inner.Entries.{by_text};
+    ghost use Rattle.go_declared.specs.declared.methods.MethodRow as row;
+    ghost use Rattle.go_declared.specs.contracts.methods.MethodRow as r;
+
+    ghost Value = { Named (Items row.MethodRow) };
+
+    ghost coded = { coded_list (coded× (coded_list coded_ℕ) (coded_list r.the_row.coded)) };
+
+    ghost view = { λ n. by_text n.entries.entries };
+}
+
+impl DeclaredMethods {
+    fn new(alloc: Global) -> DeclaredMethods
+        ensures { result ≡ [] }
+    {
+        DeclaredMethods {
+            entries: BTreeMap::new(alloc),
+        }
+    }
+
+    /// The methods that are declared for a defined type of the package, by its name.
+    pub fn of_type(&self, name: &[u8]) -> &[MethodRow]
+        ensures { result.now ≡ items_at self.now name.now }
+    {
+        match self.entries.get(name) {
+            None => &[],
+            Some(rows) => rows.items(),
+        }
+    }
+
+    fn put(&mut self, alloc: Global, name: &Text, rows: List<MethodRow>) -> Result<(), NoMemory>
+        ensures { OnOk result (self.new ≡ with_value self.old name.now rows) }
+    {
+        let key = Text::of(alloc, name.bytes())?.into_vec()?;
+        self.entries.insert(key, rows)?;
+        Ok(())
+    }
+
+    fn push(&mut self, alloc: Global, name: &Text, row: MethodRow) -> Result<(), NoMemory>
+        ensures { OnOk result (self.new ≡ with_row self.old name.now row) }
+    {
+        if let Some(rows) = self.entries.get_mut(name.bytes()) {
+            return rows.push(row);
+        }
+        let mut rows = List::new(alloc);
+        rows.push(row)?;
+        self.put(alloc, name, rows)
+    }
+
+    // Adds a method, where its receiver has a base type.
+    fn add_method(
+        &mut self,
+        alloc: Global,
+        declarations: &[Declaration<'_>],
+        names: &DeclaredNames,
+        number: usize,
+        receiver: &ParameterDecl,
+    ) -> Result<(), NoMemory>
+        requires { AreDeclared (declarations_of declarations.now) names.now }
+        ensures { OnOk result (self.new ≡ with_method (base (declarations_of declarations.now) receiver.now) self.old number (is_pointer_form (receiver_form receiver.now))) }
+    {
+        match base(declarations, names, receiver) {
+            None => Ok(()),
+            Some(type_name) => {
+                let row = MethodRow {
+                    number,
+                    pointer: is_pointer(receiver),
+                };
+                self.push(alloc, type_name, row)
+            }
+        }
+    }
+
+    fn add(
+        &mut self,
+        alloc: Global,
+        declarations: &[Declaration<'_>],
+        names: &DeclaredNames,
+        number: usize,
+        form: Form<'_>,
+    ) -> Result<(), NoMemory>
+        requires { AreDeclared (declarations_of declarations.now) names.now }
+        ensures { OnOk result (self.new ≡ with_form (declarations_of declarations.now) self.old number (form_of form.entry)) }
+    {
+        match form {
+            Form::Method(receiver, _) => {
+                self.add_method(alloc, declarations, names, number, receiver)
+            }
+            _ => Ok(()),
+        }
+    }
+
+    /// The methods that these declarations declare, where `names` tells where they declare names.
+    pub fn of(
+        alloc: Global,
+        declarations: &[Declaration<'_>],
+        names: &DeclaredNames,
+    ) -> Result<DeclaredMethods, NoMemory>
+        requires { AreDeclared (declarations_of declarations.now) names.now }
+        ensures { IfOk result (AreMethods (declarations_of declarations.now)) }
+    {
+        let mut methods = DeclaredMethods::new(alloc);
+        for number in 0..declarations.len() {
+            methods.add(
+                alloc,
+                declarations,
+                names,
+                number,
+                declarations[number].form,
+            )?;
+        }
+        Ok(methods)
+    }
+}
