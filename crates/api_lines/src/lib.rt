@@ -2,6 +2,6 @@
 #![tactic(auto)]
 
 pub mod line;
-mod lines;
+pub mod lines;
 pub mod merge;
 pub mod texts;

@@ -83,7 +83,7 @@ impl Ord for Printed {
 }
 
 /// Lines that are gathered.
-pub(crate) struct Lines {
+pub struct Lines {
     all: Vec<Printed>,
 }
 
@@ -128,7 +128,7 @@ fn in_order(alloc: Global, mut all: Vec<Printed>) -> Result<List<Line>, NoMemory
 
 impl Lines {
     /// No line.
-    pub(crate) fn new(alloc: Global) -> Lines
+    pub fn new(alloc: Global) -> Lines
         ensures { result ≡ [] }
     {
         Lines {
@@ -137,7 +137,7 @@ impl Lines {
     }
 
     /// Adds a line.
-    pub(crate) fn add(&mut self, alloc: Global, line: Line) -> Result<(), NoMemory>
+    pub fn add(&mut self, alloc: Global, line: Line) -> Result<(), NoMemory>
         ensures { OnOk result (Grows (λ l. line ≡ l) self.old self.new) }
     {
         let printed = Printed::new(alloc, line)?;
@@ -145,7 +145,7 @@ impl Lines {
     }
 
     /// The lines, each text once, in the order of the texts.
-    pub(crate) fn into_list(self, alloc: Global) -> Result<List<Line>, NoMemory>
+    pub fn into_list(self, alloc: Global) -> Result<List<Line>, NoMemory>
         ensures { IfOk result (IsListing (Has self)) }
     {
         let Lines { all } = self;

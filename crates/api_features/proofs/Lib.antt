@@ -1,0 +1,5 @@
+pub mod FeatureRests
+pub mod FeatureSets
+pub mod QuotedPieces
+pub mod TypeParts
+pub mod ValueTexts

@@ -1,0 +1,8 @@
+use Rattle.std.proofs.Common.{◌∙◌, sym}
+use mathlib.Core.Bool.{true≢false}
+use Rattle.api_features.proofs.FeatureRests.{alias_line}
+use Rattle.api_features.proofs.features.add_type.Goals as goal
+
+pub returns : goal.returns
+returns c =
+    alias_line c.args.of.now.world.now.packages c.args.of.now.path.now c.args.of.now.name.now c.args.term.now c.in_ok-rest.rest.items c.args.lines.now c.add.new.lines (λ e. true≢false (sym (c.is_defined.ensures.1 e) ∙ c.if-is_defined.false)) c.in_ok-rest.ensures c.in_ok-add.ensures

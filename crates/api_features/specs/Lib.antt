@@ -1,0 +1,4 @@
+pub mod ConstantTexts
+pub mod Features
+pub mod TypeTexts
+pub mod inner

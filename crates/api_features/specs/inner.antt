@@ -1,0 +1,2 @@
+pub mod FeatureLines
+pub mod Pushed

@@ -1,0 +1,12 @@
+//! The feature lines of worlds.
+#![tactic(auto)]
+
+mod constants;
+mod exported;
+pub mod features;
+mod interface_lines;
+mod method_lines;
+mod struct_lines;
+mod subject;
+mod type_lines;
+mod types;

@@ -1,0 +1,9 @@
+pub mod FallingRanks
+pub mod FlaggedNumbers
+pub mod Flagging
+pub mod Leading
+pub mod LevelWalks
+pub mod Members
+pub mod Pushed
+pub mod Ranking
+pub mod TurnedRows

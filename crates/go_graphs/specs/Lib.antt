@@ -1,0 +1,4 @@
+pub mod Flags
+pub mod Ranks
+pub mod Walks
+pub mod inner

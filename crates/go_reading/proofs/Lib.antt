@@ -1,0 +1,12 @@
+pub mod FilesByName
+pub mod FolderListing
+pub mod GatheredFiles
+pub mod GroupEntries
+pub mod HeadedFiles
+pub mod ListFacts
+pub mod OneFolderList
+pub mod OneReading
+pub mod PackageNames
+pub mod ReadSources
+pub mod TreeAnswers
+pub mod TreeListing

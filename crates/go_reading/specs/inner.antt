@@ -1,0 +1,5 @@
+pub mod Gathering
+pub mod Groups
+pub mod Heads
+pub mod Listing
+pub mod SourceCauses

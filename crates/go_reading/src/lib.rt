@@ -1,0 +1,13 @@
+//! Reading the folders of loaded trees: which of them may hold packages, what their files give, and the units of a module.
+#![tactic(auto)]
+
+mod files_by_name;
+mod folder_list;
+mod gathering;
+mod groups;
+mod heads;
+pub mod laws;
+mod outlines;
+mod reader;
+mod sources;
+pub mod units;

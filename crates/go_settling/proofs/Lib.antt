@@ -1,0 +1,3 @@
+pub mod NextEntry
+pub mod NothingHad
+pub mod Passing

@@ -1,0 +1,87 @@
+//! The answer to a case.
+ghost use Rattle.std.specs.Prelude.{OnOk};
+ghost use Rattle.go_base.specs.Lists.{Has};
+ghost use Rattle.go_model.specs.files.Trees.{IsTree};
+
+use crate::lines::{add_error, add_units};
+use go_base::list::List;
+use go_base::memory::NoMemory;
+use go_base::text::Text;
+use go_load::load::{load_module, load_std};
+use go_model::files::platform::Platform;
+use go_model::files::tree::Tree;
+use go_outside::memory_files::{FilePair, MemoryFiles};
+use go_reading::units::units;
+use go_units::unit_error::UnitError;
+use go_units::unit_list::Units;
+use std::alloc::{AllocError, Global};
+
+fn bar(alloc: Global, barred: &mut List<Text>, path: &[u8]) -> Result<(), NoMemory>
+    ensures { OnOk result (Has barred.new path.now) }
+{
+    let text = Text::of(alloc, path)?;
+    barred.push(text)?;
+    Ok(())
+}
+
+fn shown(alloc: Global, answer: Result<Units, UnitError>) -> Result<Vec<u8>, AllocError> {
+    let mut text = Vec::new(alloc);
+    match answer {
+        Ok(units) => add_units(alloc, &mut text, &units)?,
+        Err(error) => add_error(alloc, &mut text, &error)?,
+    }
+    Ok(text)
+}
+
+fn said(alloc: Global, word: &str) -> Result<Vec<u8>, AllocError> {
+    Ok(format!(in alloc; "{word}\n")?.into_bytes())
+}
+
+fn of_trees(
+    alloc: Global,
+    platform: Platform,
+    tree: &Tree,
+    std_tree: &Tree,
+    mut barred: List<Text>,
+) -> Result<Vec<u8>, AllocError>
+    requires tree { IsTree tree.now }
+    requires std { IsTree std_tree.now }
+{
+    if let Err(_) = bar(alloc, &mut barred, tree.module.bytes()) {
+        return Err(AllocError);
+    }
+    shown(
+        alloc,
+        units(alloc, tree, std_tree, barred.items(), platform),
+    )
+}
+
+fn of_store(
+    alloc: Global,
+    platform: Platform,
+    mut store: MemoryFiles,
+    barred: List<Text>,
+) -> Result<Vec<u8>, AllocError> {
+    let tree = match load_module(alloc, &mut store, b"new") {
+        Err(_) => return said(alloc, "no module"),
+        Ok(tree) => tree,
+    };
+    let std_tree = match load_std(alloc, &mut store, b"std") {
+        Err(_) => return said(alloc, "no standard library"),
+        Ok(tree) => tree,
+    };
+    of_trees(alloc, platform, &tree, &std_tree, barred)
+}
+
+/// The units of these files, or the first refusal, as it is printed.
+pub fn answer(
+    alloc: Global,
+    platform: Platform,
+    pairs: List<FilePair>,
+    barred: List<Text>,
+) -> Result<Vec<u8>, AllocError> {
+    match MemoryFiles::new(alloc, pairs) {
+        Err(_) => said(alloc, "files clash"),
+        Ok(store) => of_store(alloc, platform, store, barred),
+    }
+}
