@@ -1,17 +1,19 @@
-//! What expressions are and which types type forms stand for, in an environment.
-ghost use Rattle.go_rules.specs.Expressions.{Has, OfType};
+//! What expressions are, and which types and signatures are written, in an environment.
+ghost use Rattle.go_rules.specs.Expressions.{Has, OfSignature, OfType};
 ghost use Rattle.go_rules.specs.Scopes.{env_of};
+ghost use Rattle.go_syntax.specs.declared.types.Signature.{out-Signature};
 ghost use Rattle.go_type_terms.specs.Answers.{Tells};
 
 use crate::levels::below;
-use go_model::types::term::Term;
+use go_model::types::term::{Signature as Signed, Term};
 use go_rules::env::Env;
 use go_rules::operand::Operand;
 use go_selectors::lookup::error_type;
 use go_syntax::expression::Expr;
-use go_syntax::types::Type;
+use go_syntax::types::{Signature, Type};
 use go_type_terms::error::ExprError;
 use go_type_terms::part::{Answer, Part};
+use go_type_terms::typing::Typing;
 use go_usability::context::Context;
 use std::alloc::Global;
 
@@ -40,4 +42,24 @@ pub fn type_of(env: &Env<'_>, alloc: Global, form: &Type) -> Result<Term, ExprEr
         Answer::Type(term, _) => Ok(term),
         _ => Err(ExprError::NoMemory),
     }
+}
+
+/// The signature of parameters and a result in an environment. `Untyped` exactly where the rules give them none.
+pub fn signature_of(
+    env: &Env<'_>,
+    alloc: Global,
+    signature: &Signature,
+) -> Result<Signed, ExprError>
+    ensures { Tells (OfSignature (env_of env.now) (out-Signature signature.now).parameters (out-Signature signature.now).result) result }
+{
+    let error = error_type(alloc)?;
+    let context = Context::new(env, &error);
+    let typing = Typing {
+        context: &context,
+        alloc,
+        height: HEIGHT,
+        below,
+    };
+    let (signed, _) = typing.signature(signature)?;
+    Ok(signed)
 }

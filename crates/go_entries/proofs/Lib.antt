@@ -1,0 +1,9 @@
+pub mod Zipped
+pub mod AssertionForms
+pub mod ConstantSpecs
+pub mod SeveralValues
+pub mod Initializing
+pub mod VariableSpecs
+pub mod DefinedTypes
+pub mod Signatures
+pub mod GivenEntries

@@ -1,0 +1,4 @@
+//! The declarations of a package.
+#![tactic(auto)]
+
+pub mod declarations;
