@@ -1,5 +1,5 @@
 -- Whether two facts hold, by one test after the other.
-use Rattle.std.proofs.Common.{◌≡◌, Bool, true, false, sym, subst}
+use Rattle.std.proofs.Common.{◌≡◌, Bool, true, false, subst}
 use Rattle.go_selectors.specs.Answers.{Decides}
 
 module _ (A B : Type 0) where

@@ -8,14 +8,14 @@ use Rattle.go_rules.specs.Environments.{Env, Entered}
 use Rattle.go_rules.specs.Expressions.{IsTypeName, NamesType}
 use Rattle.go_rules.specs.Operands.{type_name}
 use Rattle.go_rules.specs.declared.operand.Operand.{Operand}
-use Rattle.go_rules.proofs.OneName.{one_denoted, one_imported, one_type_name}
+use Rattle.go_rules.proofs.OneName.{one_denoted, one_imported, one_name}
 use Rattle.go_selectors.specs.Answers.{Decides}
 use Rattle.go_syntax.specs.declared.name.Name.{Name}
 use Rattle.go_syntax.specs.declared.name.QualifiedName.{QualifiedName}
 use Rattle.go_type_terms.specs.Answers.{Tells}
 use Rattle.go_type_terms.specs.declared.error.ExprError.{ExprError}
 use Rattle.go_type_terms.specs.declared.error.ExprError.TheVariants.{Untyped}
-use Rattle.go_asks.specs.inner.Embedding.{NameDenotes, NameDenotesBy, StandsAsField}
+use Rattle.go_asks.specs.inner.Embedding.{IsTypeWith, NameDenotes, NameDenotesBy, StandsAsField}
 
 names_type : (E : Env) (q : Option Name) (n : Name) (t : Term) → NameDenotesBy E q n (type_name t) → NamesType E q n t
 names_type E None n t d = d
@@ -50,43 +50,40 @@ module _ (E : Env) (t : Term) where
 
 -- ---- names
 
+-- whether the fact holds of the one type that the operand is
+pub with_type : (P : Term → Type 0) (o : Operand) (t : Term) → o ≡ type_name t → (b : Bool) → Decides (P t) b → Decides (IsTypeWith P o) b
+with_type P o t e true p = (t, e, p)
+with_type P o t e false none = λ h. none (subst P (one_name (sym h.1 ∙ e)) h.2)
+
+pub without_type : (P : Term → Type 0) (o : Operand) → ((t : Term) → o ≡ type_name t → ⊥) → IsTypeWith P o → ⊥
+without_type P o none h = none h.0 h.1
+
 module _ (E : Env) (q : QualifiedName) where
   -- no name of a type
   unnamed : ((o : Operand) → NameDenotes E q o → ⊥) → (t : Term) → IsTypeName E q t → ⊥
   unnamed none t n = none (type_name t) (denotes_type E q.qualifier q.name t n)
 
-  untyped : (o : Operand) → NameDenotes E q o → ((t : Term) → o ≡ type_name t → ⊥) → (t : Term) → IsTypeName E q t → ⊥
-  untyped o d none t n = none t (one_named E q.qualifier q.name d (denotes_type E q.qualifier q.name t n))
-
+  -- what the name denotes is the type that it is the name of
   typed : (o : Operand) (t : Term) → NameDenotes E q o → o ≡ type_name t → IsTypeName E q t
   typed o t d e = names_type E q.qualifier q.name t (subst (NameDenotes E q) e d)
 
+  is_type : (o : Operand) (t : Term) → NameDenotes E q o → IsTypeName E q t → o ≡ type_name t
+  is_type o t d n = one_named E q.qualifier q.name d (denotes_type E q.qualifier q.name t n)
+
   -- ---- fields
 
-  field_embeds : (star : Bool) (t : Term) → IsTypeName E q t → (b : Bool) → Decides (StandsAsField E star t) b → Decides (EmbedsField E star q) b
-  field_embeds star t n true s = record { embedded = t; names = n; entered = s.0; stands = s.1; permitted = s.2 }
-  field_embeds star t n false none = λ f. none (subst (StandsAsField E star) (one_type_name E q f.names n) (f.entered, f.stands, f.permitted))
-
-  pub field_decided : (star : Bool) (o : Operand) (t : Term) → NameDenotes E q o → o ≡ type_name t → (b : Bool) → Decides (StandsAsField E star t) b → Decides (EmbedsField E star q) b
-  field_decided star o t d e = field_embeds star t (typed o t d e)
-
-  pub field_untyped : (star : Bool) (o : Operand) → NameDenotes E q o → ((t : Term) → o ≡ type_name t → ⊥) → EmbedsField E star q → ⊥
-  field_untyped star o d none f = untyped o d none f.embedded f.names
+  pub field_decided : (star : Bool) (o : Operand) → NameDenotes E q o → (b : Bool) → Decides (IsTypeWith (StandsAsField E star) o) b → Decides (EmbedsField E star q) b
+  field_decided star o d true w = record { embedded = w.0; names = typed o w.0 d w.1; entered = w.2.0; stands = w.2.1; permitted = w.2.2 }
+  field_decided star o d false none = λ f. none (f.embedded, is_type o f.embedded d f.names, (f.entered, f.stands, f.permitted))
 
   pub field_unnamed : (star : Bool) → ((o : Operand) → NameDenotes E q o → ⊥) → EmbedsField E star q → ⊥
   field_unnamed star none f = unnamed none f.embedded f.names
 
   -- ---- interfaces
 
-  interface_embeds : (t : Term) → IsTypeName E q t → (b : Bool) → Decides (MayEmbed E t) b → Decides (EmbedsInterface E q) b
-  interface_embeds t n true s = record { embedded = t; names = n; permitted = s }
-  interface_embeds t n false none = λ f. none (subst (MayEmbed E) (one_type_name E q f.names n) f.permitted)
-
-  pub interface_decided : (o : Operand) (t : Term) → NameDenotes E q o → o ≡ type_name t → (b : Bool) → Decides (MayEmbed E t) b → Decides (EmbedsInterface E q) b
-  interface_decided o t d e = interface_embeds t (typed o t d e)
-
-  pub interface_untyped : (o : Operand) → NameDenotes E q o → ((t : Term) → o ≡ type_name t → ⊥) → EmbedsInterface E q → ⊥
-  interface_untyped o d none f = untyped o d none f.embedded f.names
+  pub interface_decided : (o : Operand) → NameDenotes E q o → (b : Bool) → Decides (IsTypeWith (MayEmbed E) o) b → Decides (EmbedsInterface E q) b
+  interface_decided o d true w = record { embedded = w.0; names = typed o w.0 d w.1; permitted = w.2 }
+  interface_decided o d false none = λ f. none (f.embedded, is_type o f.embedded d f.names, f.permitted)
 
   pub interface_unnamed : ((o : Operand) → NameDenotes E q o → ⊥) → EmbedsInterface E q → ⊥
   interface_unnamed none f = unnamed none f.embedded f.names

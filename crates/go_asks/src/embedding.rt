@@ -1,6 +1,6 @@
 //! Embedded types.
 ghost use Rattle.std.specs.Prelude.{◌≡◌, IfOk};
-ghost use Rattle.go_asks.specs.inner.Embedding.{NameDenotes, StandsAsField};
+ghost use Rattle.go_asks.specs.inner.Embedding.{IsTypeWith, NameDenotes, StandsAsField};
 ghost use Rattle.go_model.specs.declared.types.term.Term.{out-Term};
 ghost use Rattle.go_model.specs.types.Imports.{is_imported};
 ghost use Rattle.go_rules.specs.Asks.{EmbedsField, EmbedsInterface, IsOwnLayer, MayEmbed, MayStandUnder};
@@ -80,6 +80,16 @@ fn stands_as_field(context: &Context<'_>, star: bool, term: &Term) -> bool
     may_embed(context, term)
 }
 
+// Whether an operand is a type that may be embedded as a field, behind a star or not.
+fn is_field_type(context: &Context<'_>, star: bool, operand: &Operand) -> bool
+    ensures { Decides (IsTypeWith (StandsAsField (env_in context.now) star) operand.now) result }
+{
+    match type_in(operand) {
+        Some(term) => stands_as_field(context, star, term),
+        None => false,
+    }
+}
+
 /// Whether an embedded field is a type's name that may be embedded, or a pointer to one.
 pub(crate) fn embeds_field(
     context: &Context<'_>,
@@ -90,12 +100,19 @@ pub(crate) fn embeds_field(
     ensures { IfOk result (Decides (EmbedsField (env_in context.now) star name.now)) }
 {
     match denoted(context, alloc, name) {
-        Ok(operand) => match type_in(&operand) {
-            Some(term) => Ok(stands_as_field(context, star, term)),
-            None => Ok(false),
-        },
+        Ok(operand) => Ok(is_field_type(context, star, &operand)),
         Err(ExprError::Untyped) => Ok(false),
         Err(ExprError::NoMemory) => Err(NoMemory),
+    }
+}
+
+// Whether an operand is a type that may be embedded in an interface.
+fn is_interface_type(context: &Context<'_>, operand: &Operand) -> bool
+    ensures { Decides (IsTypeWith (MayEmbed (env_in context.now)) operand.now) result }
+{
+    match type_in(operand) {
+        Some(term) => may_embed(context, term),
+        None => false,
     }
 }
 
@@ -108,10 +125,7 @@ pub(crate) fn embeds_interface(
     ensures { IfOk result (Decides (EmbedsInterface (env_in context.now) name.now)) }
 {
     match denoted(context, alloc, name) {
-        Ok(operand) => match type_in(&operand) {
-            Some(term) => Ok(may_embed(context, term)),
-            None => Ok(false),
-        },
+        Ok(operand) => Ok(is_interface_type(context, &operand)),
         Err(ExprError::Untyped) => Ok(false),
         Err(ExprError::NoMemory) => Err(NoMemory),
     }

@@ -1,5 +1,5 @@
 -- A walk over a list decides whether a fact holds of each item.
-use Rattle.std.proofs.Common.{◌≡◌, ◌<◌, ◌≤◌, ◌+◌, length, get_or, drop, Bool, true, false, ℕ, List, [], ◌∷◌, refl, sym, subst}
+use Rattle.std.proofs.Common.{◌≡◌, ◌<◌, ◌≤◌, ◌+◌, length, get_or, drop, Bool, true, false, ℕ, List, sym, subst}
 use Rattle.go_base.specs.Lists.{Each}
 use Rattle.go_selectors.specs.Answers.{Decides}
 use Rattle.go_selectors.proofs.Lists.{drop_all, drop_next}

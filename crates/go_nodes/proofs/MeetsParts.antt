@@ -1,6 +1,6 @@
 -- What is asked in a tree is what the tree by itself is asked and what is asked in its parts; so for trees that are
 -- taken one by one, their parts in place of them.
-use Rattle.std.proofs.Common.{◌≡◌, ◌⊎◌, Bool, true, false, List, [], ◌∷◌, ◌++◌, refl, sym, ap, ◌∙◌, subst, inl, inr}
+use Rattle.std.proofs.Common.{◌≡◌, Bool, true, false, List, [], ◌∷◌, ◌++◌, refl, sym, subst, inl, inr}
 use Rattle.go_base.specs.Lists.{Has, Each}
 use Rattle.go_base.proofs.Members.{each_has}
 use Rattle.go_rules.specs.Asks.{Meets}

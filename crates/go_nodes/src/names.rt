@@ -1,5 +1,5 @@
 //! The names that signatures, struct types and interface types declare.
-ghost use Rattle.std.specs.Prelude.{◌≡◌, ◌++◌, ◌∷◌, [], OnOk, IfOk};
+ghost use Rattle.std.specs.Prelude.{◌≡◌, ◌++◌, OnOk, IfOk};
 ghost use Rattle.go_nodes.specs.Trees.{texts_of};
 ghost use Rattle.go_rules.specs.Asks as asks;
 ghost use Rattle.go_rules.specs.Asks.{field_names, method_names, optional_result_names, parameter_names, texts};

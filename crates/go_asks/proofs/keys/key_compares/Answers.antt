@@ -1,4 +1,3 @@
-use Rattle.go_model.specs.declared.types.term.Term.{Term}
 use Rattle.go_rules.specs.Expressions.{OfType}
 use Rattle.go_type_terms.specs.Answers.{env_in}
 use Rattle.go_asks.proofs.EmbeddedTypes.{none_told}

@@ -1,4 +1,4 @@
-use Rattle.std.proofs.Common.{◌≡◌, ◌++◌, map, drop}
+use Rattle.std.proofs.Common.{◌≡◌, ◌++◌, drop}
 use Rattle.go_nodes.specs.Trees.{nodes_in}
 use Rattle.go_rules.specs.Nodes.{elems_parts}
 use Rattle.go_nodes.proofs.trees.Trees.push_interface.Given as goal
