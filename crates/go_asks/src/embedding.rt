@@ -1,0 +1,132 @@
+//! Embedded types.
+ghost use Rattle.std.specs.Prelude.{◌≡◌, IfOk};
+ghost use Rattle.go_asks.specs.inner.Embedding.{IsTypeWith, NameDenotes, StandsAsField};
+ghost use Rattle.go_model.specs.declared.types.term.Term.{out-Term};
+ghost use Rattle.go_model.specs.types.Imports.{is_imported};
+ghost use Rattle.go_rules.specs.Asks.{EmbedsField, EmbedsInterface, IsOwnLayer, MayEmbed, MayStandUnder};
+ghost use Rattle.go_selectors.specs.Answers.{Decides};
+ghost use Rattle.go_type_terms.specs.Answers.{Tells, env_in};
+
+use go_base::memory::NoMemory;
+use go_model::types::names::TypeName;
+use go_model::types::term::Term;
+use go_operations::names::{imported, named};
+use go_operators::values::type_in;
+use go_rules::operand::Operand;
+use go_syntax::name::QualifiedName;
+use go_type_terms::error::ExprError;
+use go_usability::context::Context;
+use std::alloc::Global;
+
+// What a name denotes, with its qualifier where there is one.
+fn denoted(context: &Context<'_>, alloc: Global, name: &QualifiedName) -> Result<Operand, ExprError>
+    ensures { Tells (NameDenotes (env_in context.now) name.now) result }
+{
+    match &name.qualifier {
+        None => named(context, alloc, &name.name),
+        Some(package) => imported(context, alloc, package, &name.name),
+    }
+}
+
+// Whether an embedded type has this level underneath, behind a star or not.
+fn may_stand_under(star: bool, level: &Term) -> bool
+    ensures { Decides (MayStandUnder star (out-Term level.now)) result }
+{
+    match level {
+        Term::Pointer(_) => false,
+        Term::Interface(_) => !star,
+        _ => true,
+    }
+}
+
+fn is_imported(name: &TypeName) -> bool
+    ensures { result ≡ is_imported name.now }
+{
+    name.path.bytes() != b"".as_slice() && name.path.bytes() != b"-client".as_slice()
+}
+
+// Whether a type is a client's own or predeclared.
+fn is_own(term: &Term) -> bool
+    ensures { Decides (IsOwnLayer (out-Term term.now)) result }
+{
+    match term {
+        Term::Named(name) => !is_imported(name),
+        Term::Plain(_) => true,
+        Term::Interface(methods) => methods.items().is_empty(),
+        _ => false,
+    }
+}
+
+// Whether a type may be embedded at all.
+fn may_embed(context: &Context<'_>, term: &Term) -> bool
+    ensures { Decides (MayEmbed (env_in context.now) term.now) result }
+{
+    if !context.env.is_profile() {
+        return true;
+    }
+    is_own(term)
+}
+
+// Whether a type may be embedded as a field, behind a star or not.
+fn stands_as_field(context: &Context<'_>, star: bool, term: &Term) -> bool
+    ensures { Decides (StandsAsField (env_in context.now) star term.now) result }
+{
+    if !context.is_entered(term) {
+        return false;
+    }
+    if !may_stand_under(star, context.under(term)) {
+        return false;
+    }
+    may_embed(context, term)
+}
+
+// Whether an operand is a type that may be embedded as a field, behind a star or not.
+fn is_field_type(context: &Context<'_>, star: bool, operand: &Operand) -> bool
+    ensures { Decides (IsTypeWith (StandsAsField (env_in context.now) star) operand.now) result }
+{
+    match type_in(operand) {
+        Some(term) => stands_as_field(context, star, term),
+        None => false,
+    }
+}
+
+/// Whether an embedded field is a type's name that may be embedded, or a pointer to one.
+pub(crate) fn embeds_field(
+    context: &Context<'_>,
+    alloc: Global,
+    star: bool,
+    name: &QualifiedName,
+) -> Result<bool, NoMemory>
+    ensures { IfOk result (Decides (EmbedsField (env_in context.now) star name.now)) }
+{
+    match denoted(context, alloc, name) {
+        Ok(operand) => Ok(is_field_type(context, star, &operand)),
+        Err(ExprError::Untyped) => Ok(false),
+        Err(ExprError::NoMemory) => Err(NoMemory),
+    }
+}
+
+// Whether an operand is a type that may be embedded in an interface.
+fn is_interface_type(context: &Context<'_>, operand: &Operand) -> bool
+    ensures { Decides (IsTypeWith (MayEmbed (env_in context.now)) operand.now) result }
+{
+    match type_in(operand) {
+        Some(term) => may_embed(context, term),
+        None => false,
+    }
+}
+
+/// Whether an embedded interface is a type's name that may be embedded.
+pub(crate) fn embeds_interface(
+    context: &Context<'_>,
+    alloc: Global,
+    name: &QualifiedName,
+) -> Result<bool, NoMemory>
+    ensures { IfOk result (Decides (EmbedsInterface (env_in context.now) name.now)) }
+{
+    match denoted(context, alloc, name) {
+        Ok(operand) => Ok(is_interface_type(context, &operand)),
+        Err(ExprError::Untyped) => Ok(false),
+        Err(ExprError::NoMemory) => Err(NoMemory),
+    }
+}

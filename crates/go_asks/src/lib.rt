@@ -1,0 +1,7 @@
+//! What type forms and signatures in an expression or a type are asked besides standing for a type.
+#![tactic(auto)]
+
+mod embedding;
+mod keys;
+pub mod meets;
+mod members;

@@ -1,0 +1,4 @@
+pub mod DistinctNames
+pub mod EachItems
+pub mod MeetsParts
+pub mod TextSets
