@@ -9,6 +9,7 @@
 //	                 nothing where Go's parser refuses it
 //	oracle chosen    reads a platform and a file's path a line, and prints whether go/build chooses the
 //	                 file, or why it refuses it
+//	oracle units     reads files of trees as the crate units does, and tells their units
 //
 // A named difference is a place where Go's packages and the language of this gate differ on purpose. The
 // answer is then what the gate owes: Go's answer on the source without that place, or a refusal.
@@ -61,8 +62,10 @@ func main() {
 			platform, path, _ := strings.Cut(lines.Text(), " ")
 			fmt.Fprintln(out, chosen(platform, path))
 		}
+	case "units":
+		unitsOf(out)
 	default:
-		fmt.Fprintln(os.Stderr, "oracle: tokens, syntax, trees or chosen")
+		fmt.Fprintln(os.Stderr, "oracle: tokens, syntax, trees, chosen or units")
 		os.Exit(2)
 	}
 }
