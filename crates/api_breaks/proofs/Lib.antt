@@ -1,0 +1,4 @@
+pub mod InterfaceBreaks
+pub mod MethodSetBreaks
+pub mod PackageBreaks
+pub mod PairBreaks

@@ -1,0 +1,4 @@
+pub mod Interfaces
+pub mod MethodSets
+pub mod Objects
+pub mod Pairs
