@@ -1,0 +1,4 @@
+mod Admitted
+mod KeptTypes
+mod Lists
+mod Paths

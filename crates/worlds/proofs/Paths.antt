@@ -1,0 +1,48 @@
+-- The defined types of a world with one more package, whose path it hasn't.
+use Rattle.std.proofs.Common.{◌≡◌, ◌≢◌, ℕ, List, [], ◌∷◌, map, inl, inr, Bool, true, false, Option, Some, None, refl, sym, ap, ◌∙◌, subst, if◌then◌else◌}
+use Rattle.std.specs.Cmp.Lexicographic.{slice_cmp}
+use Rattle.std.specs.Ordering.{is_lt, nat_cmp}
+use Rattle.std.specs.Str.{bytes_eq}
+use Rattle.std.proofs.lemmas.Slice.Eq.{bytes_eq-Decides}
+use Rattle.go_base.specs.Keys.{first_with, placed}
+use Rattle.go_base.specs.Lists.{Has}
+use Rattle.go_model.proofs.MoreWorlds.{first_placed}
+use Rattle.go_model.specs.declared.types.names.TypeName.{TypeName}
+use Rattle.go_model.specs.declared.types.package.Package.{Package}
+use Rattle.go_model.specs.types.Terms.{error_type, is_error}
+use Rattle.go_model.specs.worlds.Worlds.{Packages, defined_in, path_of, table_of}
+use Rattle.worlds.specs.inner.Admission.{IsThere, joint}
+
+either : {A : Type 0} (P : A → Type 0) (b : Bool) (u v : A) → (b ≡ true → P u) → (b ≡ false → P v) → P (if b then u else v)
+either P true u v f g = f refl
+either P false u v f g = g refl
+
+-- a new key finds its item
+own_placed : {A : Type 0} (key : A → List ℕ) (y : A) (xs : List A) → (Has (map key xs) (key y) → ⊥) → first_with key (placed key y xs) (key y) ≡ Some y
+own_placed key y [] new = ap (λ b. if b then Some y else None) ((bytes_eq-Decides (key y) (key y)).1 refl)
+own_placed {A} key y (x ∷ xs) new =
+    let later : first_with key (placed key y xs) (key y) ≡ Some y = own_placed key y xs (λ h. new (inr h)) in
+    either (λ (v : List A). first_with key v (key y) ≡ Some y) (is_lt (slice_cmp nat_cmp (key y) (key x))) (y ∷ x ∷ xs) (x ∷ placed key y xs)
+    (λ e. ap (λ b. if b then Some y else first_with key (x ∷ xs) (key y)) ((bytes_eq-Decides (key y) (key y)).1 refl))
+    (λ e. either (λ (o : Option A). o ≡ Some y) (bytes_eq (key x) (key y)) (Some x) (first_with key (placed key y xs) (key y)) (λ s. absurd (new (inl ((bytes_eq-Decides (key x) (key y)).0 s)))) (λ s. later))
+
+pub error_there : (w : Packages) (p : Package) (n : TypeName) → is_error n ≡ true → IsThere w p n
+error_there w p n e = subst (λ (b : Bool). (if b then Some error_type else joint w p n) ≢ None) (sym e) (λ s. absurd (cc))
+
+table_there : (w : Packages) (p : Package) (n : TypeName) → joint w p n ≢ None → IsThere w p n
+table_there w p n h = by (is_error n) refl
+  where
+    by : (b : Bool) → is_error n ≡ b → IsThere w p n
+    by true e = error_there w p n e
+    by false e = subst (λ (b : Bool). (if b then Some error_type else joint w p n) ≢ None) (sym e) h
+
+module _ (w : Packages) (p : Package) (new : Has (map path_of w.packages) p.path → ⊥) (n : TypeName) where
+  pub own_there : p.path ≡ n.path → defined_in (Some p) n.name ≢ None → IsThere w p n
+  own_there e h = table_there w p n (λ s. h (ap (λ o. defined_in o n.name) (sym (subst (λ (k : List ℕ). first_with path_of (placed path_of p w.packages) k ≡ Some p) e (own_placed path_of p w.packages new))) ∙ s))
+
+  pub other_there : (p.path ≡ n.path → ⊥) → table_of w.packages n ≢ None → IsThere w p n
+  other_there e h = by (bytes_eq p.path n.path) refl
+    where
+      by : (b : Bool) → bytes_eq p.path n.path ≡ b → IsThere w p n
+      by true s = absurd (e ((bytes_eq-Decides p.path n.path).0 s))
+      by false s = table_there w p n (λ k. h (ap (λ o. defined_in o n.name) (sym (first_placed path_of p w.packages n.path s)) ∙ k))
