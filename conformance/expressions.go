@@ -1,8 +1,8 @@
 // Asks Go's type checker what expressions are. It reads as JSON sources of packages, the last of which is the client's,
 // and a seed, and makes expressions that stand where the client has the statement `here`. It prints lines with a word and
-// a tab before: `world`, the packages before the client; `place`, what is known at a place, and its number; and for
-// each expression `ask`, its place, Go's answer on 64 and on 32 bits and the classes of differences, with commas
-// between, of each, all parted by tabs, and at last the expression.
+// a tab before: `world`, the packages before the client; `place`, the number of a place and what is known there; and for
+// each expression `ask`, its place, the answers on 64 bits, on 32 bits and on 64 bits in a client of the profile, and the
+// classes of differences of each, with semicolons between, then Go's errors and the expression, all parted by tabs.
 package main
 
 import (
@@ -42,7 +42,7 @@ type place struct {
 	known []known
 }
 
-// asked is an expression, with what each word size says of it.
+// asked is an expression, with what each word size says of it, and whether a client of the profile hasn't one of its steps.
 type asked struct {
 	place   int
 	text    string
@@ -50,6 +50,7 @@ type asked struct {
 	errors  []string
 	answers []string
 	classes []string
+	barred  bool
 }
 
 var (
@@ -195,13 +196,15 @@ func ofUntyped(tree ast.Expr, info *types.Info) bool {
 }
 
 const (
-	past    = "a constant past 128 bits"
-	inexact = "a constant of a float or complex type"
-	shifted = "an untyped constant shifted by what is no constant"
-	array   = "a slice converted to a pointer to an array"
-	twice   = "a constant key that stands twice"
-	besides = "what a type form is asked besides"
-	failing = "an expression over which Go's checker itself fails"
+	past      = "a constant past 128 bits"
+	inexact   = "a constant of a float or complex type"
+	shifted   = "an untyped constant shifted by what is no constant"
+	twice     = "a constant key that stands twice"
+	unwritten = "a grammar that differs"
+	besides   = "what a type form is asked besides"
+	far       = "a shift by more than 1,074"
+	spread    = "the results of a call as the arguments of a builtin function"
+	failing   = "an expression over which Go's checker itself fails"
 )
 
 func isPast(v constant.Value) bool {
@@ -247,15 +250,66 @@ func ofNode(node ast.Node, info *types.Info) string {
 				}
 			}
 		}
+		if len(tree.Args) == 1 && info.Types[tree.Fun].IsBuiltin() {
+			if _, is := info.Types[tree.Args[0]].Type.(*types.Tuple); is {
+				return spread
+			}
+		}
 	case *ast.BinaryExpr:
-		if (tree.Op == token.SHL || tree.Op == token.SHR) && ofUntyped(tree.X, info) && info.Types[tree.Y].Value == nil {
+		if tree.Op != token.SHL && tree.Op != token.SHR {
+			break
+		}
+		count := info.Types[tree.Y].Value
+		if count == nil && ofUntyped(tree.X, info) {
 			return shifted
+		}
+		if count != nil && count.Kind() == constant.Int && constant.Compare(count, token.GTR, constant.MakeInt64(1074)) {
+			return far
 		}
 	}
 	if lit, is := tree.(*ast.BasicLit); is && lit.Kind == token.INT && isPast(constant.MakeFromLiteral(lit.Value, token.INT, 0)) || isPast(noted.Value) {
 		return past
 	}
 	return ""
+}
+
+// isWritten says whether the grammar of this gate has a type's name, or a receiving channel's type, where it stands.
+func isWritten(node ast.Node) bool {
+	long := func(tree ast.Expr) bool {
+		selector, is := tree.(*ast.SelectorExpr)
+		if !is {
+			return false
+		}
+		_, is = selector.X.(*ast.Ident)
+		return !is
+	}
+	receives := func(tree ast.Expr) bool {
+		channel, is := tree.(*ast.ChanType)
+		return is && channel.Dir == ast.RECV
+	}
+	switch node := node.(type) {
+	case *ast.CompositeLit:
+		return !long(node.Type)
+	case *ast.ArrayType:
+		return !long(node.Elt)
+	case *ast.MapType:
+		return !long(node.Key) && !long(node.Value)
+	case *ast.ChanType:
+		return !long(node.Value)
+	case *ast.Field:
+		return !long(node.Type)
+	case *ast.Ellipsis:
+		return !long(node.Elt)
+	case *ast.TypeAssertExpr:
+		return !long(node.Type)
+	case *ast.StarExpr:
+		return !receives(node.X)
+	case *ast.UnaryExpr:
+		return !receives(node.X)
+	case *ast.IndexListExpr:
+		return false
+	}
+	return true
 }
 
 func classes(one *asked, info *types.Info, left []string) string {
@@ -271,6 +325,9 @@ func classes(one *asked, info *types.Info, left []string) string {
 	ast.Inspect(one.tree, func(node ast.Node) bool {
 		if class := ofNode(node, info); class != "" {
 			add(class)
+		}
+		if !isWritten(node) {
+			add(unwritten)
 		}
 		return true
 	})
@@ -290,7 +347,7 @@ func classes(one *asked, info *types.Info, left []string) string {
 			add(class)
 		}
 	}
-	return strings.Join(found, ",")
+	return strings.Join(found, ";")
 }
 
 func isHere(statement ast.Stmt) bool {
@@ -515,7 +572,7 @@ func answerSome(trees []*ast.File, paths []string, bits int64, where []*place, a
 	}
 	for _, one := range some {
 		if one.tree == nil {
-			one.answers, one.classes = append(one.answers, "no expression"), append(one.classes, "")
+			one.answers, one.classes = append(one.answers, "no expression"), append(one.classes, unwritten)
 			continue
 		}
 		left, told := faults(one, info), "untyped"
@@ -524,6 +581,9 @@ func answerSome(trees []*ast.File, paths []string, bits int64, where []*place, a
 		}
 		one.answers, one.classes = append(one.answers, told), append(one.classes, classes(one, info, left))
 		one.errors = left
+		if len(left) == 0 {
+			one.barred = isBarred(one.tree, info)
+		}
 	}
 }
 
@@ -589,7 +649,12 @@ func main() {
 		}
 	}
 	for _, one := range questions {
-		fmt.Fprintf(out, "ask\t%d\t%s\t%s\t%s\t%s\t%s\t%s\n", one.place, one.answers[0], one.answers[1], one.classes[0], one.classes[1], strings.Join(one.errors, "; "), one.text)
+		in := one.answers[0]
+		if one.barred {
+			in = "untyped"
+		}
+		words := []string{"ask", strconv.Itoa(one.place), one.answers[0], one.answers[1], in, one.classes[0], one.classes[1], one.classes[0], strings.Join(one.errors, "; "), one.text}
+		fmt.Fprintln(out, strings.Join(words, "\t"))
 	}
 	out.Flush()
 }

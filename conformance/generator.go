@@ -152,9 +152,9 @@ func (g *generator) least(t types.Type) made {
 
 func (g *generator) function(t types.Type, u *types.Signature) made {
 	if _, is := t.(*types.Signature); is {
-		return made{written(t) + " { panic(0) }", 7}
+		return made{written(t) + " { for {} }", 7}
 	}
-	return made{operand(t) + "(" + written(u) + " { panic(0) })", 7}
+	return made{operand(t) + "(" + written(u) + " { for {} })", 7}
 }
 
 // some is a type of the pool for which a test holds, or any.

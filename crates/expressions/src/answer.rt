@@ -1,4 +1,6 @@
 //! The answer to a line.
+ghost use Rattle.std.specs.Prelude.{◌≡◌, length};
+
 use crate::operands::{meaning, operand};
 use crate::place::Place;
 use crate::tree::tree;
@@ -71,14 +73,18 @@ fn told(alloc: Global, declared: Result<(), DeclareError>) -> Result<Vec<u8>, Re
     }
 }
 
-fn declare(
-    alloc: Global,
-    env: &mut Env<'_>,
-    name: &str,
-    entity: Entity,
-) -> Result<Vec<u8>, Refusal> {
+#[tactic(auto, using(crate::proofs::OpenScopes::declared_opened))]
+fn put(env: &mut Env<'_>, name: Text, seen: Seen) -> Result<(), DeclareError>
+    ensures { length env.new.opened ≡ length env.old.opened }
+{
+    env.declare(name, seen)
+}
+
+fn declare(alloc: Global, env: &mut Env<'_>, name: &str, entity: Entity) -> Result<Vec<u8>, Refusal>
+    ensures { length env.new.opened ≡ length env.old.opened }
+{
     let name = text(alloc, name)?;
-    told(alloc, env.declare(name, Seen::Object(entity)))
+    told(alloc, put(env, name, Seen::Object(entity)))
 }
 
 fn declare_type(
@@ -86,7 +92,9 @@ fn declare_type(
     env: &mut Env<'_>,
     stack: &mut Stack,
     words: &str,
-) -> Result<Vec<u8>, Refusal> {
+) -> Result<Vec<u8>, Refusal>
+    ensures { length env.new.opened ≡ length env.old.opened }
+{
     let (name, rest) = split(words)?;
     let entity = type_entity(alloc, env.path(), name)?;
     let defined = defined(alloc, stack, name, rest)?;
@@ -102,9 +110,11 @@ fn declare_local(
     env: &mut Env<'_>,
     name: &str,
     seen: Seen,
-) -> Result<Vec<u8>, Refusal> {
+) -> Result<Vec<u8>, Refusal>
+    ensures { length env.new.opened ≡ length env.old.opened }
+{
     let name = text(alloc, name)?;
-    told(alloc, env.declare(name, seen))
+    told(alloc, put(env, name, seen))
 }
 
 fn local(
@@ -112,7 +122,9 @@ fn local(
     env: &mut Env<'_>,
     stack: &mut Stack,
     words: &str,
-) -> Result<Vec<u8>, Refusal> {
+) -> Result<Vec<u8>, Refusal>
+    ensures { length env.new.opened ≡ length env.old.opened }
+{
     let (name, rest) = split(words)?;
     let term = stack.one(alloc, rest)?;
     declare_local(alloc, env, name, Seen::Local(term.into_value()))
@@ -123,7 +135,9 @@ fn local_const(
     env: &mut Env<'_>,
     stack: &mut Stack,
     words: &str,
-) -> Result<Vec<u8>, Refusal> {
+) -> Result<Vec<u8>, Refusal>
+    ensures { length env.new.opened ≡ length env.old.opened }
+{
     let (name, rest) = split(words)?;
     let (word, of) = split(rest)?;
     let value = value(alloc, word)?;
@@ -136,20 +150,26 @@ fn define(
     env: &mut Env<'_>,
     stack: &mut Stack,
     words: &str,
-) -> Result<Vec<u8>, Refusal> {
+) -> Result<Vec<u8>, Refusal>
+    ensures { length env.new.opened ≡ length env.old.opened }
+{
     let (name, rest) = split(words)?;
     env.define(defined(alloc, stack, name, rest)?)?;
     Ok(Vec::new(alloc))
 }
 
-fn import(alloc: Global, env: &mut Env<'_>, words: &str) -> Result<Vec<u8>, Refusal> {
+fn import(alloc: Global, env: &mut Env<'_>, words: &str) -> Result<Vec<u8>, Refusal>
+    ensures { length env.new.opened ≡ length env.old.opened }
+{
     let (number, rest) = split(words)?;
     let (name, path) = split(rest)?;
     let (name, path) = (text(alloc, name)?, text(alloc, path)?);
     told(alloc, env.import(file(number)?, name, path))
 }
 
-fn set_iota(alloc: Global, env: &mut Env<'_>, word: &str) -> Result<Vec<u8>, Refusal> {
+fn set_iota(alloc: Global, env: &mut Env<'_>, word: &str) -> Result<Vec<u8>, Refusal>
+    ensures { length env.new.opened ≡ length env.old.opened }
+{
     let place = match word {
         "none" => None,
         _ => Some(number(word)?),
@@ -158,7 +178,9 @@ fn set_iota(alloc: Global, env: &mut Env<'_>, word: &str) -> Result<Vec<u8>, Ref
     Ok(Vec::new(alloc))
 }
 
-fn await_method(alloc: Global, env: &mut Env<'_>, words: &str) -> Result<Vec<u8>, Refusal> {
+fn await_method(alloc: Global, env: &mut Env<'_>, words: &str) -> Result<Vec<u8>, Refusal>
+    ensures { length env.new.opened ≡ length env.old.opened }
+{
     let (name, selector) = split(words)?;
     let name = text(alloc, name)?;
     env.await_method(name, sel(alloc, selector)?)?;
@@ -172,7 +194,9 @@ fn asked(
     stack: &mut Stack,
     kind: &str,
     words: &str,
-) -> Result<Vec<u8>, Refusal> {
+) -> Result<Vec<u8>, Refusal>
+    ensures { length env.new.opened ≡ length env.old.opened }
+{
     match kind {
         "expression" => expression(alloc, env, words),
         "means" => means(alloc, env, words),

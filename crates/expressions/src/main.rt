@@ -36,66 +36,47 @@ use crate::answer::answer;
 use crate::place::Place;
 use crate::world::{Blocks, read_world};
 use go_model::types::world::World;
-use std::alloc::Global;
 use std::io;
 use std::io::{BufWriter, Write};
 use std::process::ExitCode;
 use worlds::read::Stack;
 use worlds::refusal::Refusal;
 
-// How the reading of the lines ended.
-#[derive(Clone, Copy)]
-enum End {
-    Read,
-    WrongLine(u64),
-}
-
 // Answers all lines, or gives the number of the first wrong one.
-fn answer_all<W: Write + Drop>(
-    alloc: Global,
-    world: &World,
-    lines: &str,
-    out: &mut W,
-) -> anyhow::Result<End> {
-    let mut place = Place::new(alloc, world)?;
-    let mut stack = Stack::new(alloc);
-    let mut blocks = Blocks::new();
-    let mut number = 0u64;
-    for line in lines.lines() {
-        number = number.saturating_add(1);
-        if blocks.holds(line) {
-            continue;
-        }
-        match answer(alloc, world, &mut place, &mut stack, line) {
-            Ok(bytes) => out.write_all(bytes.as_slice())?,
-            Err(Refusal::WrongLine) => return Ok(End::WrongLine(number)),
-            Err(Refusal::NoMemory) => anyhow::bail!("out of memory"),
-        }
-    }
-    Ok(End::Read)
-}
-
-fn run(rt: &HostRuntime) -> anyhow::Result<End> {
+fn run(rt: &HostRuntime) -> anyhow::Result<Option<u64>> {
     let alloc = rt.alloc();
     let mut out = BufWriter::new(alloc, io::writer(rt))?;
     let text = io::read_to_string(alloc, rt.reader())?;
     let mut world = World::empty(alloc);
-    let number = match read_world(alloc, &mut world, text.as_str()) {
-        Ok(()) => {
-            let end = answer_all(alloc, &world, text.as_str(), &mut out)?;
-            out.flush()?;
-            return Ok(end);
+    if let Some(number) = read_world(alloc, &mut world, text.as_str())? {
+        return Ok(Some(number));
+    }
+    let mut place = Place::new(alloc, &world)?;
+    let mut stack = Stack::new(alloc);
+    let mut blocks = Blocks::new();
+    let mut number = 0u64;
+    for line in text.lines() {
+        number = number.saturating_add(1);
+        if blocks.holds(line) {
+            continue;
         }
-        Err((number, Refusal::WrongLine)) => number,
-        Err((_, Refusal::NoMemory)) => anyhow::bail!("out of memory"),
-    };
-    Ok(End::WrongLine(number))
+        match answer(alloc, &world, &mut place, &mut stack, line) {
+            Ok(bytes) => out.write_all(bytes.as_slice())?,
+            Err(Refusal::WrongLine) => {
+                out.flush()?;
+                return Ok(Some(number));
+            }
+            Err(Refusal::NoMemory) => anyhow::bail!("out of memory"),
+        }
+    }
+    out.flush()?;
+    Ok(None)
 }
 
 fn main(rt: HostRuntime) -> ExitCode {
     match run(&rt) {
-        Ok(End::Read) => ExitCode::SUCCESS,
-        Ok(End::WrongLine(number)) => {
+        Ok(None) => ExitCode::SUCCESS,
+        Ok(Some(number)) => {
             let _ = eprintln!(rt; "line {number}: no declaration and no question");
             ExitCode::from(2)
         }

@@ -1,4 +1,6 @@
 //! Where expressions stand.
+ghost use Rattle.std.specs.Prelude.{◌≤◌, length};
+
 use go_base::memory::NoMemory;
 use go_base::text::Text;
 use go_model::types::world::World;
@@ -11,6 +13,7 @@ use worlds::refusal::Refusal;
 pub struct Place<'w> {
     pub env: Env<'w>,
     depth: u64,
+    ghost opened: { depth ≤ length env.opened },
 }
 
 impl<'w> Place<'w> {

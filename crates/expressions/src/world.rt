@@ -1,4 +1,5 @@
 //! The packages of the world, which stand in blocks of lines.
+use go_base::memory::NoMemory;
 use go_model::types::world::World;
 use std::alloc::Global;
 use worlds::packages::{Making, add};
@@ -49,7 +50,7 @@ fn read_line(
 }
 
 /// Reads the packages, or gives the number of the first wrong line.
-pub fn read_world(alloc: Global, world: &mut World, lines: &str) -> Result<(), (u64, Refusal)> {
+pub fn read_world(alloc: Global, world: &mut World, lines: &str) -> Result<Option<u64>, NoMemory> {
     let mut stack = Stack::new(alloc);
     let mut blocks = Blocks::new();
     let mut making = None;
@@ -59,9 +60,10 @@ pub fn read_world(alloc: Global, world: &mut World, lines: &str) -> Result<(), (
         if blocks.holds(line) {
             making = match read_line(alloc, world, &mut stack, making, line) {
                 Ok(making) => making,
-                Err(refusal) => return Err((number, refusal)),
+                Err(Refusal::WrongLine) => return Ok(Some(number)),
+                Err(Refusal::NoMemory) => return Err(NoMemory),
             };
         }
     }
-    Ok(())
+    Ok(None)
 }

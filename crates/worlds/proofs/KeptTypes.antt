@@ -104,29 +104,29 @@ module _ (w : Packages) (p : Package) where
   kept_methods [] h = kept_none
   kept_methods (m ∷ ms) h = kept_both (names_of_method m) (all_of (map names_of_method ms)) (sels_of_method m) (sels_of (map sels_of_method ms)) (within_of (member_of_method m)) (gather within_of (map member_of_method ms)) (kept_method m h.0) (kept_methods ms h.1)
 
-  pub kept_struct : (fs : List Field) → AreDistinct (map field_sel fs) → Each (FieldKept w p) fs → TermKept w p (roll-Term (Term-F.Struct fs))
-  kept_struct fs d h =
-      let parts = kept_fields fs h in
+  made_of : (t : Term) (l : Term-F Term Field Method Signature) → out-Term t ≡ l → TermKept w p (roll-Term l) → TermKept w p t
+  made_of t l e h = subst (TermKept w p) (ap roll-Term (sym e) ∙ roll-out-Term t) h
+
+  struct_kept : (fs : List Field) → AreDistinct (map field_sel fs) → Each (FieldKept w p) fs → TermKept w p (roll-Term (Term-F.Struct fs))
+  struct_kept fs d h =
+      let parts : Kept w p (all_of (map names_of_field fs)) (sels_of (map sels_of_field fs)) (gather within_of (map member_of_field fs)) = kept_fields fs h in
       record {
         there = subst There (sym (fold-roll-Term Names Names Names Names name_step field_names method_names parameter_names (Term-F.Struct fs))) parts.there;
         owned = subst Owned (sym (fold-roll-Term Sels Sels Sels Sels sel_step field_sels method_sels parameter_sels (Term-F.Struct fs))) parts.owned;
         formed = subst Formed (sym (fold-roll-Term Sets Member Member Sets member_step field_member method_member parameter_members (Term-F.Struct fs))) (subst AreDistinct (sym (field_sels_of fs)) d, parts.formed);
       }
 
-  pub kept_interface : (ms : List Method) → AreOrdered (map method_sel ms) → Each (MethodKept w p) ms → TermKept w p (roll-Term (Term-F.Interface ms))
-  kept_interface ms d h =
-      let parts = kept_methods ms h in
+  pub kept_struct : (t : Term) (fs : List Field) → out-Term t ≡ Term-F.Struct fs → AreDistinct (map field_sel fs) → Each (FieldKept w p) fs → TermKept w p t
+  kept_struct t fs e d h = made_of t (Term-F.Struct fs) e (struct_kept fs d h)
+
+  interface_kept : (ms : List Method) → AreOrdered (map method_sel ms) → Each (MethodKept w p) ms → TermKept w p (roll-Term (Term-F.Interface ms))
+  interface_kept ms d h =
+      let parts : Kept w p (all_of (map names_of_method ms)) (sels_of (map sels_of_method ms)) (gather within_of (map member_of_method ms)) = kept_methods ms h in
       record {
         there = subst There (sym (fold-roll-Term Names Names Names Names name_step field_names method_names parameter_names (Term-F.Interface ms))) parts.there;
         owned = subst Owned (sym (fold-roll-Term Sels Sels Sels Sels sel_step field_sels method_sels parameter_sels (Term-F.Interface ms))) parts.owned;
         formed = subst Formed (sym (fold-roll-Term Sets Member Member Sets member_step field_member method_member parameter_members (Term-F.Interface ms))) (subst AreOrdered (sym (method_sels_of ms)) d, parts.formed);
       }
 
-  pub kept_map : (k e : Term) → TermKept w p k → TermKept w p e → TermKept w p (roll-Term (Term-F.Map k e))
-  kept_map k e h i =
-      let parts = kept_both (names k) (names e) (selectors k) (selectors e) (members k) (members e) h i in
-      record {
-        there = subst There (sym (fold-roll-Term Names Names Names Names name_step field_names method_names parameter_names (Term-F.Map k e))) parts.there;
-        owned = subst Owned (sym (fold-roll-Term Sels Sels Sels Sels sel_step field_sels method_sels parameter_sels (Term-F.Map k e))) parts.owned;
-        formed = subst Formed (sym (fold-roll-Term Sets Member Member Sets member_step field_member method_member parameter_members (Term-F.Map k e))) parts.formed;
-      }
+  pub kept_interface : (t : Term) (ms : List Method) → out-Term t ≡ Term-F.Interface ms → AreOrdered (map method_sel ms) → Each (MethodKept w p) ms → TermKept w p t
+  kept_interface t ms e d h = made_of t (Term-F.Interface ms) e (interface_kept ms d h)

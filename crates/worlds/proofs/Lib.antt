@@ -1,4 +1,6 @@
 mod Admitted
 mod KeptTypes
 mod Lists
+mod Orders
 mod Paths
+mod Shapes

@@ -1,5 +1,6 @@
 -- The defined types of a world with one more package, whose path it hasn't.
 use Rattle.std.proofs.Common.{◌≡◌, ◌≢◌, ℕ, List, [], ◌∷◌, map, inl, inr, Bool, true, false, Option, Some, None, refl, sym, ap, ◌∙◌, subst, if◌then◌else◌}
+use mathlib.Core.Bool.{true≢false}
 use Rattle.std.specs.Cmp.Lexicographic.{slice_cmp}
 use Rattle.std.specs.Ordering.{is_lt, nat_cmp}
 use Rattle.std.specs.Str.{bytes_eq}
@@ -7,11 +8,13 @@ use Rattle.std.proofs.lemmas.Slice.Eq.{bytes_eq-Decides}
 use Rattle.go_base.specs.Keys.{first_with, placed}
 use Rattle.go_base.specs.Lists.{Has}
 use Rattle.go_model.proofs.MoreWorlds.{first_placed}
+use Rattle.go_model.specs.declared.types.names.Sel.{Sel}
 use Rattle.go_model.specs.declared.types.names.TypeName.{TypeName}
+use Rattle.go_model.specs.declared.types.package.Defined.{Defined}
 use Rattle.go_model.specs.declared.types.package.Package.{Package}
 use Rattle.go_model.specs.types.Terms.{error_type, is_error}
-use Rattle.go_model.specs.worlds.Worlds.{Packages, defined_in, path_of, table_of}
-use Rattle.worlds.specs.inner.Admission.{IsThere, joint}
+use Rattle.go_model.specs.worlds.Worlds.{IsOwned, Packages, defined_in, name_of, path_of, table_of}
+use Rattle.worlds.specs.inner.Admission.{IsThere, joint, joint_paths}
 
 either : {A : Type 0} (P : A → Type 0) (b : Bool) (u v : A) → (b ≡ true → P u) → (b ≡ false → P v) → P (if b then u else v)
 either P true u v f g = f refl
@@ -26,6 +29,9 @@ own_placed {A} key y (x ∷ xs) new =
     (λ e. ap (λ b. if b then Some y else first_with key (x ∷ xs) (key y)) ((bytes_eq-Decides (key y) (key y)).1 refl))
     (λ e. either (λ (o : Option A). o ≡ Some y) (bytes_eq (key x) (key y)) (Some x) (first_with key (placed key y xs) (key y)) (λ s. absurd (new (inl ((bytes_eq-Decides (key x) (key y)).0 s)))) (λ s. later))
 
+some_none : {A : Type 0} (x : A) → Some x ≡ None → ⊥
+some_none x e = absurd (cc)
+
 pub error_there : (w : Packages) (p : Package) (n : TypeName) → is_error n ≡ true → IsThere w p n
 error_there w p n e = subst (λ (b : Bool). (if b then Some error_type else joint w p n) ≢ None) (sym e) (λ s. absurd (cc))
 
@@ -37,12 +43,38 @@ table_there w p n h = by (is_error n) refl
     by false e = subst (λ (b : Bool). (if b then Some error_type else joint w p n) ≢ None) (sym e) h
 
 module _ (w : Packages) (p : Package) (new : Has (map path_of w.packages) p.path → ⊥) (n : TypeName) where
-  pub own_there : p.path ≡ n.path → defined_in (Some p) n.name ≢ None → IsThere w p n
-  own_there e h = table_there w p n (λ s. h (ap (λ o. defined_in o n.name) (sym (subst (λ (k : List ℕ). first_with path_of (placed path_of p w.packages) k ≡ Some p) e (own_placed path_of p w.packages new))) ∙ s))
+  pub own_there : p.path ≡ n.path → (ds : List Defined) (k : List ℕ) (d : Defined) → ds ≡ p.defined → k ≡ n.name → Some d ≡ first_with name_of ds k → IsThere w p n
+  own_there e ds k d a b found =
+      let own : Some d ≡ first_with name_of p.defined n.name = found ∙ (λ i. first_with name_of (a i) (b i)) in
+      let first : first_with path_of (placed path_of p w.packages) n.path ≡ Some p = subst (λ (m : List ℕ). first_with path_of (placed path_of p w.packages) m ≡ Some p) e (own_placed path_of p w.packages new) in
+      table_there w p n (λ s. some_none d (own ∙ ap (λ o. defined_in o n.name) (sym first) ∙ s))
 
-  pub other_there : (p.path ≡ n.path → ⊥) → table_of w.packages n ≢ None → IsThere w p n
-  other_there e h = by (bytes_eq p.path n.path) refl
-    where
-      by : (b : Bool) → bytes_eq p.path n.path ≡ b → IsThere w p n
-      by true s = absurd (e ((bytes_eq-Decides p.path n.path).0 s))
-      by false s = table_there w p n (λ k. h (ap (λ o. defined_in o n.name) (sym (first_placed path_of p w.packages n.path s)) ∙ k))
+pub other_there : (w : Packages) (p : Package) (n : TypeName) → (p.path ≡ n.path → ⊥) → (d : Defined) → Some d ≡ table_of w.packages n → IsThere w p n
+other_there w p n e d h = by (bytes_eq p.path n.path) refl
+  where
+    by : (b : Bool) → bytes_eq p.path n.path ≡ b → IsThere w p n
+    by true s = absurd (e ((bytes_eq-Decides p.path n.path).0 s))
+    by false s = table_there w p n (λ k. some_none d (h ∙ ap (λ o. defined_in o n.name) (sym (first_placed path_of p w.packages n.path s)) ∙ k))
+
+-- a key that finds an item is one of its list, and one that finds none isn't
+pub first_has : {A : Type 0} (key : A → List ℕ) (xs : List A) (k : List ℕ) (x : A) → Some x ≡ first_with key xs k → Has (map key xs) k
+first_has key [] k x h = absurd (some_none x h)
+first_has {A} key (y ∷ xs) k x h = by (bytes_eq (key y) k) refl
+  where
+    by : (b : Bool) → bytes_eq (key y) k ≡ b → Has (map key (y ∷ xs)) k
+    by true s = inl ((bytes_eq-Decides (key y) k).0 s)
+    by false s = inr (first_has key xs k x (h ∙ ap (λ b. if b then Some y else first_with key xs k) s))
+
+has_first : {A : Type 0} (key : A → List ℕ) (xs : List A) (k : List ℕ) → None ≡ first_with key xs k → Has (map key xs) k → ⊥
+has_first key [] k h has = has
+has_first {A} key (y ∷ xs) k h has = by (bytes_eq (key y) k) refl
+  where
+    by : (b : Bool) → bytes_eq (key y) k ≡ b → ⊥
+    by true s = some_none y (sym (h ∙ ap (λ b. if b then Some y else first_with key xs k) s))
+    by false s = elim has [ inl e ↦ true≢false (sym ((bytes_eq-Decides (key y) k).1 e) ∙ s) | inr i ↦ has_first key xs k (h ∙ ap (λ b. if b then Some y else first_with key xs k) s) i ]
+
+pub none_has : {A : Type 0} (key : A → List ℕ) (xs : List A) (k m : List ℕ) → k ≡ m → None ≡ first_with key xs k → Has (map key xs) m → ⊥
+none_has key xs k m e h has = has_first key xs m (h ∙ ap (first_with key xs) e) has
+
+pub other_owned : (w : Packages) (p : Package) (s : Sel) (k : List ℕ) (q : Package) → k ≡ s.«package» → Some q ≡ first_with path_of w.packages k → IsOwned (joint_paths w p) s
+other_owned w p s k q e h = inr (inr (first_has path_of w.packages s.«package» q (h ∙ ap (first_with path_of w.packages) e)))

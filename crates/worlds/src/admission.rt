@@ -20,21 +20,22 @@ use go_model::types::term::{Field, Method, Signature, Term};
 use go_model::types::world::World;
 
 /// A world, and a package whose path it hasn't.
+#[derive(Clone, Copy)]
 struct Admission<'a> {
     world: &'a World,
-    package: &'a Package,
-    ghost absent: { Has (map path_of world.now.packages) package.now.path → ⊥ },
+    added: &'a Package,
+    ghost absent: { Has (map path_of world.now.packages) added.now.path → ⊥ },
 }
 
-fn has_defined(types: &[Defined], name: &[u8]) -> bool
-    ensures { result ≡ true → first_with name_of types.now name.now ≢ None }
+fn named_defined<'a>(types: &'a [Defined], name: &[u8]) -> Option<&'a Defined>
+    ensures { item_of result ≡ first_with name_of types.now name.now }
 {
-    for one in types {
-        if one.name.bytes() == name {
-            return true;
+    for defined in types {
+        if defined.name.bytes() == name {
+            return Some(defined);
         }
     }
-    false
+    None
 }
 
 fn is_error(name: &TypeName) -> bool
@@ -43,30 +44,61 @@ fn is_error(name: &TypeName) -> bool
     name.path.bytes().is_empty() && name.name.bytes() == b"error".as_slice()
 }
 
+fn is_of(name: &TypeName, path: &Text) -> bool
+    ensures same { result ≡ true → path.now ≡ name.now.path }
+    ensures other { result ≡ false → path.now ≡ name.now.path → ⊥ }
+{
+    name.path == *path
+}
+
 // Names and selectors.
 impl Admission<'_> {
+    fn is_own(&self, name: &TypeName) -> bool
+        requires { self.now.added.now.path ≡ name.now.path }
+        ensures { result ≡ true → IsThere self.now.world.now self.now.added.now name.now }
+    {
+        match named_defined(self.added.defined.items(), name.name.bytes()) {
+            Some(_) => true,
+            None => false,
+        }
+    }
+
+    fn is_of_world(&self, name: &TypeName) -> bool
+        requires { self.now.added.now.path ≡ name.now.path → ⊥ }
+        ensures { result ≡ true → IsThere self.now.world.now self.now.added.now name.now }
+    {
+        match self.world.defined(name) {
+            Some(_) => true,
+            None => false,
+        }
+    }
+
+    #[tactic(auto, using(crate::proofs::Paths::error_there))]
     fn is_there(&self, name: &TypeName) -> bool
-        ensures { result ≡ true → IsThere self.now.world.now self.now.package.now name.now }
+        ensures { result ≡ true → IsThere self.now.world.now self.now.added.now name.now }
     {
         if is_error(name) {
             return true;
         }
-        if self.package.path == name.path {
-            return has_defined(self.package.defined.items(), name.name.bytes());
+        if is_of(name, &self.added.path) {
+            return self.is_own(name);
         }
-        self.world.defined(name).is_some()
+        self.is_of_world(name)
     }
 
     fn is_owned(&self, sel: &Sel) -> bool
-        ensures { result ≡ true → IsOwned (joint_paths self.now.world.now self.now.package.now) sel.now }
+        ensures { result ≡ true → IsOwned (joint_paths self.now.world.now self.now.added.now) sel.now }
     {
         if sel.package.bytes().is_empty() {
             return true;
         }
-        if sel.package == self.package.path {
+        if sel.package == self.added.path {
             return true;
         }
-        self.world.package(sel.package.bytes()).is_some()
+        match self.world.package(sel.package.bytes()) {
+            Some(_) => true,
+            None => false,
+        }
     }
 }
 
@@ -74,7 +106,7 @@ impl Admission<'_> {
 impl Admission<'_> {
     #[cycle(kept)]
     fn term(&self, term: &Term) -> bool
-        ensures { result ≡ true → TermKept self.now.world.now self.now.package.now term.now }
+        ensures { result ≡ true → TermKept self.now.world.now self.now.added.now term.now }
     {
         match term {
             Term::Plain(_) => true,
@@ -107,14 +139,14 @@ impl Admission<'_> {
 
     #[cycle(kept)]
     fn boxed(&self, term: &Box<Term>) -> bool
-        ensures { result ≡ true → TermKept self.now.world.now self.now.package.now term.now }
+        ensures { result ≡ true → TermKept self.now.world.now self.now.added.now term.now }
     {
         self.term(term.value())
     }
 
     #[cycle(kept)]
     fn terms(&self, terms: &[Term]) -> bool
-        ensures { result ≡ true → Each (TermKept self.now.world.now self.now.package.now) terms.now }
+        ensures { result ≡ true → Each (TermKept self.now.world.now self.now.added.now) terms.now }
     {
         for term in terms {
             if !self.term(term) {
@@ -126,7 +158,7 @@ impl Admission<'_> {
 
     #[cycle(kept)]
     fn signature(&self, signature: &Signature) -> bool
-        ensures { result ≡ true → SignatureKept self.now.world.now self.now.package.now signature.now }
+        ensures { result ≡ true → SignatureKept self.now.world.now self.now.added.now signature.now }
     {
         if !self.terms(signature.params.items()) {
             return false;
@@ -136,7 +168,7 @@ impl Admission<'_> {
 
     #[cycle(kept)]
     fn field(&self, field: &Field) -> bool
-        ensures { result ≡ true → FieldKept self.now.world.now self.now.package.now field.now }
+        ensures { result ≡ true → FieldKept self.now.world.now self.now.added.now field.now }
     {
         if !self.is_owned(&field.sel) {
             return false;
@@ -146,7 +178,7 @@ impl Admission<'_> {
 
     #[cycle(kept)]
     fn fields(&self, fields: &[Field]) -> bool
-        ensures { result ≡ true → Each (FieldKept self.now.world.now self.now.package.now) fields.now }
+        ensures { result ≡ true → Each (FieldKept self.now.world.now self.now.added.now) fields.now }
     {
         for field in fields {
             if !self.field(field) {
@@ -158,7 +190,7 @@ impl Admission<'_> {
 
     #[cycle(kept)]
     fn method(&self, method: &Method) -> bool
-        ensures { result ≡ true → MethodKept self.now.world.now self.now.package.now method.now }
+        ensures { result ≡ true → MethodKept self.now.world.now self.now.added.now method.now }
     {
         if !self.is_owned(&method.sel) {
             return false;
@@ -168,7 +200,7 @@ impl Admission<'_> {
 
     #[cycle(kept)]
     fn methods(&self, methods: &[Method]) -> bool
-        ensures { result ≡ true → Each (MethodKept self.now.world.now self.now.package.now) methods.now }
+        ensures { result ≡ true → Each (MethodKept self.now.world.now self.now.added.now) methods.now }
     {
         for method in methods {
             if !self.method(method) {
@@ -182,7 +214,7 @@ impl Admission<'_> {
 // Objects.
 impl Admission<'_> {
     fn object(&self, object: &Object) -> bool
-        ensures { result ≡ true → ObjectKept self.now.world.now self.now.package.now object.now }
+        ensures { result ≡ true → ObjectKept self.now.world.now self.now.added.now object.now }
     {
         match &object.entity {
             Entity::Const(ConstTerm::OfTerm(term), _) => self.term(term),
@@ -194,7 +226,7 @@ impl Admission<'_> {
     }
 
     fn objects(&self, objects: &[Object]) -> bool
-        ensures { result ≡ true → Each (ObjectKept self.now.world.now self.now.package.now) objects.now }
+        ensures { result ≡ true → Each (ObjectKept self.now.world.now self.now.added.now) objects.now }
     {
         for object in objects {
             if !self.object(object) {
@@ -281,7 +313,7 @@ fn are_apart(methods: &[MethodOf], fields: &[Field]) -> bool
 // Defined types.
 impl Admission<'_> {
     fn declared(&self, method: &MethodOf) -> bool
-        ensures { result ≡ true → DeclaredKept self.now.world.now self.now.package.now method.now }
+        ensures { result ≡ true → DeclaredKept self.now.world.now self.now.added.now method.now }
     {
         if !self.is_owned(&method.sel) {
             return false;
@@ -290,7 +322,7 @@ impl Admission<'_> {
     }
 
     fn declared_methods(&self, methods: &[MethodOf]) -> bool
-        ensures { result ≡ true → Each (DeclaredKept self.now.world.now self.now.package.now) methods.now }
+        ensures { result ≡ true → Each (DeclaredKept self.now.world.now self.now.added.now) methods.now }
     {
         for method in methods {
             if !self.declared(method) {
@@ -301,7 +333,7 @@ impl Admission<'_> {
     }
 
     fn is_kept(&self, defined: &Defined) -> bool
-        ensures { result ≡ true → TypesKept self.now.world.now self.now.package.now defined.now }
+        ensures { result ≡ true → TypesKept self.now.world.now self.now.added.now defined.now }
     {
         if !self.term(&defined.underlying) {
             return false;
@@ -310,7 +342,7 @@ impl Admission<'_> {
     }
 
     fn is_defined(&self, defined: &Defined) -> bool
-        ensures { result ≡ true → DefinedKept self.now.world.now self.now.package.now defined.now }
+        ensures { result ≡ true → DefinedKept self.now.world.now self.now.added.now defined.now }
     {
         if !self.is_kept(defined) {
             return false;
@@ -318,15 +350,11 @@ impl Admission<'_> {
         if !is_shaped(defined) {
             return false;
         }
-        has_type_object(
-            self.package.objects.items(),
-            &self.package.path,
-            &defined.name,
-        )
+        has_type_object(self.added.objects.items(), &self.added.path, &defined.name)
     }
 
     fn all_defined(&self, types: &[Defined]) -> bool
-        ensures { result ≡ true → Each (DefinedKept self.now.world.now self.now.package.now) types.now }
+        ensures { result ≡ true → Each (DefinedKept self.now.world.now self.now.added.now) types.now }
     {
         for defined in types {
             if !self.is_defined(defined) {
@@ -337,16 +365,25 @@ impl Admission<'_> {
     }
 }
 
+fn is_bare(defined: &Defined) -> bool
+    ensures { result ≡ true → bars_methods (out-Term defined.now.underlying) ≡ true → defined.now.methods ≡ [] }
+{
+    if !bars_methods(&defined.underlying) {
+        return true;
+    }
+    defined.methods.items().is_empty()
+}
+
 fn is_shaped(defined: &Defined) -> bool
     ensures { result ≡ true → IsShaped defined.now }
 {
     if !is_structured(&defined.underlying) {
         return false;
     }
-    let methods = defined.methods.items();
-    if bars_methods(&defined.underlying) && !methods.is_empty() {
+    if !is_bare(defined) {
         return false;
     }
+    let methods = defined.methods.items();
     if !are_ordered(methods) {
         return false;
     }
@@ -355,41 +392,47 @@ fn is_shaped(defined: &Defined) -> bool
 
 impl Admission<'_> {
     fn is_met(&self) -> bool
-        ensures { result ≡ true → IsAdmitted self.now.world.now self.now.package.now }
+        ensures { result ≡ true → IsAdmitted self.now.world.now self.now.added.now }
     {
-        if !ascend(self.package.objects.items()) {
+        if !ascend(self.added.objects.items()) {
             return false;
         }
-        if !ascend(self.package.defined.items()) {
+        if !ascend(self.added.defined.items()) {
             return false;
         }
-        if !self.objects(self.package.objects.items()) {
+        if !self.objects(self.added.objects.items()) {
             return false;
         }
-        self.all_defined(self.package.defined.items())
+        self.all_defined(self.added.defined.items())
     }
 }
 
-fn is_path(path: &[u8]) -> bool
-    ensures { result ≡ true → (path.now ≢ []) × (path.now ≢ client_path) }
+fn is_pathed(added: &Package) -> bool
+    ensures { result ≡ true → (added.now.path ≢ []) × (added.now.path ≢ client_path) }
 {
+    let path = added.path.bytes();
     !path.is_empty() && path != b"-client".as_slice()
+}
+
+fn is_new(world: &World, added: &Package) -> bool
+    ensures { result ≡ true → Has (map path_of world.now.packages) added.now.path → ⊥ }
+{
+    match world.package(added.path.bytes()) {
+        Some(_) => false,
+        None => true,
+    }
 }
 
 /// Whether a world may take a package, so that it stays a world.
 pub fn admits(world: &World, added: &Package) -> bool
     ensures { result ≡ true → (public : Bool) → IsWorld (with_package world.now added.now public) }
 {
-    if !is_path(added.path.bytes()) {
+    if !is_pathed(added) {
         return false;
     }
-    if world.package(added.path.bytes()).is_some() {
+    if !is_new(world, added) {
         return false;
     }
     let _packages = world.packages();
-    Admission {
-        world,
-        package: added,
-    }
-    .is_met()
+    Admission { world, added }.is_met()
 }

@@ -1,7 +1,5 @@
 //! What is in order, and what stands once.
-ghost use Rattle.std.specs.Prelude.{◌≡◌, ◌≢◌, map, true};
-ghost use Rattle.std.specs.List.{AllByRecursion};
-ghost use Rattle.std.specs.declared.cmp.Ordering.{Ordering};
+ghost use Rattle.std.specs.Prelude.{◌≡◌, ◌≢◌, ◌<◌, ◌+◌, drop, length, map, true};
 ghost use Rattle.std.specs.declared.cmp.Ordering.TheVariants.{Less};
 ghost use Rattle.go_base.specs.Lists.{Ascending, Before, Each};
 ghost use Rattle.go_model.specs.declared.types.names.Sel.{Sel};
@@ -15,6 +13,14 @@ use go_model::types::names::Sel;
 use go_model::types::package::MethodOf;
 use go_model::types::term::{Field, Method};
 use std::cmp::Ordering;
+
+// What stands behind an item.
+fn behind<T>(items: &[T], at: usize) -> &[T]
+    requires { at < length items.now }
+    ensures { result.now ≡ drop (at + 1) items.now }
+{
+    &items[at + 1..]
+}
 
 fn is_before(name: &[u8], other: &[u8]) -> bool
     ensures { result ≡ true → Before name.now other.now }
@@ -37,15 +43,12 @@ fn comes_first<K: Keyed>(name: &[u8], items: &[K]) -> bool
 pub(crate) fn ascend<K: Keyed>(items: &[K]) -> bool
     ensures { result ≡ true → Ascending (map K.key items.now) }
 {
-    match items {
-        [] => true,
-        [first, rest @ ..] => {
-            if !comes_first(first.key(), rest) {
-                return false;
-            }
-            ascend(rest)
+    for (at, item) in items.iter().enumerate() {
+        if !comes_first(item.key(), behind(items, at)) {
+            return false;
         }
     }
+    true
 }
 
 /// Whether no field has the name of a selector.
@@ -64,15 +67,12 @@ pub(crate) fn names_none(sel: &Sel, fields: &[Field]) -> bool
 pub(crate) fn are_distinct(fields: &[Field]) -> bool
     ensures { result ≡ true → AreDistinct (map field_sel fields.now) }
 {
-    match fields {
-        [] => true,
-        [first, rest @ ..] => {
-            if !names_none(&first.sel, rest) {
-                return false;
-            }
-            are_distinct(rest)
+    for (at, field) in fields.iter().enumerate() {
+        if !names_none(&field.sel, behind(fields, at)) {
+            return false;
         }
     }
+    true
 }
 
 /// What has a selector.
@@ -126,16 +126,14 @@ fn is_least<M: Selected>(sel: &Sel, methods: &[M]) -> bool
 pub(crate) fn are_ordered<M: Selected>(methods: &[M]) -> bool
     ensures { result ≡ true → AreOrdered (map M.sel methods.now) }
 {
-    match methods {
-        [] => true,
-        [first, rest @ ..] => {
-            if !is_named(first.sel()) {
-                return false;
-            }
-            if !is_least(first.sel(), rest) {
-                return false;
-            }
-            are_ordered(rest)
+    for (at, method) in methods.iter().enumerate() {
+        let found = method.sel();
+        if !is_named(found) {
+            return false;
+        }
+        if !is_least(found, behind(methods, at)) {
+            return false;
         }
     }
+    true
 }
