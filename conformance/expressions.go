@@ -306,6 +306,8 @@ func isWritten(node ast.Node) bool {
 		return !receives(node.X)
 	case *ast.UnaryExpr:
 		return !receives(node.X)
+	case *ast.SelectorExpr:
+		return !receives(node.X)
 	case *ast.IndexListExpr:
 		return false
 	}

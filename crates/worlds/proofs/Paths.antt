@@ -57,24 +57,26 @@ other_there w p n e d h = by (bytes_eq p.path n.path) refl
     by false s = table_there w p n (λ k. some_none d (h ∙ ap (λ o. defined_in o n.name) (sym (first_placed path_of p w.packages n.path s)) ∙ k))
 
 -- a key that finds an item is one of its list, and one that finds none isn't
-pub first_has : {A : Type 0} (key : A → List ℕ) (xs : List A) (k : List ℕ) (x : A) → Some x ≡ first_with key xs k → Has (map key xs) k
-first_has key [] k x h = absurd (some_none x h)
-first_has {A} key (y ∷ xs) k x h = by (bytes_eq (key y) k) refl
-  where
-    by : (b : Bool) → bytes_eq (key y) k ≡ b → Has (map key (y ∷ xs)) k
-    by true s = inl ((bytes_eq-Decides (key y) k).0 s)
-    by false s = inr (first_has key xs k x (h ∙ ap (λ b. if b then Some y else first_with key xs k) s))
+module _ {A : Type 0} (key : A → List ℕ) (k : List ℕ) where
+  has_more : (y x : A) (xs : List A) (b : Bool) → bytes_eq (key y) k ≡ b → (Some x ≡ first_with key xs k → Has (map key xs) k) → Some x ≡ first_with key (y ∷ xs) k → Has (map key (y ∷ xs)) k
+  has_more y x xs true s later h = inl ((bytes_eq-Decides (key y) k).0 s)
+  has_more y x xs false s later h = inr (later (h ∙ ap (λ b. if b then Some y else first_with key xs k) s))
 
-has_first : {A : Type 0} (key : A → List ℕ) (xs : List A) (k : List ℕ) → None ≡ first_with key xs k → Has (map key xs) k → ⊥
-has_first key [] k h has = has
-has_first {A} key (y ∷ xs) k h has = by (bytes_eq (key y) k) refl
-  where
-    by : (b : Bool) → bytes_eq (key y) k ≡ b → ⊥
-    by true s = some_none y (sym (h ∙ ap (λ b. if b then Some y else first_with key xs k) s))
-    by false s = elim has [ inl e ↦ true≢false (sym ((bytes_eq-Decides (key y) k).1 e) ∙ s) | inr i ↦ has_first key xs k (h ∙ ap (λ b. if b then Some y else first_with key xs k) s) i ]
+  pub first_has : (xs : List A) (x : A) → Some x ≡ first_with key xs k → Has (map key xs) k
+  first_has [] x h = absurd (some_none x h)
+  first_has (y ∷ xs) x h = has_more y x xs (bytes_eq (key y) k) refl (first_has xs x) h
+
+  none_more : (y : A) (xs : List A) (b : Bool) → bytes_eq (key y) k ≡ b → (None ≡ first_with key xs k → Has (map key xs) k → ⊥) → None ≡ first_with key (y ∷ xs) k → Has (map key (y ∷ xs)) k → ⊥
+  none_more y xs true s later h has = some_none y (sym (h ∙ ap (λ b. if b then Some y else first_with key xs k) s))
+  none_more y xs false s later h (inl e) = true≢false (sym ((bytes_eq-Decides (key y) k).1 e) ∙ s)
+  none_more y xs false s later h (inr i) = later (h ∙ ap (λ b. if b then Some y else first_with key xs k) s) i
+
+  has_first : (xs : List A) → None ≡ first_with key xs k → Has (map key xs) k → ⊥
+  has_first [] h has = has
+  has_first (y ∷ xs) h has = none_more y xs (bytes_eq (key y) k) refl (has_first xs) h has
 
 pub none_has : {A : Type 0} (key : A → List ℕ) (xs : List A) (k m : List ℕ) → k ≡ m → None ≡ first_with key xs k → Has (map key xs) m → ⊥
-none_has key xs k m e h has = has_first key xs m (h ∙ ap (first_with key xs) e) has
+none_has key xs k m e h has = has_first key m xs (h ∙ ap (first_with key xs) e) has
 
 pub other_owned : (w : Packages) (p : Package) (s : Sel) (k : List ℕ) (q : Package) → k ≡ s.«package» → Some q ≡ first_with path_of w.packages k → IsOwned (joint_paths w p) s
-other_owned w p s k q e h = inr (inr (first_has path_of w.packages s.«package» q (h ∙ ap (first_with path_of w.packages) e)))
+other_owned w p s k q e h = inr (inr (first_has path_of s.«package» w.packages q (h ∙ ap (first_with path_of w.packages) e)))

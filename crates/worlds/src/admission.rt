@@ -1,5 +1,5 @@
 //! Whether a world may take a package.
-ghost use Rattle.std.specs.Prelude.{◌≡◌, ◌≢◌, Bool, [], map, true};
+ghost use Rattle.std.specs.Prelude.{◌≡◌, ◌≢◌, Bool, [], false, map, true};
 ghost use Rattle.go_base.specs.Keys.{first_with, item_of};
 ghost use Rattle.go_base.specs.Lists.{Each, Has};
 ghost use Rattle.go_model.specs.declared.types.names.TypeName.{TypeName};
