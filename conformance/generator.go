@@ -650,10 +650,78 @@ func (g *generator) spoiled(text string) string {
 	return text
 }
 
+// constant is a calculation with constants alone.
+func (g *generator) constant(depth int) made {
+	if depth <= 0 {
+		for i := 0; i < 40; i++ {
+			if one := g.known[g.Intn(len(g.known))]; g.chance(60) {
+				if _, is := one.object.(*types.Const); is {
+					return made{one.name, 7}
+				}
+			}
+		}
+		return made{g.one("0", "1", "2", "7", "'a'", "64", "1 << 62", "255", `"a"`, `"bc"`, "true", "1 << 100", "-1", "iota", "int8(-128)", "uint(3)", "p.Num(9)"), 4}
+	}
+	side := func() made { return g.constant(depth - 1 - g.Intn(2)) }
+	binds := map[string]int{"||": 1, "&&": 2, "==": 3, "!=": 3, "<": 3, "<=": 3, ">": 3, ">=": 3, "+": 4, "-": 4, "|": 4, "^": 4, "*": 5, "/": 5, "%": 5, "&": 5, "&^": 5, "<<": 5, ">>": 5}
+	switch g.Intn(6) {
+	case 0:
+		return made{g.one("-", "+", "^", "!") + side().within(6), 6}
+	case 1:
+		t := g.some(func(t types.Type) bool { return isKind(t, types.IsConstType) })
+		return made{operand(t) + "(" + side().text + ")", 7}
+	case 2:
+		return made{g.one("len", "") + "(" + side().text + ")", 7}
+	}
+	op := operators[g.Intn(len(operators))]
+	if g.chance(60) {
+		op = g.one("+", "-", "*", "/", "%", "<<", ">>", "==", "<")
+	}
+	return made{side().within(binds[op]) + " " + op + " " + side().within(binds[op]+1), binds[op]}
+}
+
+// alone is a call that is no value by itself: one of a builtin function, or one with no result or several.
+func (g *generator) alone(depth int) string {
+	is := func(kind func(types.Type) bool) types.Type { return g.some(kind) }
+	switch g.Intn(6) {
+	case 0:
+		return "close(" + g.expr(is(func(t types.Type) bool { _, is := t.Underlying().(*types.Chan); return is }), depth).text + ")"
+	case 1:
+		t := is(func(t types.Type) bool { _, is := t.Underlying().(*types.Map); return is })
+		if u, is := t.Underlying().(*types.Map); is {
+			return "delete(" + g.expr(t, depth).text + ", " + g.expr(u.Key(), depth).text + ")"
+		}
+	case 2:
+		return g.one("panic", "print", "println") + "(" + g.expr(g.any(), depth).text + ")"
+	case 3:
+		return g.one("print", "println", "append", "copy", "new", "recover", "make", "cap") + "(" + g.expr(g.any(), depth).text + ", " + g.expr(g.any(), depth).text + ")"
+	}
+	var calls []known
+	for _, one := range g.known {
+		if call, is := one.object.Type().(*types.Signature); is && call.Results().Len() != 1 {
+			calls = append(calls, one)
+		}
+	}
+	one := calls[g.Intn(len(calls))]
+	text := one.name + g.arguments(one.object.Type().(*types.Signature), depth)
+	if g.chance(50) {
+		return g.known[g.Intn(len(g.known))].name + "(" + text + g.one("", "", "...") + ")"
+	}
+	return text
+}
+
 // next is the next expression.
 func (g *generator) next(depth int) string {
 	g.spoils, g.depth = g.chance(40), depth
-	text := g.expr(g.any(), depth-g.Intn(3)*g.Intn(2)).text
+	text := ""
+	switch draw := g.Intn(100); {
+	case draw < 12:
+		text = g.constant(depth).text
+	case draw < 18:
+		text = g.alone(depth - 1)
+	default:
+		text = g.expr(g.any(), depth-g.Intn(3)*g.Intn(2)).text
+	}
 	if g.spoils && g.chance(60) {
 		text = g.spoiled(text)
 	}

@@ -225,18 +225,18 @@ fn asked(
 
 fn place<'w>(alloc: Global, world: &'w World, words: &str) -> Result<Place<'w>, Refusal> {
     let (path, rest) = split(words)?;
-    let (bits, profile) = match rest {
-        "32 plain" => (32u32, false),
-        "64 plain" => (64u32, false),
-        "32 profile" => (32u32, true),
-        "64 profile" => (64u32, true),
+    let (wide, profile) = match rest {
+        "32 plain" => (false, false),
+        "64 plain" => (true, false),
+        "32 profile" => (false, true),
+        "64 profile" => (true, true),
         _ => return Err(Refusal::WrongLine),
     };
     Ok(Place::of(
         alloc,
         world,
         Text::of(alloc, path.as_bytes())?,
-        bits,
+        wide,
         profile,
     ))
 }

@@ -26,10 +26,16 @@ impl<'w> Place<'w> {
         })
     }
 
-    /// The package of a path, of which nothing is known.
-    pub fn of(alloc: Global, world: &'w World, path: Text, bits: u32, profile: bool) -> Place<'w> {
+    /// The package of a path, of which nothing is known, where `int` has 64 bits or 32.
+    pub fn of(alloc: Global, world: &'w World, path: Text, wide: bool, profile: bool) -> Place<'w> {
+        if wide {
+            return Place {
+                env: Env::new(alloc, world, path, 64, profile),
+                depth: 0,
+            };
+        }
         Place {
-            env: Env::new(alloc, world, path, bits, profile),
+            env: Env::new(alloc, world, path, 32, profile),
             depth: 0,
         }
     }
