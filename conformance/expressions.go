@@ -208,7 +208,10 @@ const (
 )
 
 func isPast(v constant.Value) bool {
-	if v == nil || v.Kind() != constant.Int {
+	if v == nil || v.Kind() == constant.Bool || v.Kind() == constant.String {
+		return false
+	}
+	if v = constant.ToInt(v); v.Kind() != constant.Int {
 		return false
 	}
 	limit := constant.Shift(constant.MakeInt64(1), token.SHL, 127)
@@ -307,7 +310,8 @@ func isWritten(node ast.Node) bool {
 	case *ast.UnaryExpr:
 		return !receives(node.X)
 	case *ast.SelectorExpr:
-		return !receives(node.X)
+		_, is := node.X.(*ast.ChanType)
+		return !is
 	case *ast.IndexListExpr:
 		return false
 	}
@@ -323,6 +327,9 @@ func classes(one *asked, info *types.Info, left []string) string {
 			}
 		}
 		found = append(found, class)
+	}
+	if channel, is := one.tree.(*ast.ChanType); is && channel.Dir == ast.RECV {
+		add(unwritten)
 	}
 	ast.Inspect(one.tree, func(node ast.Node) bool {
 		if class := ofNode(node, info); class != "" {
