@@ -1,12 +1,8 @@
 //! The answer to a line.
-use crate::read::{Refusal, Stack, sel, type_name};
-use crate::show::{push_name, push_number, push_set, push_signature, push_term};
 use crate::table::Table;
 use go_base::boxed::Box;
-use go_base::text::Text;
 use go_model::types::found::{FieldFound, Found, MethodFound};
 use go_model::types::names::TypeName;
-use go_model::types::package::Defined;
 use go_model::types::term::Term;
 use go_selectors::identity::identical;
 use go_selectors::method_sets::method_set_in;
@@ -16,20 +12,10 @@ use go_types::comparison::comparable_in;
 use go_types::conversions::convertible_in;
 use go_types::implementing::implements_in;
 use std::alloc::Global;
-
-fn split(text: &str) -> Result<(&str, &str), Refusal> {
-    match text.split_once(' ') {
-        Some(parts) => Ok(parts),
-        None => Err(Refusal::WrongLine),
-    }
-}
-
-fn one(alloc: Global, stack: &mut Stack, text: &str) -> Result<Box<Term>, Refusal> {
-    stack.read_all(alloc, text)?;
-    let term = stack.boxed(alloc)?;
-    stack.end()?;
-    Ok(term)
-}
+use worlds::objects::defined;
+use worlds::read::{Stack, sel, split, type_name};
+use worlds::refusal::Refusal;
+use worlds::show::{push_name, push_number, push_set, push_signature, push_term};
 
 fn two(alloc: Global, stack: &mut Stack, text: &str) -> Result<(Box<Term>, Box<Term>), Refusal> {
     stack.read_all(alloc, text)?;
@@ -101,7 +87,7 @@ fn find_answer(
     text: &str,
 ) -> Result<Vec<u8>, Refusal> {
     let (word, rest) = split(text)?;
-    let term = one(alloc, stack, rest)?;
+    let term = stack.one(alloc, rest)?;
     let answer = search(alloc, table, term.value(), word)?;
     found(alloc, &answer)
 }
@@ -112,7 +98,7 @@ fn set_answer(
     stack: &mut Stack,
     text: &str,
 ) -> Result<Vec<u8>, Refusal> {
-    let term = one(alloc, stack, text)?;
+    let term = stack.one(alloc, text)?;
     let methods = method_set_in(alloc, table, term.value())?;
     let mut out = Vec::new(alloc);
     push_set(alloc, &mut out, methods.items())?;
@@ -125,7 +111,7 @@ fn comparable_answer(
     stack: &mut Stack,
     text: &str,
 ) -> Result<Vec<u8>, Refusal> {
-    let term = one(alloc, stack, text)?;
+    let term = stack.one(alloc, text)?;
     let answer = comparable_in(alloc, table, term.value())?;
     truth(alloc, answer)
 }
@@ -185,20 +171,12 @@ fn add_type(
     text: &str,
 ) -> Result<(), Refusal> {
     let (word, rest) = split(text)?;
-    let name = type_name(alloc, word)?;
-    stack.read_all(alloc, rest)?;
-    let underlying = stack.boxed(alloc)?;
-    if let Term::Named(_) = underlying.value() {
-        return Err(Refusal::WrongLine);
-    }
-    let methods = stack.declared(alloc)?;
-    stack.end()?;
-    let defined = Defined {
-        name: Text::of(alloc, name.name.bytes())?,
-        underlying: underlying.into_value(),
-        methods,
+    let (_, name) = match word.rsplit_once('.') {
+        Some(parts) => parts,
+        None => return Err(Refusal::WrongLine),
     };
-    table.add(name, defined)
+    let defined = defined(alloc, stack, name, rest)?;
+    table.add(type_name(alloc, word)?, defined)
 }
 
 fn told(

@@ -8,12 +8,7 @@
 //! assignable plain|profile TERM TERM                     convertible plain|profile TERM TERM
 //! ```
 //!
-//! A term is in prefix notation: a basic type, `error`, NAME, `pointer T`, `slice T`, `array:LENGTH T`,
-//! `map KEY T`, `chan T`, `send T`, `receive T`, `func:PARAMETERS:RESULTS T..`, `variadic:PARAMETERS:RESULTS T..`,
-//! `struct:FIELDS` and so many of `field:SELECTOR:TAG T` or `embedded:SELECTOR:TAG T`, `interface:METHODS` and
-//! so many of `method:SELECTOR T`, where T is a function. A NAME is a path, a dot and a name. A SELECTOR
-//! is a name, after a path and a dot where it isn't exported. A TAG is hexadecimal. Methods stand in
-//! the order of their selectors, and single blanks part words.
+//! Terms, a NAME and a SELECTOR are as the library `worlds` reads them.
 //!
 //! Answers are `true` and `false`; `nothing`, `ambiguous`, `field DEPTH direct|through TERM` and
 //! `method DEPTH direct|through on-value|on-pointer OWNER TERM`, where OWNER is a NAME or `interface`; the
@@ -22,17 +17,15 @@
 #![tactic(auto)]
 
 mod answer;
-mod basic;
-mod read;
-mod show;
 mod table;
 
 use crate::answer::answer;
-use crate::read::{Refusal, Stack};
 use crate::table::Table;
 use std::io;
 use std::io::{BufRead, BufReader, BufWriter, ErrorKind, Write};
 use std::process::ExitCode;
+use worlds::read::Stack;
+use worlds::refusal::Refusal;
 
 // Answers all lines, or gives the number of the first wrong one.
 fn run(rt: &HostRuntime) -> anyhow::Result<Option<u64>> {

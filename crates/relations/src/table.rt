@@ -1,13 +1,13 @@
 //! The defined types that were read.
 ghost use Rattle.relations.specs.Entries.{held};
 
-use crate::read::Refusal;
 use go_base::text::Text;
 use go_model::types::names::TypeName;
 use go_model::types::package::Defined;
 use go_model::types::table::TypeTable;
 use indexmap::IndexMap;
 use std::alloc::Global;
+use worlds::refusal::Refusal;
 
 /// Defined types by path and name.
 #[derive(Drop)]

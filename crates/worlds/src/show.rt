@@ -5,7 +5,8 @@ use go_model::types::names::{Sel, TypeName};
 use go_model::types::term::{Direction, Field, Method, Signature, Term};
 use std::alloc::{AllocError, Global};
 
-fn push(out: &mut Vec<u8>, word: &str) -> Result<(), AllocError> {
+/// Writes a word.
+pub fn push(out: &mut Vec<u8>, word: &str) -> Result<(), AllocError> {
     out.extend_from_slice(word.as_bytes())
 }
 
@@ -105,8 +106,9 @@ pub fn push_signature(
     push_terms(alloc, out, signature.results.items())
 }
 
+/// Writes terms, with a blank before each.
 #[cycle(show)]
-fn push_terms(alloc: Global, out: &mut Vec<u8>, terms: &[Term]) -> Result<(), AllocError> {
+pub fn push_terms(alloc: Global, out: &mut Vec<u8>, terms: &[Term]) -> Result<(), AllocError> {
     for term in terms {
         push(out, " ")?;
         push_term(alloc, out, term)?;

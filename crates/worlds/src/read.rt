@@ -1,39 +1,14 @@
 //! Terms in prefix notation, read from the last word to the first.
 use crate::basic::basic;
+use crate::refusal::Refusal;
 use go_base::boxed::Box;
 use go_base::list::List;
-use go_base::memory::NoMemory;
 use go_base::text::Text;
 use go_model::types::names::{Sel, TypeName};
 use go_model::types::package::MethodOf;
 use go_model::types::term::{Direction, Field, Method, Signature, Term};
 use hex::FromHexError;
-use std::alloc::{AllocError, AllocFailed, Global};
-
-/// Why a line has no answer.
-#[derive(Debug, Drop)]
-pub enum Refusal {
-    WrongLine,
-    NoMemory,
-}
-
-impl From<NoMemory> for Refusal {
-    fn from(_: NoMemory) -> Refusal {
-        Refusal::NoMemory
-    }
-}
-
-impl From<AllocError> for Refusal {
-    fn from(_: AllocError) -> Refusal {
-        Refusal::NoMemory
-    }
-}
-
-impl<T: Drop> From<AllocFailed<T>> for Refusal {
-    fn from(_: AllocFailed<T>) -> Refusal {
-        Refusal::NoMemory
-    }
-}
+use std::alloc::Global;
 
 fn number(digits: &str) -> Result<u64, Refusal> {
     match digits.parse::<u64>() {
@@ -42,7 +17,16 @@ fn number(digits: &str) -> Result<u64, Refusal> {
     }
 }
 
-fn text(alloc: Global, word: &str) -> Result<Text, Refusal> {
+/// The parts of a line before and after its first blank.
+pub fn split(words: &str) -> Result<(&str, &str), Refusal> {
+    match words.split_once(' ') {
+        Some(parts) => Ok(parts),
+        None => Err(Refusal::WrongLine),
+    }
+}
+
+/// The text that a word is.
+pub fn text(alloc: Global, word: &str) -> Result<Text, Refusal> {
     Ok(Text::of(alloc, word.as_bytes())?)
 }
 
@@ -77,7 +61,8 @@ fn error_name(alloc: Global) -> Result<TypeName, Refusal> {
     })
 }
 
-fn tag(alloc: Global, digits: &str) -> Result<Text, Refusal> {
+/// The bytes with these hexadecimal digits.
+pub fn bytes(alloc: Global, digits: &str) -> Result<Text, Refusal> {
     match hex::decode(alloc, digits) {
         Ok(bytes) => Ok(Text::from_vec(bytes)),
         Err(FromHexError::OutOfMemory) => Err(Refusal::NoMemory),
@@ -142,6 +127,14 @@ impl Stack {
         Ok(Box::new(alloc, term)?)
     }
 
+    /// The one term that the words of a text are, on the heap.
+    pub fn one(&mut self, alloc: Global, words: &str) -> Result<Box<Term>, Refusal> {
+        self.read_all(alloc, words)?;
+        let term = self.boxed(alloc)?;
+        self.end()?;
+        Ok(term)
+    }
+
     /// The declared methods.
     pub fn declared(&mut self, alloc: Global) -> Result<List<MethodOf>, Refusal> {
         let count = self.declared.len() as u64;
@@ -193,7 +186,7 @@ impl Stack {
             None => return Err(Refusal::WrongLine),
         };
         let sel = sel(alloc, selector)?;
-        let tag = tag(alloc, digits)?;
+        let tag = bytes(alloc, digits)?;
         let term = self.term()?;
         self.fields.push(Field {
             sel,

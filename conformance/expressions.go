@@ -1,0 +1,669 @@
+// Asks Go's type checker what expressions are. It reads as JSON sources of packages, the last of which is the client's,
+// and a seed, and makes expressions that stand where the client has the statement `here`. It prints lines with a word and
+// a tab before: `world`, the packages before the client; `place`, the number of a place and what is known there; and for
+// each expression `ask`, its place, the answers on 64 bits, on 32 bits and on 64 bits in a client of the profile, and the
+// classes of differences of each, with semicolons between, then Go's errors and the expression, all parted by tabs.
+package main
+
+import (
+	"bufio"
+	"encoding/hex"
+	"encoding/json"
+	"fmt"
+	"go/ast"
+	"go/constant"
+	"go/parser"
+	"go/token"
+	"go/types"
+	"math/rand"
+	"os"
+	"strconv"
+	"strings"
+)
+
+const clientPath = "-client"
+
+type input struct {
+	Packages []struct{ Path, Source string }
+	Seed     int64
+	Count    int
+	Depth    int
+	Texts    []struct {
+		Place int
+		Text  string
+	}
+}
+
+// place is where expressions stand: the block that has them, and the value of iota there, or -1.
+type place struct {
+	block *ast.BlockStmt
+	own   int
+	iota  int
+	known []known
+}
+
+// asked is an expression, with what each word size says of it, and whether a client of the profile hasn't one of its steps.
+type asked struct {
+	place   int
+	text    string
+	tree    ast.Expr
+	errors  []string
+	answers []string
+	classes []string
+	barred  bool
+}
+
+var (
+	out   = bufio.NewWriter(os.Stdout)
+	files = token.NewFileSet()
+)
+
+func fail(err error) {
+	if err != nil {
+		panic(err)
+	}
+}
+
+// entity is the line of an object.
+func entity(word string, object types.Object) string {
+	name := object.Name()
+	switch object := object.(type) {
+	case *types.Const:
+		return word + "const " + name + " " + value(object.Val()) + " " + constantOf(object.Type())
+	case *types.Var:
+		return map[string]string{"": "var ", "local-": "local "}[word] + name + " " + term(object.Type())
+	case *types.Func:
+		return "func " + name + " " + term(object.Type())
+	case *types.TypeName:
+		if object.IsAlias() {
+			return "alias " + name + " " + term(object.Type())
+		}
+		return strings.Replace(definition(object.Type().(*types.Named)), object.Pkg().Path()+"."+name, name, 1)
+	}
+	panic(name)
+}
+
+func value(v constant.Value) string {
+	switch v.Kind() {
+	case constant.Bool:
+		return strconv.FormatBool(constant.BoolVal(v))
+	case constant.String:
+		return "text:" + hex.EncodeToString([]byte(constant.StringVal(v)))
+	}
+	return constant.ToInt(v).ExactString()
+}
+
+func constantOf(t types.Type) string {
+	if basic, is := t.(*types.Basic); is && basic.Info()&types.IsUntyped != 0 {
+		return "untyped-" + strings.TrimPrefix(basic.Name(), "untyped ")
+	}
+	return term(t)
+}
+
+func unparen(tree ast.Expr) ast.Expr {
+	if within, is := tree.(*ast.ParenExpr); is {
+		return unparen(within.X)
+	}
+	return tree
+}
+
+// answer is what the checker has noted of an expression, or untyped.
+func answer(tree ast.Expr, info *types.Info) string {
+	noted, is := info.Types[tree]
+	if !is || noted.Type == types.Typ[types.Invalid] && !noted.IsBuiltin() {
+		return "untyped"
+	}
+	switch {
+	case noted.IsVoid():
+		return "no-value"
+	case noted.IsBuiltin():
+		name := unparen(tree).(*ast.Ident).Name
+		return "builtin " + strings.ToUpper(name[:1]) + name[1:]
+	case noted.IsType():
+		return "type " + term(noted.Type)
+	case noted.IsNil():
+		return "nil"
+	case noted.Value != nil:
+		if basic, is := noted.Type.Underlying().(*types.Basic); is && basic.Info()&(types.IsFloat|types.IsComplex) != 0 {
+			if basic.Info()&types.IsUntyped != 0 {
+				return "untyped"
+			}
+			return "value " + term(noted.Type)
+		}
+		return "constant " + constantOf(noted.Type) + " " + value(noted.Value)
+	}
+	if tuple, is := noted.Type.(*types.Tuple); is {
+		text := "tuple"
+		for i := 0; i < tuple.Len(); i++ {
+			text += " " + term(tuple.At(i).Type())
+		}
+		return text
+	}
+	word := "value "
+	if noted.Addressable() {
+		word = "variable "
+	} else if noted.Assignable() {
+		word = "map-element "
+	}
+	return word + constantOf(noted.Type)
+}
+
+// usage is what the checker says of a statement that is an expression and not a call.
+func usage(tree ast.Expr, info *types.Info) string {
+	noted := info.Types[tree]
+	switch {
+	case noted.IsBuiltin():
+		return " must be called"
+	case noted.IsType():
+		return " is not an expression"
+	}
+	return " is not used"
+}
+
+// faults are the errors of an expression but for its use as a statement.
+func faults(one *asked, info *types.Info) []string {
+	word := usage(one.tree, info)
+	for i := len(one.errors) - 1; i >= 0; i-- {
+		if strings.HasSuffix(one.errors[i], word) {
+			return append(append([]string{}, one.errors[:i]...), one.errors[i+1:]...)
+		}
+	}
+	return one.errors
+}
+
+// ofUntyped says whether an expression is by its form an untyped constant.
+func ofUntyped(tree ast.Expr, info *types.Info) bool {
+	switch tree := tree.(type) {
+	case *ast.BasicLit:
+		return true
+	case *ast.ParenExpr:
+		return ofUntyped(tree.X, info)
+	case *ast.UnaryExpr:
+		return ofUntyped(tree.X, info)
+	case *ast.BinaryExpr:
+		return ofUntyped(tree.X, info) && (tree.Op == token.SHL || tree.Op == token.SHR || ofUntyped(tree.Y, info))
+	case *ast.SelectorExpr:
+		return ofUntyped(tree.Sel, info)
+	case *ast.Ident:
+		object, is := info.Uses[tree].(*types.Const)
+		if !is {
+			return false
+		}
+		basic, is := object.Type().(*types.Basic)
+		return is && basic.Info()&types.IsUntyped != 0
+	}
+	return false
+}
+
+const (
+	past      = "a constant past 128 bits"
+	inexact   = "a constant of a float or complex type"
+	shifted   = "an untyped constant shifted by what is no constant"
+	twice     = "a constant key that stands twice"
+	unwritten = "a grammar that differs"
+	besides   = "what a type form is asked besides"
+	far       = "a shift by more than 1,074"
+	spread    = "the results of a call as the arguments of a builtin function"
+	failing   = "an expression over which Go's checker itself fails"
+)
+
+func isPast(v constant.Value) bool {
+	if v == nil || v.Kind() == constant.Bool || v.Kind() == constant.String {
+		return false
+	}
+	if v = constant.ToInt(v); v.Kind() != constant.Int {
+		return false
+	}
+	limit := constant.Shift(constant.MakeInt64(1), token.SHL, 127)
+	return constant.Compare(v, token.GEQ, limit) || constant.Compare(v, token.LSS, constant.UnaryOp(token.SUB, limit, 0))
+}
+
+func isInexact(t types.Type) bool {
+	if t == nil {
+		return false
+	}
+	basic, is := t.Underlying().(*types.Basic)
+	return is && basic.Info()&(types.IsFloat|types.IsComplex) != 0
+}
+
+// ofNode is the class of difference that a node of an expression is of.
+func ofNode(node ast.Node, info *types.Info) string {
+	tree, is := node.(ast.Expr)
+	if !is {
+		return ""
+	}
+	noted := info.Types[tree]
+	switch tree := tree.(type) {
+	case *ast.BasicLit:
+		if tree.Kind == token.FLOAT || tree.Kind == token.IMAG {
+			return inexact
+		}
+	case *ast.CallExpr:
+		if called := info.Types[tree.Fun]; called.IsType() && len(tree.Args) == 1 {
+			if isInexact(called.Type) && info.Types[tree.Args[0]].Value != nil {
+				return inexact
+			}
+			from := info.Types[tree.Args[0]].Type
+			pointer, points := called.Type.Underlying().(*types.Pointer)
+			if from != nil && points {
+				_, slices := from.Underlying().(*types.Slice)
+				_, arrays := pointer.Elem().Underlying().(*types.Array)
+				if slices && arrays {
+					return array
+				}
+			}
+		}
+		if len(tree.Args) == 1 && info.Types[tree.Fun].IsBuiltin() {
+			if _, is := info.Types[tree.Args[0]].Type.(*types.Tuple); is {
+				return spread
+			}
+		}
+	case *ast.BinaryExpr:
+		if tree.Op != token.SHL && tree.Op != token.SHR {
+			break
+		}
+		count := info.Types[tree.Y].Value
+		if count == nil && ofUntyped(tree.X, info) {
+			return shifted
+		}
+		if count != nil && count.Kind() == constant.Int && constant.Compare(count, token.GTR, constant.MakeInt64(1074)) {
+			return far
+		}
+	}
+	if lit, is := tree.(*ast.BasicLit); is && lit.Kind == token.INT && isPast(constant.MakeFromLiteral(lit.Value, token.INT, 0)) || isPast(noted.Value) {
+		return past
+	}
+	return ""
+}
+
+// isWritten says whether the grammar of this gate has a type's name, or a receiving channel's type, where it stands.
+func isWritten(node ast.Node) bool {
+	long := func(tree ast.Expr) bool {
+		selector, is := tree.(*ast.SelectorExpr)
+		if !is {
+			return false
+		}
+		_, is = selector.X.(*ast.Ident)
+		return !is
+	}
+	receives := func(tree ast.Expr) bool {
+		channel, is := tree.(*ast.ChanType)
+		return is && channel.Dir == ast.RECV
+	}
+	switch node := node.(type) {
+	case *ast.CompositeLit:
+		return !long(node.Type)
+	case *ast.ArrayType:
+		return !long(node.Elt)
+	case *ast.MapType:
+		return !long(node.Key) && !long(node.Value)
+	case *ast.ChanType:
+		return !long(node.Value)
+	case *ast.Field:
+		return !long(node.Type)
+	case *ast.Ellipsis:
+		return !long(node.Elt)
+	case *ast.TypeAssertExpr:
+		return !long(node.Type)
+	case *ast.StarExpr:
+		return !receives(node.X)
+	case *ast.UnaryExpr:
+		return !receives(node.X)
+	case *ast.SelectorExpr:
+		_, is := node.X.(*ast.ChanType)
+		return !is
+	case *ast.IndexListExpr:
+		return false
+	}
+	return true
+}
+
+func classes(one *asked, info *types.Info, left []string) string {
+	var found []string
+	add := func(class string) {
+		for _, known := range found {
+			if known == class {
+				return
+			}
+		}
+		found = append(found, class)
+	}
+	if channel, is := one.tree.(*ast.ChanType); is && channel.Dir == ast.RECV {
+		add(unwritten)
+	}
+	ast.Inspect(one.tree, func(node ast.Node) bool {
+		if class := ofNode(node, info); class != "" {
+			add(class)
+		}
+		if !isWritten(node) {
+			add(unwritten)
+		}
+		return true
+	})
+	for class, words := range map[string][]string{
+		twice:   {"duplicate key", "duplicate index"},
+		besides: {"invalid map key type", "redeclared", "duplicate method", "embedded field type", "invalid recursive type", "other declaration"},
+	} {
+		all := len(left) > 0
+		for _, fault := range left {
+			any := false
+			for _, word := range words {
+				any = any || strings.Contains(fault, word)
+			}
+			all = all && any
+		}
+		if all {
+			add(class)
+		}
+	}
+	return strings.Join(found, ";")
+}
+
+func isHere(statement ast.Stmt) bool {
+	alone, is := statement.(*ast.ExprStmt)
+	if !is {
+		return false
+	}
+	name, is := alone.X.(*ast.Ident)
+	return is && name.Name == "here"
+}
+
+// places are where the client has the statement here, which is taken out.
+func places(client *ast.File) []*place {
+	var found []*place
+	for _, declaration := range client.Decls {
+		number := -1
+		if group, is := declaration.(*ast.GenDecl); is && group.Tok == token.CONST {
+			number = 0
+		}
+		ast.Inspect(declaration, func(node ast.Node) bool {
+			if _, is := node.(*ast.ValueSpec); is && number >= 0 {
+				number++
+			}
+			block, is := node.(*ast.BlockStmt)
+			if is && len(block.List) > 0 && isHere(block.List[len(block.List)-1]) {
+				block.List = block.List[:len(block.List)-1]
+				found = append(found, &place{block: block, own: len(block.List), iota: number - 1})
+			}
+			return true
+		})
+	}
+	for _, one := range found {
+		if one.iota < -1 {
+			one.iota = -1
+		}
+	}
+	return found
+}
+
+// checked types all packages, and hands each error of an expression to it.
+func checked(trees []*ast.File, paths []string, bits int64, all []*asked) (packages, *types.Info) {
+	known := packages{}
+	info := &types.Info{Types: map[ast.Expr]types.TypeAndValue{}, Uses: map[*ast.Ident]types.Object{}, Scopes: map[ast.Node]*types.Scope{}}
+	for i, tree := range trees {
+		config := types.Config{
+			Importer: known,
+			Sizes:    &types.StdSizes{WordSize: bits / 8, MaxAlign: bits / 8},
+			Error: func(err error) {
+				one := err.(types.Error)
+				name := files.Position(one.Pos).Filename
+				if !strings.HasPrefix(name, "expression ") {
+					if !one.Soft && !strings.Contains(one.Msg, "is not used") && !strings.Contains(one.Msg, "not constant") {
+						panic(err)
+					}
+					return
+				}
+				number, err := strconv.Atoi(name[len("expression "):])
+				fail(err)
+				all[number].errors = append(all[number].errors, strings.Join(strings.Fields(one.Msg), " "))
+			},
+		}
+		pack, _ := config.Check(paths[i], files, []*ast.File{tree}, info)
+		known[paths[i]] = pack
+	}
+	return known, info
+}
+
+// scopes are those around a block inside of the package's, the innermost first.
+func scopes(block *ast.BlockStmt, pack *types.Package, info *types.Info) []*types.Scope {
+	var found []*types.Scope
+	var within func(scope *types.Scope) bool
+	within = func(scope *types.Scope) bool {
+		for i := 0; i < scope.NumChildren(); i++ {
+			if within(scope.Child(i)) {
+				found = append(found, scope.Child(i))
+				return true
+			}
+		}
+		return scope == info.Scopes[block]
+	}
+	file := pack.Scope().Child(0)
+	within(file)
+	if inner := info.Scopes[block]; inner == nil {
+		// the block of a function has the scope of the function's type, which the position tells
+		inner = file.Innermost(block.Rbrace)
+		for scope := inner; scope != nil && scope != file; scope = scope.Parent() {
+			found = append(found, scope)
+		}
+	}
+	return found
+}
+
+// tell prints what is known at a place.
+func tell(number int, one *place, client *types.Package, info *types.Info) {
+	line := func(text string) { fmt.Fprintf(out, "place\t%d\t%s\n", number, text) }
+	for _, imported := range client.Imports() {
+		line("import 0 " + imported.Name() + " " + imported.Path())
+	}
+	for _, name := range client.Scope().Names() {
+		if name != "_" {
+			line(entity("", client.Scope().Lookup(name)))
+		}
+	}
+	if one.iota >= 0 {
+		line("iota " + strconv.Itoa(one.iota))
+	}
+	around := scopes(one.block, client, info)
+	for i := len(around) - 1; i >= 0; i-- {
+		if around[i].Len() == 0 {
+			continue
+		}
+		line("open")
+		for _, name := range around[i].Names() {
+			line(entity("local-", around[i].Lookup(name)))
+		}
+	}
+}
+
+// visible are the names that expressions at a place may have.
+func visible(one *place, client *types.Package, info *types.Info) []known {
+	var all []known
+	for _, imported := range client.Imports() {
+		all = append(all, exported(imported)...)
+	}
+	around := append(scopes(one.block, client, info), client.Scope())
+	seen := map[string]bool{}
+	for _, scope := range around {
+		for _, name := range scope.Names() {
+			if !seen[name] && name != "_" && !strings.HasPrefix(name, "place") {
+				all = append(all, known{name, scope.Lookup(name)})
+			}
+			seen[name] = true
+		}
+	}
+	return all
+}
+
+// newGenerator knows the types of all packages, those of their objects, and some more.
+func newGenerator(seed int64, all packages, client *types.Package) *generator {
+	g := &generator{Rand: rand.New(rand.NewSource(seed)), reached: map[string][]reach{}}
+	pool := map[string]bool{}
+	selectors := map[string]bool{}
+	note := func(t types.Type) {
+		if t == nil || pool[written(t)] {
+			return
+		}
+		if basic, is := t.(*types.Basic); is && basic.Info()&types.IsUntyped != 0 {
+			return
+		}
+		pool[written(t)] = true
+		g.pool = append(g.pool, t)
+	}
+	select_ := func(name string) {
+		if !selectors[name] {
+			selectors[name] = true
+			g.selectors = append(g.selectors, name)
+		}
+	}
+	for _, pack := range append(client.Imports(), client) {
+		for _, name := range pack.Scope().Names() {
+			object := pack.Scope().Lookup(name)
+			if pack == client || object.Exported() {
+				note(object.Type())
+			}
+			if named, is := object.Type().(*types.Named); is {
+				for i := 0; i < named.NumMethods(); i++ {
+					select_(named.Method(i).Name())
+				}
+			}
+			if fields, is := object.Type().Underlying().(*types.Struct); is {
+				for i := 0; i < fields.NumFields(); i++ {
+					select_(fields.Field(i).Name())
+				}
+			}
+			if methods, is := object.Type().Underlying().(*types.Interface); is {
+				for i := 0; i < methods.NumMethods(); i++ {
+					select_(methods.Method(i).Name())
+				}
+			}
+		}
+	}
+	for _, basic := range types.Typ {
+		if basic.Info()&types.IsConstType != 0 {
+			note(basic)
+		}
+	}
+	note(types.Universe.Lookup("error").Type())
+	for _, t := range append([]types.Type{}, g.pool...) {
+		if named, is := t.(*types.Named); is && !types.IsInterface(named) {
+			note(types.NewPointer(named))
+		}
+	}
+	for _, t := range g.pool {
+		g.add(t, client)
+	}
+	return g
+}
+
+// answerSome asks the checker of some questions together. Where that fails by itself, it asks each half of them.
+func answerSome(trees []*ast.File, paths []string, bits int64, where []*place, all []*asked, from, to int) {
+	some := all[from:to]
+	for _, one := range where {
+		one.block.List = one.block.List[:one.own]
+	}
+	for _, one := range some {
+		one.errors = nil
+		if one.tree != nil {
+			block := where[one.place].block
+			block.List = append(block.List, &ast.ExprStmt{X: one.tree})
+		}
+	}
+	info, told := tried(trees, paths, bits, all)
+	if told && len(some) == 1 {
+		some[0].answers, some[0].classes = append(some[0].answers, "untyped"), append(some[0].classes, failing)
+		return
+	}
+	if told {
+		middle := from + (to-from)/2
+		answerSome(trees, paths, bits, where, all, from, middle)
+		answerSome(trees, paths, bits, where, all, middle, to)
+		return
+	}
+	for _, one := range some {
+		if one.tree == nil {
+			one.answers, one.classes = append(one.answers, "no expression"), append(one.classes, unwritten)
+			continue
+		}
+		left, told := faults(one, info), "untyped"
+		if len(left) == 0 {
+			told = answer(one.tree, info)
+		}
+		one.answers, one.classes = append(one.answers, told), append(one.classes, classes(one, info, left))
+		one.errors = left
+		if len(left) == 0 {
+			one.barred = isBarred(one.tree, info)
+		}
+	}
+}
+
+// tried is what the checker notes, and whether it failed by itself.
+func tried(trees []*ast.File, paths []string, bits int64, all []*asked) (info *types.Info, failed bool) {
+	defer func() {
+		if fault := recover(); fault != nil {
+			failed = true
+		}
+	}()
+	_, info = checked(trees, paths, bits, all)
+	return info, false
+}
+
+func main() {
+	var given input
+	fail(json.NewDecoder(os.Stdin).Decode(&given))
+	var trees []*ast.File
+	var paths []string
+	for _, one := range given.Packages {
+		tree, err := parser.ParseFile(files, one.Path, one.Source, 0)
+		fail(err)
+		trees, paths = append(trees, tree), append(paths, one.Path)
+	}
+	where := places(trees[len(trees)-1])
+	all, info := checked(trees, paths, 64, nil)
+	client := all[clientPath]
+	for _, path := range paths[:len(paths)-1] {
+		pack := all[path]
+		fmt.Fprintf(out, "world\tpackage %s %s\n", path, pack.Name())
+		for _, name := range pack.Scope().Names() {
+			fmt.Fprintf(out, "world\t%s\n", entity("", pack.Scope().Lookup(name)))
+		}
+		fmt.Fprintf(out, "world\tend\n")
+	}
+	for i, one := range where {
+		tell(i, one, client, info)
+		one.known = visible(one, client, info)
+	}
+	g := newGenerator(given.Seed, all, client)
+	var questions []*asked
+	for _, one := range given.Texts {
+		questions = append(questions, &asked{place: one.Place, text: one.Text})
+	}
+	for len(questions) < given.Count {
+		number := g.Intn(len(where))
+		g.known = where[number].known
+		questions = append(questions, &asked{place: number, text: g.next(given.Depth)})
+	}
+	for i, one := range questions {
+		tree, err := parser.ParseExprFrom(files, "expression "+strconv.Itoa(i), one.text, 0)
+		if err == nil {
+			one.tree = tree
+		}
+	}
+	for _, bits := range []int64{64, 32} {
+		for at := 0; at < len(questions); at += 2000 {
+			end := at + 2000
+			if end > len(questions) {
+				end = len(questions)
+			}
+			answerSome(trees, paths, bits, where, questions, at, end)
+		}
+	}
+	for _, one := range questions {
+		in := one.answers[0]
+		if one.barred {
+			in = "untyped"
+		}
+		words := []string{"ask", strconv.Itoa(one.place), one.answers[0], one.answers[1], in, one.classes[0], one.classes[1], one.classes[0], strings.Join(one.errors, "; "), one.text}
+		fmt.Fprintln(out, strings.Join(words, "\t"))
+	}
+	out.Flush()
+}

@@ -1,0 +1,6 @@
+mod Admitted
+mod KeptTypes
+mod Lists
+mod Orders
+mod Paths
+mod Shapes
