@@ -1,0 +1,4 @@
+pub mod MethodsOf
+pub mod Names
+pub mod Told
+pub mod Values

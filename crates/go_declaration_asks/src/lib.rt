@@ -1,0 +1,10 @@
+//! What the declarations of a package are asked besides what they are given.
+#![tactic(auto)]
+
+pub mod asks;
+pub mod base;
+mod forms;
+mod methods;
+mod nodes;
+mod reserved;
+mod values;
