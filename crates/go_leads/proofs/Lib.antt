@@ -1,0 +1,4 @@
+pub mod GrownKeys
+pub mod KeyLists
+pub mod TreeKeys
+pub mod Walks

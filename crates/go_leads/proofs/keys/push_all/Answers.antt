@@ -1,0 +1,22 @@
+use Rattle.go_leads.specs.Listed.{names_of}
+use Rattle.go_leads.specs.inner.FieldKeys.{KeyHere}
+use Rattle.go_leads.proofs.TreeKeys.{tree_splits}
+use Rattle.go_leads.proofs.Walks.{owes_all, owes_next, owes_none}
+use Rattle.go_nodes.specs.Trees.{node_of, nodes_in}
+use Rattle.go_rules.specs.Nodes.{parts}
+use Rattle.go_type_terms.specs.Answers.{env_in}
+use Rattle.go_typings.specs.References.{IsFieldKey}
+use Rattle.go_leads.proofs.keys.push_all.Goals as goal
+
+pub loop-init : goal.loop-init
+loop-init c = owes_all (IsFieldKey (env_in c.args.context.now)) (nodes_in c.args.trees) (names_of c.args.keys.now)
+
+pub returns-in-None : goal.returns-in-None
+returns-in-None c = owes_none (IsFieldKey (env_in c.args.context.now)) (nodes_in c.args.trees) (nodes_in c.loop.trees) (names_of c.args.keys.now) (names_of c.loop.keys) c.in-None.ensures c.loop.invariant
+
+pub loop-preserved : goal.loop-preserved
+loop-preserved c =
+    let E = env_in c.args.context.now in
+    let a = node_of c.in-Some.tree in
+    owes_next (IsFieldKey E) (nodes_in c.args.trees) (nodes_in c.loop.trees) (nodes_in c.pop.new.self) (nodes_in c.push_parts.new.self) a (parts a) (KeyHere E a)
+    (names_of c.args.keys.now) (names_of c.loop.keys) (names_of c.push_here.new.keys) (tree_splits E a) c.in-Some.ensures c.in_ok-push_parts-in-Some.ensures c.in_ok-push_here-in-Some.ensures c.loop.invariant

@@ -1,0 +1,3 @@
+pub mod Bares
+pub mod FieldKeys
+pub mod Some
