@@ -2,6 +2,7 @@ pub mod Arguing
 pub mod Bounding
 pub mod ByForm
 pub mod CallKinds
+pub mod ChainSteps
 pub mod Handing
 pub mod ImportedNames
 pub mod LoudPosts

@@ -67,7 +67,7 @@ module _ (E : Env) where
   unqualified_typed w e x xs i none (Err NoMemory) u = tt
   unqualified_typed w e x xs i none (Err Untyped) u = λ r h. elim (ways h) [ inl p ↦ u p.0 r p.1 p.2 | inr m ↦ none m.names m.qualified ]
 
-  renamed : {m n : Name} {k l : Name} {o : Operand} → m ≡ k → n ≡ l → ImportedWithin E m n o → ImportedWithin E k l o
+  pub renamed : {m n : Name} {k l : Name} {o : Operand} → m ≡ k → n ≡ l → ImportedWithin E m n o → ImportedWithin E k l o
   renamed {n = n} {k = k} {o = o} i j d = subst (λ (y : Name). ImportedWithin E k y o) j (subst (λ (y : Name). ImportedWithin E y n o) i d)
 
   -- a name of an imported package that is selected from

@@ -1,3 +1,4 @@
 pub mod Arguments
+pub mod Chains
 pub mod Imports
 pub mod Posts

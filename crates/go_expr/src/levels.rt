@@ -1,9 +1,12 @@
 //! The typing of trees up to a height.
+ghost use Rattle.go_expr.specs.Posts.{StepTyped};
 ghost use Rattle.go_type_terms.specs.Answers.{TypesBelow, TypesPart, env_in};
 
 use crate::exprs::Exprs;
 use go_literals::values::Literals;
 use go_operations::operations::Operations;
+use go_rules::operand::Operand;
+use go_syntax::expression::Post;
 use go_type_terms::error::ExprError;
 use go_type_terms::part::{Answer, Part};
 use go_type_terms::typing::Typing;
@@ -55,4 +58,26 @@ pub(crate) fn below(
         operations: Operations { typing },
     };
     Exprs { literals }.part(part)
+}
+
+/// What one post makes of an operand, where its parts are of heights below this.
+pub(crate) fn step_below(
+    context: &Context<'_>,
+    alloc: Global,
+    height: usize,
+    operand: &Operand,
+    post: &Post,
+) -> Result<(Operand, bool), ExprError>
+    ensures { StepTyped (env_in context.now) operand.now post.now result }
+{
+    let typing = Typing {
+        context: &*context,
+        alloc,
+        height,
+        below,
+    };
+    let literals = Literals {
+        operations: Operations { typing },
+    };
+    Exprs { literals }.step(operand, post)
 }

@@ -55,8 +55,8 @@ fn is_loud_call(operand: &Operand, post: &Post, next: &Operand) -> bool
 }
 
 impl<'a, F: Fn(&Context<'_>, Global, usize, Part<'_>) -> Result<Answer, ExprError>> Exprs<'a, F> {
-    // One post, within bounds; the flag tells of the parts and the post itself.
-    fn step(&self, operand: &Operand, post: &Post) -> Result<(Operand, bool), ExprError>
+    /// One post, within bounds; the flag tells of the parts and the post itself.
+    pub(crate) fn step(&self, operand: &Operand, post: &Post) -> Result<(Operand, bool), ExprError>
         requires { TypesBelow self.now.literals.operations.typing.context.now self.now.literals.operations.typing.height (F.pre self.now.literals.operations.typing.below) (F.post self.now.literals.operations.typing.below) }
         ensures { StepTyped (env_in self.now.literals.operations.typing.context.now) operand.now post.now result }
     {

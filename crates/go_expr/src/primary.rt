@@ -20,8 +20,8 @@ use go_type_terms::part::{Answer, Part};
 use go_usability::context::Context;
 use std::alloc::Global;
 
-// What a name of an imported package denotes, within bounds.
-fn imported_within(
+/// What a name of an imported package denotes, within bounds.
+pub(crate) fn imported_within(
     context: &Context<'_>,
     alloc: Global,
     package: &Name,

@@ -1,15 +1,18 @@
 //! What expressions are, and which types and signatures are written, in an environment.
+ghost use Rattle.go_expr.specs.Chains.{Makes, NamesImported};
 ghost use Rattle.go_rules.specs.Expressions.{Has, OfSignature, OfType};
 ghost use Rattle.go_rules.specs.Scopes.{env_of};
 ghost use Rattle.go_syntax.specs.declared.types.Signature.{out-Signature};
 ghost use Rattle.go_type_terms.specs.Answers.{Tells};
 
-use crate::levels::below;
+use crate::imports::imported_name;
+use crate::levels::{below, step_below};
+use crate::primary::imported_within;
 use go_model::types::term::{Signature as Signed, Term};
 use go_rules::env::Env;
 use go_rules::operand::Operand;
 use go_selectors::lookup::error_type;
-use go_syntax::expression::Expr;
+use go_syntax::expression::{Expr, Post};
 use go_syntax::types::{Signature, Type};
 use go_type_terms::error::ExprError;
 use go_type_terms::part::{Answer, Part};
@@ -62,4 +65,37 @@ pub fn signature_of(
     };
     let (signed, _) = typing.signature(signature)?;
     Ok(signed)
+}
+
+/// What a post makes of an operand in an environment. `Untyped` exactly where the rules let it make nothing.
+pub fn type_post(
+    env: &Env<'_>,
+    alloc: Global,
+    operand: &Operand,
+    post: &Post,
+) -> Result<Operand, ExprError>
+    ensures { Tells (Makes (env_of env.now) operand.now post.now) result }
+{
+    let error = error_type(alloc)?;
+    let context = Context::new(env, &error);
+    let (next, _) = step_below(&context, alloc, HEIGHT, operand, post)?;
+    Ok(next)
+}
+
+/// The object of an imported package that an expression and a selector after it name. `Untyped` exactly where
+/// they name none.
+pub fn type_imported(
+    env: &Env<'_>,
+    alloc: Global,
+    expr: &Expr,
+    post: &Post,
+) -> Result<Operand, ExprError>
+    ensures { Tells (NamesImported (env_of env.now) expr.now post.now) result }
+{
+    let error = error_type(alloc)?;
+    let context = Context::new(env, &error);
+    match imported_name(&context, expr, post) {
+        Some((package, name)) => imported_within(&context, alloc, package, name),
+        None => Err(ExprError::Untyped),
+    }
 }

@@ -1,3 +1,4 @@
 pub mod Bares
+pub mod Chains
 pub mod FieldKeys
 pub mod Some

@@ -4,3 +4,4 @@
 
 mod bares;
 pub mod keys;
+pub mod methods;

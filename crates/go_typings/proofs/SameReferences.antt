@@ -1,15 +1,16 @@
 -- In a closed region and among more entries a declaration that refers to the region alone names the same others, and finds the same methods.
-use Rattle.std.proofs.Common.{◌≡◌, ℕ, List, [], ◌∷◌, ◌++◌, map, refl, sym, ap, ◌∙◌, subst}
+use Rattle.std.proofs.Common.{◌≡◌, ℕ, Bool, true, false, Option, inr, List, [], ◌∷◌, ◌++◌, map, refl, sym, ap, ◌∙◌, subst}
 use Rattle.go_base.specs.Lists.{Each}
 use Rattle.go_model.specs.declared.types.names.Sel.{Sel}
 use Rattle.go_model.specs.declared.types.names.TypeName.{TypeName}
+use Rattle.go_model.specs.declared.types.term.Signature.{Signature}
 use Rattle.go_model.specs.declared.types.term.Term.{Term, Term-F}
-use Rattle.go_model.specs.types.Selectors.{Ending}
+use Rattle.go_model.specs.types.Selectors.{Ending, is_defined_pointer, method}
 use Rattle.go_model.specs.types.TypeNames.{names}
 use Rattle.go_model.specs.types.Underlying.{under}
 use Rattle.go_references.specs.declared.references.Reference.{Reference}
 use Rattle.std.specs.Prelude.{if◌then◌else◌}
-use Rattle.go_rules.specs.Environments.{Env, Found, is_exported}
+use Rattle.go_rules.specs.Environments.{Env, Found, HasMethod, is_exported}
 use Rattle.go_rules.specs.Expressions.{HasForm, Has as Typed, has_operand, has_primary, has_imported, OfType, chain}
 use Rattle.go_rules.specs.Growth.{Grows}
 use Rattle.go_rules.specs.Nodes.{ExprLayer, Node, Stands, expression, post, type, expression_parts}
@@ -17,13 +18,13 @@ use Rattle.go_rules.specs.Operands.{ShapeWithin}
 use Rattle.go_rules.specs.Regions.{IsClosed, NameIn, RefersIn, Region, TermIn, cut, expression_name}
 use Rattle.go_rules.specs.declared.operand.Operand.{Operand}
 use Rattle.go_rules.proofs.GrowOperand.{has_form_more, type_more}
-use Rattle.go_rules.proofs.GrowTypes.{form_more, found_more, joined_is}
+use Rattle.go_rules.proofs.GrowTypes.{form_more, found_more, joined_is, method_more}
 use Rattle.go_rules.proofs.LocalOperand.{has_local, posts_local, stands_within, type_local}
 use Rattle.go_rules.proofs.LocalParts.{map_left, names_here, parts_in}
 use Rattle.go_rules.proofs.LocalRelations.{OperandIn, typed_in}
 use Rattle.go_rules.proofs.LocalResults.{imported_local}
 use Rattle.go_rules.proofs.LocalTerms.{close_in, each_has, form_in, passes_left, passes_right}
-use Rattle.go_rules.proofs.LocalTypes.{form_same, found_local}
+use Rattle.go_rules.proofs.LocalTypes.{form_same, found_local, method_local}
 use Rattle.go_syntax.specs.declared.expression.Element.{Element}
 use Rattle.go_syntax.specs.declared.expression.Expr.{Expr, Expr-F, out-Expr}
 use Rattle.go_syntax.specs.declared.expression.Post.{Post}
@@ -33,6 +34,10 @@ use Rattle.go_typings.specs.DeclarationNodes.{nodes}
 use Rattle.go_typings.specs.Declarations.{Form}
 use Rattle.go_typings.specs.References.{Finds, FindsMethod, FindsOf, finds_value, finds_expression, HasLiteral, literal, literal_array, literal_key, literal_value, HoldsValues, holds_item, holds_slice_item, holds_map_item, IsOmitted, omitted_itself, omitted_base, IsFieldKey, NamesDeclaration, Selects}
 use Rattle.go_typings.specs.Sources.{PackageSource}
+
+either_true : (b : Bool) → (if b then true else true) ≡ true
+either_true true = refl
+either_true false = refl
 
 module _ (E F : Env) (R : Region) (w : IsClosed E R) (m : Grows (cut R E) F) where
   abbrev C : Env
@@ -113,9 +118,17 @@ module _ (E F : Env) (R : Region) (w : IsClosed E R) (m : Grows (cut R E) F) whe
   found_same : {s : Sel} {t : Term} {e : Ending} → TermIn R t → Found E s t e → Found F s t e
   found_same {s = s} {t = t} {e = e} i f = subst (λ z. Found z s t e) (joined_is C F m) (found_more C F m (found_local E R w i f))
 
+  -- a type in which a method is found stays defined over a pointer, or not
+  counts_same : {s : Sel} {t : Term} {through pointer : Bool} {owner : Option TypeName} {g : Signature} → TermIn R t → Found E s t (record { through = through; target = method owner pointer g })
+      → is_defined_pointer E.table t ≡ false → is_defined_pointer F.table t ≡ false
+  counts_same {s = s} {t = t} {g = g} i f c =
+      let h : HasMethod E true t s g = record { through = _; owner = _; pointer = _; found = f; counts = c; reaches = inr (either_true _) } in
+      let k : HasMethod F true t s g = subst (λ z. HasMethod z true t s g) (joined_is C F m) (method_more C F m (method_local E R w i h)) in
+      k.counts
+
   of_same : {o : Operand} {s : Sel} {owner : TypeName} → OperandIn R o → FindsOf E o s owner → FindsOf F o s owner
-  of_same i (finds_value h f) = finds_value h (found_same (typed_in R i h) f)
-  of_same i (finds_expression {t = t} e f) = finds_expression e (found_same (subst (OperandIn R) e i) f)
+  of_same i (finds_value h f c) = finds_value h (found_same (typed_in R i h) f) (counts_same (typed_in R i h) f c)
+  of_same i (finds_expression {t = t} e f c) = finds_expression e (found_same (subst (OperandIn R) e i) f) (counts_same (subst (OperandIn R) e i) f c)
 
   selects_same : {at : Node} {o : Operand} {name : Name} → RefersIn R at → Selects E at o name → Selects F at o name × OperandIn R o
   selects_same {o = o} n s =

@@ -1,14 +1,14 @@
 -- Which declarations a declaration refers to, leads on to and has to come after.
 -- Public source: Go specification, "Declarations and scope", "Composite literals", "Selectors", "Method expressions",
 -- "Array types" and "Struct types". That a type refers to its methods, and what counts, is own.
-use Rattle.std.specs.Prelude.{◌≡◌, ◌<◌, ℕ, Bool, true, List, ◌∷◌, ◌++◌, Some}
+use Rattle.std.specs.Prelude.{◌≡◌, ◌<◌, ℕ, Bool, true, false, List, ◌∷◌, ◌++◌, Some}
 use Rattle.go_base.specs.Lists.{Has}
 use Rattle.go_model.specs.declared.types.names.Sel.{Sel}
 use Rattle.go_model.specs.declared.types.names.TypeName.{TypeName}
 use Rattle.go_model.specs.declared.types.term.Field.{Field}
 use Rattle.go_model.specs.declared.types.term.Signature.{Signature}
 use Rattle.go_model.specs.declared.types.term.Term.{Term, Term-F}
-use Rattle.go_model.specs.types.Selectors.{method as found_method}
+use Rattle.go_model.specs.types.Selectors.{is_defined_pointer, method as found_method}
 use Rattle.go_model.specs.types.Underlying.{under}
 use Rattle.go_references.specs.declared.references.Reference.{Reference}
 use Rattle.go_syntax.specs.declared.expression.Element.{Element, out-Element}
@@ -101,10 +101,11 @@ pub record Selects (E : Env) (at : Node) (o : Operand) (name : Name) : Type 0 wh
   pub has : HasForm E (chain operand before) o
   pub within : ShapeWithin o.shape
 
--- the selector finds a method of this type in the operand: as a method value, or as a method expression
+-- the selector finds a method of this type in the operand: as a method value, or as a method expression; through a type
+-- that is defined over a pointer it finds none
 pub data FindsOf (E : Env) (o : Operand) (s : Sel) (owner : TypeName) : Type 0 where
-  finds_value : {t : Term} {through pointer : Bool} {g : Signature} → IsTyped o t → Found E s t (record { through = through; target = found_method (Some owner) pointer g }) → FindsOf E o s owner
-  finds_expression : {t : Term} {through pointer : Bool} {g : Signature} → o ≡ type_name t → Found E s t (record { through = through; target = found_method (Some owner) pointer g }) → FindsOf E o s owner
+  finds_value : {t : Term} {through pointer : Bool} {g : Signature} → IsTyped o t → Found E s t (record { through = through; target = found_method (Some owner) pointer g }) → is_defined_pointer E.table t ≡ false → FindsOf E o s owner
+  finds_expression : {t : Term} {through pointer : Bool} {g : Signature} → o ≡ type_name t → Found E s t (record { through = through; target = found_method (Some owner) pointer g }) → is_defined_pointer E.table t ≡ false → FindsOf E o s owner
 
 -- a selector in the tree finds a method of this type
 pub record Finds (E : Env) (at : Node) (owner : TypeName) (s : Sel) : Type 0 where
