@@ -70,5 +70,5 @@ found_entered E {s = s} {t = t} {e = e} owner f o = end_entered E.table s owner 
 
 -- the type that a selector finds a method of has its entry
 pub owner_entered : (E : Env) {o : Operand} {s : Sel} (owner : TypeName) → FindsOf E o s owner → (d : Defined) × (entry E.table owner ≡ Some d)
-owner_entered E owner (finds_value h f) = found_entered E owner f refl
-owner_entered E owner (finds_expression e f) = found_entered E owner f refl
+owner_entered E owner (finds_value h f c) = found_entered E owner f refl
+owner_entered E owner (finds_expression e f c) = found_entered E owner f refl
