@@ -1,4 +1,4 @@
--- What is broken: each rule that a new world doesn't keep, with the package or the object that it is reported for.
+-- What is broken: each of eleven rules that a new world doesn't keep, with the package or the object that it is reported for.
 -- Public source: README of golang.org/x/exp/apidiff, "Compatibility, Types and Names"; the words for what is lost are own.
 use Rattle.std.specs.Prelude.{◌≡◌, ◌&&◌, ℕ, true, List, Some}
 use Rattle.go_base.specs.Lists.{Has}

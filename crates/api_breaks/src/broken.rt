@@ -28,7 +28,7 @@ pub enum Lost {
     Removed,
     /// An object is of another sort: the old and the new one.
     Kind(Sort, Sort),
-    /// A constant is of another type or has another value: the old and the new constant.
+    /// A constant is typed in one world alone, of another untyped kind, or has another value: the old and the new constant.
     Constant(Entity, Entity),
     /// The old and the new type of a pair don't match.
     Type(Term, Term),
