@@ -27,6 +27,10 @@ abbrev at : ℕ → Option ℕ → Option NamePlace
 at number None = None
 at number (Some place) = Some (record { number = number; place = place })
 
+or_none : (o : Option NamePlace) → o ≡ option_or o None
+or_none None = refl
+or_none (Some x) = refl
+
 same_left_out : (a b : List ℕ) → bytes_eq a b ≡ true → is_left_out b ≡ is_left_out a
 same_left_out a b e = ap is_left_out (sym ((bytes_decides a b).0 e))
 
@@ -36,10 +40,6 @@ module _ (q : List ℕ) (counts : is_left_out q ≡ false) where
       → value_at (if l || p then t else with_value t n v) q ≡ option_or (value_at t q) (if e then Some v else None)
   added t n v true true p hl he hp = absurd (true≢false (sym hl ∙ sym (same_left_out n q he) ∙ counts))
   added t n v true false p hl he hp = or_none (value_at t q)
-    where
-      or_none : (o : Option NamePlace) → o ≡ option_or o None
-      or_none None = refl
-      or_none (Some x) = refl
   added t n v false true true hl he hp = there (value_at t q) (sym (ap (λ k. is_some (value_at t k)) ((bytes_decides n q).0 he)) ∙ hp)
     where
       there : (o : Option NamePlace) → is_some o ≡ true → o ≡ option_or o (Some v)
@@ -55,16 +55,8 @@ module _ (q : List ℕ) (counts : is_left_out q ≡ false) where
       absent None h = refl
       absent (Some x) h = absurd (true≢false h)
   added t n v false false true hl he hp = or_none (value_at t q)
-    where
-      or_none : (o : Option NamePlace) → o ≡ option_or o None
-      or_none None = refl
-      or_none (Some x) = refl
   added t n v false false false hl he hp = put_is q n v t ∙ ap (λ b. cond b (Some v) (value_at t q)) (other (bytes_eq q n) refl) ∙ or_none (value_at t q)
     where
-      or_none : (o : Option NamePlace) → o ≡ option_or o None
-      or_none None = refl
-      or_none (Some x) = refl
-
       other : (b : Bool) → bytes_eq q n ≡ b → b ≡ false
       other true h = absurd (true≢false (sym ((bytes_decides n q).1 (sym ((bytes_decides q n).0 h))) ∙ he))
       other false h = refl
@@ -89,10 +81,6 @@ module _ (q : List ℕ) (counts : is_left_out q ≡ false) where
 
   names_added : (t : Named NamePlace) (number place : ℕ) (ns : List Name) → value_at (with_names t number place ns) q ≡ option_or (value_at t q) (at number (place_from place (texts ns) q))
   names_added t number place [] = or_none (value_at t q)
-    where
-      or_none : (o : Option NamePlace) → o ≡ option_or o None
-      or_none None = refl
-      or_none (Some x) = refl
   names_added t number place (n ∷ ns) =
       names_added (with_first t n.text (record { number = number; place = place })) number (suc place) ns
       ∙ ap (λ o. option_or o (at number (place_from (suc place) (texts ns) q))) (first_added t n.text (record { number = number; place = place }))
@@ -105,10 +93,6 @@ module _ (q : List ℕ) (counts : is_left_out q ≡ false) where
 
   all_added : (t : Named NamePlace) (number : ℕ) (ds : List Declaration) → value_at (with_declarations t number ds) q ≡ option_or (value_at t q) (place_of (declared_from number ds q))
   all_added t number [] = or_none (value_at t q)
-    where
-      or_none : (o : Option NamePlace) → o ≡ option_or o None
-      or_none None = refl
-      or_none (Some x) = refl
   all_added t number (d ∷ ds) =
       all_added (with_names t number 0 (names_of d.form)) (suc number) ds
       ∙ ap (λ o. option_or o (place_of (declared_from (suc number) ds q))) (names_added t number 0 (names_of d.form))

@@ -19,7 +19,7 @@ use Rattle.go_sources.specs.UnitSources.{file_of, import_of, source_of}
 use Rattle.go_sources.specs.declared.known_names.Key.{Key}
 use Rattle.go_sources.specs.inner.DeclarationSites.{const_sites, decl_sites, type_sites, unit_file_sites, unit_sites_from, var_sites}
 use Rattle.go_sources.specs.inner.KnownNames.{Steps}
-use Rattle.go_sources.proofs.Visiting.{step_both, step_ends}
+use Rattle.go_sources.proofs.Visiting.{gather_split, split_taken, step_both, step_ends}
 
 -- ---- gathering
 
@@ -27,13 +27,9 @@ gather_map : {A B C : Type 0} (g : B → List C) (h : A → B) (xs : List A) →
 gather_map g h [] = refl
 gather_map g h (x ∷ xs) = ap (λ ys. g (h x) ++ ys) (gather_map g h xs)
 
-gather_apart : {A B : Type 0} (f : A → List B) (xs ys : List A) → gather f (xs ++ ys) ≡ gather f xs ++ gather f ys
-gather_apart f [] ys = refl
-gather_apart f (x ∷ xs) ys = ap (λ zs. f x ++ zs) (gather_apart f xs ys) ∙ sym (append_assoc (f x) (gather f xs) (gather f ys))
-
 gather_twice : {A B C : Type 0} (g : B → List C) (h : A → List B) (xs : List A) → gather g (gather h xs) ≡ gather (λ x. gather g (h x)) xs
 gather_twice g h [] = refl
-gather_twice g h (x ∷ xs) = gather_apart g (h x) (gather h xs) ∙ ap (λ ys. gather g (h x) ++ ys) (gather_twice g h xs)
+gather_twice g h (x ∷ xs) = gather_split g (h x) (gather h xs) ∙ ap (λ ys. gather g (h x) ++ ys) (gather_twice g h xs)
 
 gather_same : {A B : Type 0} (g h : A → List B) (xs : List A) → ((x : A) → g x ≡ h x) → gather g xs ≡ gather h xs
 gather_same g h [] e = refl
@@ -104,11 +100,6 @@ files_next xs i x old mid new r h e s g = subst (λ (w : List Site). Steps w old
 
 pub files_whole : (xs : List UnitFile) (i : ℕ) (old new : List Key) → length xs ≤ i → Steps (unit_sites_from 0 (take i xs)) old new None → Steps (unit_sites_from 0 xs) old new None
 files_whole xs i old new h s = subst (λ (w : List UnitFile). Steps (unit_sites_from 0 w) old new None) (take_past i xs h) s
-
-split_taken : (xs : List UnitFile) (i : ℕ) → (rest : List UnitFile) × (xs ≡ take i xs ++ rest)
-split_taken xs zero = (xs, refl)
-split_taken [] (suc i) = ([], refl)
-split_taken (x ∷ xs) (suc i) = let k = split_taken xs i in (k.0, ap (λ ys. x ∷ ys) k.1)
 
 pub files_stop : (xs : List UnitFile) (i : ℕ) (x : UnitFile) (old mid new : List Key) (p : Place) → i < length xs → x ≡ get_or xs i x → Steps (unit_sites_from 0 (take i xs)) old mid None → Steps (unit_file_sites i x) mid new (Some p)
     → Steps (unit_sites_from 0 xs) old new (Some p)

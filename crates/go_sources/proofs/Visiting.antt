@@ -164,13 +164,18 @@ step_both a b old mid new r f g ss v = subst (λ (w : List Site). After w new r)
 pub step_ends : (a b : List Site) (old mid new : List Key) (p : Place) → Steps a old mid (Some p) → Steps (a ++ b) old new (Some p)
 step_ends a b old mid new p f ss v = subst (λ (w : List Site). IsFirstLater w p) (append_assoc ss a b) (first_left (ss ++ a) b p (f ss v))
 
-module _ {A : Type 0} (f : A → List Site) where
-  gather_split : (xs ys : List A) → gather f (xs ++ ys) ≡ gather f xs ++ gather f ys
-  gather_split [] ys = refl
-  gather_split (x ∷ xs) ys = ap (λ zs. f x ++ zs) (gather_split xs ys) ∙ sym (append_assoc (f x) (gather f xs) (gather f ys))
+pub gather_split : {A B : Type 0} (f : A → List B) (xs ys : List A) → gather f (xs ++ ys) ≡ gather f xs ++ gather f ys
+gather_split f [] ys = refl
+gather_split f (x ∷ xs) ys = ap (λ zs. f x ++ zs) (gather_split f xs ys) ∙ sym (append_assoc (f x) (gather f xs) (gather f ys))
 
+pub split_taken : {A : Type 0} (xs : List A) (i : ℕ) → (rest : List A) × (xs ≡ take i xs ++ rest)
+split_taken xs zero = (xs, refl)
+split_taken [] (suc i) = ([], refl)
+split_taken (x ∷ xs) (suc i) = let k = split_taken xs i in (k.0, ap (λ ys. x ∷ ys) k.1)
+
+module _ {A : Type 0} (f : A → List Site) where
   taken : (xs : List A) (i : ℕ) (x : A) → i < length xs → x ≡ get_or xs i x → gather f (take (i + 1) xs) ≡ gather f (take i xs) ++ f x
-  taken xs i x h e = ap (gather f) (take_more xs i x h ∙ ap (λ (z : A). take i xs ++ z ∷ []) (sym e)) ∙ gather_split (take i xs) (x ∷ []) ∙ ap (λ zs. gather f (take i xs) ++ zs) (append-nil (f x))
+  taken xs i x h e = ap (gather f) (take_more xs i x h ∙ ap (λ (z : A). take i xs ++ z ∷ []) (sym e)) ∙ gather_split f (take i xs) (x ∷ []) ∙ ap (λ zs. gather f (take i xs) ++ zs) (append-nil (f x))
 
   pub step_next : (xs : List A) (i : ℕ) (x : A) (old mid new : List Key) (r : Option Place) → i < length xs → x ≡ get_or xs i x → Steps (gather f (take i xs)) old mid None → Steps (f x) mid new r → Steps (gather f (take (i + 1) xs)) old new r
   step_next xs i x old mid new r h e s g = subst (λ (w : List Site). Steps w old new r) (sym (taken xs i x h e)) (step_both (gather f (take i xs)) (f x) old mid new r s g)
@@ -178,15 +183,10 @@ module _ {A : Type 0} (f : A → List Site) where
   pub step_whole : (xs : List A) (i : ℕ) (old new : List Key) → length xs ≤ i → Steps (gather f (take i xs)) old new None → Steps (gather f xs) old new None
   step_whole xs i old new h s = subst (λ (w : List A). Steps (gather f w) old new None) (take_past i xs h) s
 
-  split_taken : (xs : List A) (i : ℕ) → (rest : List A) × (xs ≡ take i xs ++ rest)
-  split_taken xs zero = (xs, refl)
-  split_taken [] (suc i) = ([], refl)
-  split_taken (x ∷ xs) (suc i) = let k = split_taken xs i in (k.0, ap (λ ys. x ∷ ys) k.1)
-
   -- a name of an item was declared before
   pub step_stops : (xs : List A) (i : ℕ) (x : A) (old mid new : List Key) (p : Place) → i < length xs → x ≡ get_or xs i x → Steps (gather f (take i xs)) old mid None → Steps (f x) mid new (Some p) → Steps (gather f xs) old new (Some p)
   step_stops xs i x old mid new p h e s g =
       let k = split_taken xs (i + 1) in
       subst (λ (w : List A). Steps (gather f w) old new (Some p)) (sym k.1)
-      (subst (λ (w : List Site). Steps w old new (Some p)) (sym (gather_split (take (i + 1) xs) k.0))
+      (subst (λ (w : List Site). Steps w old new (Some p)) (sym (gather_split f (take (i + 1) xs) k.0))
       (step_ends (gather f (take (i + 1) xs)) (gather f k.0) old new new p (step_next xs i x old mid new (Some p) h e s g)))
