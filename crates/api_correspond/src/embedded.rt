@@ -93,7 +93,7 @@ fn push_embedded<'a>(
     Ok(())
 }
 
-pub(crate) fn is_exported(sel: &Sel) -> bool
+pub fn is_exported(sel: &Sel) -> bool
     ensures { Decides (IsExported sel.now) result }
 {
     sel.package.bytes().is_empty()
@@ -158,7 +158,7 @@ fn spot_at<'a>(all: &Vec<Spot<'a>>, at: usize) -> Option<&'a Term>
 }
 
 /// The exported selectors of the fields in all types that are embedded in a type, at any depth.
-pub(crate) fn deep_fields<'a>(
+pub fn deep_fields<'a>(
     alloc: Global,
     error: &'a Defined,
     world: &'a World,

@@ -3,7 +3,7 @@
 #![tactic(auto)]
 
 mod codes;
-mod embedded;
+pub mod embedded;
 pub mod leads;
 pub mod matching;
 mod members;

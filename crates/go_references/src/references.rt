@@ -1,5 +1,6 @@
 //! References: the names by which a declaration refers to others outside of bodies, and how each one stands there.
 ghost use Rattle.std.specs.Prelude.{◌≡◌, ◌++◌, ◌∷◌, [], map, false, Some, None, IfOk, IfSome, IfNone, OnOk};
+ghost use Rattle.go_base.specs.Keys.{item_of};
 ghost use Rattle.go_references.specs.References as references;
 ghost use Rattle.go_references.specs.References.{joined, expr_refs, exprs_refs, post_refs, post_refs_of, element_refs, value_refs, type_refs, signature_refs, result_refs, parameter_refs, field_refs, interface_refs};
 
@@ -581,6 +582,36 @@ pub fn func_references(alloc: Global, func: &Func) -> Result<List<Reference>, No
 {
     let mut refs = List::new(alloc);
     add_func(alloc, &mut refs, func)?;
+    Ok(refs)
+}
+
+/// The references of a type, where there is one, and of values, in order.
+pub fn typed_references(
+    alloc: Global,
+    type_: Option<&Type>,
+    values: &[Expr],
+) -> Result<List<Reference>, NoMemory>
+    ensures { IfOk result (λ refs. refs ≡ references.optional_type (item_of type_.entry) references.outermost ++ exprs_refs values.now references.outermost) }
+{
+    let mut refs = List::new(alloc);
+    if let Some(type_) = type_ {
+        add_type(alloc, &mut refs, type_, outermost())?;
+    }
+    add_exprs(alloc, &mut refs, values, outermost())?;
+    Ok(refs)
+}
+
+/// The references of a method outside of its body, in order: those of its receiver's type and of its signature.
+pub fn method_references(
+    alloc: Global,
+    receiver: &ParameterDecl,
+    func: &Func,
+) -> Result<List<Reference>, NoMemory>
+    ensures { IfOk result (λ refs. refs ≡ references.parameter_refs receiver.now (references.behind references.outermost) ++ signature_refs func.now.signature references.outermost) }
+{
+    let mut refs = List::new(alloc);
+    add_type(alloc, &mut refs, &receiver.type_, behind(outermost()))?;
+    add_signature(alloc, &mut refs, &func.signature, outermost())?;
     Ok(refs)
 }
 

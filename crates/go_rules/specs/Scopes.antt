@@ -178,6 +178,14 @@ with_announced s name = record s { announced = with_value s.announced name tt }
 abbrev pub with_defined : Scopes → Defined → Scopes
 with_defined s d = record s { defined = with_value s.defined d.name d }
 
+-- the type of that name with one more method, where it is had
+abbrev pub added_to : Named Defined → List ℕ → MethodOf → Option Defined → Named Defined
+added_to types name m None = types
+added_to types name m (Some d) = with_value types name (record d { methods = d.methods ++ m ∷ [] })
+
+abbrev pub with_method : Scopes → List ℕ → MethodOf → Scopes
+with_method s name m = record s { defined = added_to s.defined name m (value_at s.defined name) }
+
 -- the package's type of that name is known to have a method with the selector
 abbrev pub with_awaited : Scopes → List ℕ → Sel → Scopes
 with_awaited s name sel = record s { awaited = with_value s.awaited name (items_at s.awaited name ++ sel ∷ []) }

@@ -4,7 +4,7 @@ ghost use Rattle.go_base.specs.Keys.{item_of};
 ghost use Rattle.go_rules.specs.Environments.{is_among, selector_of};
 ghost use Rattle.go_rules.specs.Meanings.{as_seen};
 ghost use Rattle.go_rules.specs.Names.{value_at, with_value};
-ghost use Rattle.go_rules.specs.Scopes.{env_of, innermost, is_declared, is_imported, new_scopes, with_announced, with_awaited, with_defined, with_import, with_meaning};
+ghost use Rattle.go_rules.specs.Scopes.{env_of, innermost, is_declared, is_imported, new_scopes, with_announced, with_awaited, with_defined, with_import, with_meaning, with_method};
 
 use crate::exports::is_exported;
 use crate::imports::Imports;
@@ -17,7 +17,7 @@ use go_base::list::List;
 use go_base::memory::NoMemory;
 use go_base::text::Text;
 use go_model::types::names::{Sel, TypeName};
-use go_model::types::package::{Defined, Entity};
+use go_model::types::package::{Defined, Entity, MethodOf};
 use go_model::types::table::TypeTable;
 use go_model::types::world::World;
 use std::alloc::Global;
@@ -211,6 +211,15 @@ impl Env<'_> {
     {
         let name = Text::of(self.alloc, defined.name.bytes())?;
         self.defined.put(name, defined)
+    }
+
+    /// Adds a method to the package's type of a name, after those that it has; nothing changes where no type of that name is
+    /// defined.
+    pub fn add_method(&mut self, name: &[u8], method: MethodOf) -> Result<(), NoMemory>
+        ensures ok { OnOk result (self.new ≡ with_method self.old name.now method) }
+        ensures err { OnErr result (self.new ≡ self.old) }
+    {
+        self.defined.add_method(name, method)
     }
 
     /// Notes that the package's type of a name has a method with a selector: it is missing until a type

@@ -2,10 +2,12 @@
 ghost use Rattle.std.specs.Prelude.{◌≡◌, ◌∷◌, ◌++◌, [], OnOk, OnErr, is_some};
 ghost use Rattle.go_base.specs.Keys.{item_of};
 ghost use Rattle.go_rules.specs.Names.{items_at, value_at, with_value};
+ghost use Rattle.go_rules.specs.Scopes.{added_to};
 
 use go_base::list::List;
 use go_base::memory::NoMemory;
 use go_base::text::Text;
+use go_model::types::package::{Defined, MethodOf};
 use std::alloc::Global;
 use std::collections::BTreeMap;
 use std::marker::Model;
@@ -82,5 +84,18 @@ impl<V: Drop> Names<List<V>> {
         let mut items = List::new(alloc);
         items.push(item)?;
         self.put(name, items)
+    }
+}
+
+impl Names<Defined> {
+    /// Adds a method to the defined type of a name, after those that it has; nothing changes where there is no type of that name.
+    pub(crate) fn add_method(&mut self, name: &[u8], method: MethodOf) -> Result<(), NoMemory>
+        ensures ok { OnOk result (self.new ≡ added_to self.old name.now method (value_at self.old name.now)) }
+        ensures err { OnErr result (self.new ≡ self.old) }
+    {
+        if let Some(defined) = self.entries.get_mut(name) {
+            return defined.methods.push(method);
+        }
+        Ok(())
     }
 }
