@@ -1,1 +1,2 @@
 pub mod PackageScopes
+pub mod KeptScopes

@@ -1,5 +1,5 @@
 //! What gives declarations their entries, one at a time.
-ghost use Rattle.std.specs.Prelude.{◌≡◌, ◌<◌, length};
+ghost use Rattle.std.specs.Prelude.{◌≡◌, ◌<◌, length, OnOk};
 ghost use Rattle.go_typings.specs.Declarations.{declarations};
 ghost use Rattle.go_typings.specs.PackageEnvironments.{Entries};
 ghost use Rattle.go_typings.specs.Sources.{PackageSource, Setting};
@@ -18,13 +18,19 @@ pub trait Giver {
     /// What is had so far.
     ghost entries: { Self → Entries };
 
+    /// What holds of it between calls, until one of them finds no memory.
+    ghost holds: { Self → Type 0 };
+
     /// How many declarations the package has.
     fn count(&self) -> usize
+        requires { holds self.now }
         ensures { result ≡ length (declarations (source self.now)) };
 
     /// Settles the declaration of a number, where it has no entry and those that are had give it one: then true.
     fn settle(&mut self, number: usize) -> Result<bool, NoMemory>
-        requires { number < length (declarations (source self.old)) }
+        requires below { number < length (declarations (source self.old)) }
+        requires held { holds self.old }
+        ensures held { OnOk result (holds self.new) }
         ensures same_setting { setting self.new ≡ setting self.old }
         ensures same_source { source self.new ≡ source self.old }
         ensures attempts { Attempts (setting self.old) (source self.old) (entries self.old) number result (entries self.new) };

@@ -11,7 +11,9 @@ use go_base::memory::NoMemory;
 // Tries a number that may be that of a declaration.
 fn settle_one<G: Giver>(giver: &mut G, count: usize, number: usize) -> Result<(), NoMemory>
     requires count { count ≡ length (declarations (G.source giver.old)) }
+    requires held { G.holds giver.old }
     requires below { AreFromBelow (G.setting giver.old) (G.source giver.old) (G.entries giver.old) }
+    ensures held { OnOk result (G.holds giver.new) }
     ensures same { IsSamePackage (G.setting giver.old) (G.setting giver.new) (G.source giver.old) (G.source giver.new) }
     ensures below { AreFromBelow (G.setting giver.old) (G.source giver.old) (G.entries giver.new) }
 {
@@ -27,7 +29,9 @@ fn settle_one<G: Giver>(giver: &mut G, count: usize, number: usize) -> Result<()
 // Tries each of these declarations once.
 fn settle_hinted<G: Giver>(giver: &mut G, count: usize, hints: &[u32]) -> Result<(), NoMemory>
     requires count { count ≡ length (declarations (G.source giver.old)) }
+    requires held { G.holds giver.old }
     requires below { AreFromBelow (G.setting giver.old) (G.source giver.old) (G.entries giver.old) }
+    ensures held { OnOk result (G.holds giver.new) }
     ensures same { IsSamePackage (G.setting giver.old) (G.setting giver.new) (G.source giver.old) (G.source giver.new) }
     ensures below { AreFromBelow (G.setting giver.old) (G.source giver.old) (G.entries giver.new) }
 {
@@ -49,7 +53,9 @@ fn either(left: bool, right: bool) -> bool
 // Tries each declaration once; says whether one got its entry.
 fn settle_each<G: Giver>(giver: &mut G, count: usize) -> Result<bool, NoMemory>
     requires count { count ≡ length (declarations (G.source giver.old)) }
+    requires held { G.holds giver.old }
     requires below { AreFromBelow (G.setting giver.old) (G.source giver.old) (G.entries giver.old) }
+    ensures held { OnOk result (G.holds giver.new) }
     ensures same { IsSamePackage (G.setting giver.old) (G.setting giver.new) (G.source giver.old) (G.source giver.new) }
     ensures below { AreFromBelow (G.setting giver.old) (G.source giver.old) (G.entries giver.new) }
     ensures passed { IfOk result (λ moved. Passed (G.setting giver.old) (G.source giver.old) (G.entries giver.old) count moved (G.entries giver.new)) }
@@ -70,7 +76,9 @@ fn settle_each<G: Giver>(giver: &mut G, count: usize) -> Result<bool, NoMemory>
 /// The hints make it fast, and what is had in the end doesn't depend on them. Where no memory is left, what is had is still
 /// had from below.
 pub fn settle_all<G: Giver>(giver: &mut G, hints: &[u32]) -> Result<(), NoMemory>
-    requires { AreFromBelow (G.setting giver.old) (G.source giver.old) (G.entries giver.old) }
+    requires held { G.holds giver.old }
+    requires below { AreFromBelow (G.setting giver.old) (G.source giver.old) (G.entries giver.old) }
+    ensures held { OnOk result (G.holds giver.new) }
     ensures same_setting { G.setting giver.new ≡ G.setting giver.old }
     ensures same_source { G.source giver.new ≡ G.source giver.old }
     ensures below { AreFromBelow (G.setting giver.old) (G.source giver.old) (G.entries giver.new) }
