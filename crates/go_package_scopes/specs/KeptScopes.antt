@@ -80,3 +80,7 @@ extended types name ms (Some e) = with_value types name (record e { methods = e.
 
 abbrev pub with_methods : Scopes → List ℕ → List MethodOf → Scopes
 with_methods c name ms = record c { defined = extended c.defined name ms (value_at c.defined name) }
+
+-- the scopes are the same but for the file in turn and the value of `iota`
+abbrev pub IsMoved : Scopes → Scopes → Type 0
+IsMoved c d = d ≡ record c { file = d.file; iota = d.iota }
