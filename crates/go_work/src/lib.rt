@@ -1,0 +1,6 @@
+//! Types the packages of a tree one after another.
+#![tactic(auto)]
+
+pub mod error;
+mod publics;
+pub mod world;
