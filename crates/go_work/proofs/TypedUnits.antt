@@ -54,11 +54,11 @@ module _ (bits : ℕ) where
   -- a key among those with one more item is its, or was there
   placed_back : (p : Package) (ps : List Package) (path : List ℕ) → Has (map path_of (placed path_of p ps)) path → (p.path ≡ path) ⊎ Has (map path_of ps) path
   placed_back p [] path h = elim h [ inl e ↦ inl e | inr k ↦ absurd k ]
-  placed_back p (x ∷ xs) path h = chosen (is_lt (slice_cmp nat_cmp p.path x.path)) h
+  placed_back p (x ∷ xs) path h = chosen (placed_back p xs path) (is_lt (slice_cmp nat_cmp p.path x.path)) h
     where
-      chosen : (b : Bool) → Has (map path_of (if b then p ∷ x ∷ xs else x ∷ placed path_of p xs)) path → (p.path ≡ path) ⊎ Has (map path_of (x ∷ xs)) path
-      chosen true k = elim k [ inl e ↦ inl e | inr j ↦ inr j ]
-      chosen false k = elim k [ inl e ↦ inr (inl e) | inr j ↦ elim (placed_back p xs path j) [ inl e ↦ inl e | inr l ↦ inr (inr l) ] ]
+      chosen : (Has (map path_of (placed path_of p xs)) path → (p.path ≡ path) ⊎ Has (map path_of xs) path) → (b : Bool) → Has (map path_of (if b then p ∷ x ∷ xs else x ∷ placed path_of p xs)) path → (p.path ≡ path) ⊎ Has (map path_of (x ∷ xs)) path
+      chosen behind true k = elim k [ inl e ↦ inl e | inr j ↦ inr j ]
+      chosen behind false k = elim k [ inl e ↦ inr (inl e) | inr j ↦ elim (behind j) [ inl e ↦ inl e | inr l ↦ inr (inr l) ] ]
 
   either_key : (path : List ℕ) (ps : List Package) (us : List PackageSource) → Type 0
   either_key path ps us = Has (map path_of ps) path ⊎ Has (map written_path us) path
