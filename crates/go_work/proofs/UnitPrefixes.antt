@@ -4,7 +4,7 @@ use Rattle.std.proofs.lemmas.List.{take_more}
 use Rattle.std.proofs.lemmas.Slice.Eq.{bytes_eq-Decides}
 use Rattle.std.specs.Str.{bytes_eq}
 use mathlib.Core.Bool.{true≢false}
-use mathlib.Core.Logic.{∥∥₁_elim, IsProp}
+use mathlib.Core.Logic.{∥∥₁_elim}
 use Rattle.go_base.specs.Keys.{first_with}
 use Rattle.go_base.specs.Lists.{Has}
 use Rattle.go_base.proofs.Lists.{take_past}
@@ -83,42 +83,42 @@ has_or (x ∷ xs) k = told (bytes_eq x k) refl (has_or xs k)
     told false e (inr n) = inr (λ h. elim h [ inl s ↦ true≢false (sym ((bytes_eq-Decides x k).1 s) ∙ e) | inr j ↦ n j ])
 
 standing_has : (us : List PackageUnit) (path : List ℕ) → Stands us path → Has (map written_path (sources us)) path
-standing_has [] path s = absurd s.1.0
-standing_has (v ∷ us) path s = elim s.1.0 [
-  | inl e ↦ inl (ap (λ (w : PackageUnit). w.path) e ∙ s.1.1)
-  | inr k ↦ inr (standing_has us path (s.0, k, s.1.1))
+standing_has [] path s = absurd s.1
+standing_has (v ∷ us) path s = elim s.1 [
+  | inl e ↦ inl (ap (λ (w : PackageUnit). w.path) e ∙ s.2)
+  | inr k ↦ inr (standing_has us path (s.0, k, s.2))
 ]
 
 has_standing : (us : List PackageUnit) (path : List ℕ) → Has (map written_path (sources us)) path → Stands us path
 has_standing [] path h = absurd h
 has_standing (v ∷ us) path h = elim h [
   | inl e ↦ (v, inl refl, e)
-  | inr k ↦ let s = has_standing us path k in (s.0, inr s.1.0, s.1.1)
+  | inr k ↦ let s = has_standing us path k in (s.0, inr s.1, s.2)
 ]
 
 -- an import that a file of the unit uses and that is found is one that it needs
 file_has : (is : List UsedImport) (i : Import) → Has (map import_of is) i → (j : UsedImport) × Has is j × (import_of j ≡ i)
 file_has [] i h = absurd h
-file_has (x ∷ xs) i h = elim h [ inl e ↦ (x, inl refl, e) | inr k ↦ let r = file_has xs i k in (r.0, inr r.1.0, r.1.1) ]
+file_has (x ∷ xs) i h = elim h [ inl e ↦ (x, inl refl, e) | inr k ↦ let r = file_has xs i k in (r.0, inr r.1, r.2) ]
 
 import_there : (fs : List UnitFile) (file : ℕ) (i : Import) → Has (imports_in (slice_get (map file_of fs) file)) i → (f : UnitFile) × Has fs f × Has (map import_of f.imports) i
 import_there [] zero i h = absurd h
 import_there [] (suc n) i h = absurd h
 import_there (f ∷ fs) zero i h = (f, inl refl, h)
-import_there (f ∷ fs) (suc n) i h = let r = import_there fs n i h in (r.0, inr r.1.0, r.1.1)
+import_there (f ∷ fs) (suc n) i h = let r = import_there fs n i h in (r.0, inr r.1, r.2)
 
 needs_import : (u : PackageUnit) (file : ℕ) (i : Import) → Has (imports_of (source_of u) file) i → i.is_found ≡ true → Has (needed_by u.files) i.path
 needs_import u file i h found =
     let f = import_there u.files file i h in
-    let j = file_has f.0.imports i f.1.1 in
-    found_needed u.files i.path (f.0, f.1.0, j.0, j.1.0, ap (λ (x : Import). x.is_found) j.1.1 ∙ found, ap (λ (x : Import). x.path) j.1.1)
+    let j = file_has f.0.imports i f.2 in
+    found_needed u.files i.path (f.0, f.1, (j.0, j.1, (ap (λ (x : Import). x.is_found) j.2 ∙ found, ap (λ (x : Import). x.path) j.2)))
 
 module _ (bits : ℕ) (us : List PackageUnit) (ordered : ∥ AreInOrder us ∥₁) (at : ℕ) (u : PackageUnit) (within : at < length us) (is : u ≡ get_or us at u) (w : Packages) (typed : IsWorldOf bits (sources (take at us)) w) where
   -- what the unit imports is typed
   pub imports_typed : u.needs ≡ needed_by u.files → AreTyped w (source_of u)
   imports_typed needed file i h found = elim (has_or (map written_path (sources (take at us))) i.path) [
     | inl k ↦ world_paths bits (sources (take at us)) w typed i.path k
-    | inr no ↦ absurd (∥∥₁_elim ordered never (λ o. no (standing_has (take at us) i.path ((next_at (Has us) us at u o within is).met i.path (subst (λ ps. Has ps i.path) (sym needed) (needs_import u file i h found))))))
+    | inr none_there ↦ absurd (∥∥₁_elim ordered never (λ o. none_there (standing_has (take at us) i.path ((next_at (Has us) us at u o within is).met i.path (subst (λ ps. Has ps i.path) (sym needed) (needs_import u file i h found))))))
   ]
 
   not_there : Has (map path_of w.packages) u.path → ⊥
@@ -130,7 +130,7 @@ module _ (bits : ℕ) (us : List PackageUnit) (ordered : ∥ AreInOrder us ∥�
 
   -- no package of its path is there
   pub unit_absent : first_with path_of w.packages u.path ≡ None
-  unit_absent = first_none path_of w.packages u.path (λ x h. told (bytes_eq x.path u.path) refl x h)
+  unit_absent = first_none path_of w.packages u.path (λ x h. told (bytes_eq x.path u.path) x refl h)
     where
       told : (b : Bool) (x : Package) → bytes_eq x.path u.path ≡ b → Has w.packages x → bytes_eq x.path u.path ≡ false
       told true x e h = absurd (not_there (subst (Has (map path_of w.packages)) ((bytes_eq-Decides x.path u.path).0 e) (named w.packages x h)))
