@@ -1,1 +1,5 @@
 pub mod SameEnvironments
+pub mod DeclaredNames
+pub mod NumberedMethods
+pub mod ShownMethods
+pub mod OneMoreEntry
