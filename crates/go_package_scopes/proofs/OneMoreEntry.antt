@@ -14,6 +14,9 @@ use Rattle.go_package_scopes.specs.KeptScopes.{object_here, with_entry}
 pub same_number : (m n : ℕ) → nat_eq m n ≡ true → m ≡ n
 same_number m n e = grind (arith, nat_tests, e)
 
+pub itself : (n : ℕ) → nat_eq n n ≡ true
+itself n = grind (arith, nat_tests)
+
 module _ (a : Entries) (n : ℕ) (x : Entry) where
   abbrev b : Entries
   b = with_entry a n x
@@ -60,20 +63,24 @@ module _ (path : List ℕ) where
   or_none None = refl
   or_none (Some x) = refl
 
-  -- once the objects of a declaration are had, its names mean them
-  pub entity_more : (a : Entries) (n : ℕ) (xs : List Entity) → a n ≡ None → (w : Option Declared) → ((v : Declared) → w ≡ Some v → v.number ≡ n → (spec : TypeSpec) → v.form ≡ definition spec → ⊥)
-      → option_or (object_here n xs w) (as_object (entity_at path a w)) ≡ as_object (entity_at path (with_entry a n (objects xs)) w)
-  entity_more a n xs fresh None h = refl
-  entity_more a n xs fresh (Some v) h = by (nat_eq v.number n) refl
-    where
-      abbrev b : Entries
-      b = with_entry a n (objects xs)
+  module _ (a : Entries) (n : ℕ) (xs : List Entity) (fresh : a n ≡ None) where
+    abbrev later : Entries
+    later = with_entry a n (objects xs)
 
-      by : (c : Bool) → nat_eq v.number n ≡ c → option_or (if c then as_object (slice_get xs v.place) else None) (as_object (entity_by path a v.number v.place v.form)) ≡ as_object (entity_by path b v.number v.place v.form)
-      by true e =
-          let same = same_number v.number n e in
-          let not = h v refl same in
-          ap (λ o. option_or (as_object (slice_get xs v.place)) (as_object o)) (no_definition a v.number v.place v.form not ∙ ap (λ (k : ℕ). object_of (a k) v.place) same ∙ ap (λ o. object_of o v.place) fresh)
-          ∙ or_none (as_object (slice_get xs v.place))
-          ∙ sym (ap as_object (no_definition b v.number v.place v.form not ∙ ap (λ o. object_of o v.place) (entry_here a n (objects xs) v.number e)))
-      by false e = ap as_object (entity_same a b v.number v.place v.form (sym (ap (λ o. object_of o v.place) (entry_elsewhere a n (objects xs) v.number e))))
+    entity_here : (number place : ℕ) (f : Form) → ((spec : TypeSpec) → f ≡ definition spec → ⊥) → nat_eq number n ≡ true
+        → option_or (as_object (slice_get xs place)) (as_object (entity_by path a number place f)) ≡ as_object (entity_by path later number place f)
+    entity_here number place f not e =
+        ap (λ o. option_or (as_object (slice_get xs place)) (as_object o)) (no_definition a number place f not ∙ ap (λ (k : ℕ). object_of (a k) place) (same_number number n e) ∙ ap (λ o. object_of o place) fresh)
+        ∙ or_none (as_object (slice_get xs place))
+        ∙ sym (ap as_object (no_definition later number place f not ∙ ap (λ o. object_of o place) (entry_here a n (objects xs) number e)))
+
+    -- once the objects of a declaration are had, its names mean them
+    pub entity_more : (w : Option Declared) → ((v : Declared) → w ≡ Some v → v.number ≡ n → (spec : TypeSpec) → v.form ≡ definition spec → ⊥)
+        → option_or (object_here n xs w) (as_object (entity_at path a w)) ≡ as_object (entity_at path later w)
+    entity_more None h = refl
+    entity_more (Some v) h = by (nat_eq v.number n) refl
+      where
+        by : (c : Bool) → nat_eq v.number n ≡ c
+            → option_or (if c then as_object (slice_get xs v.place) else None) (as_object (entity_by path a v.number v.place v.form)) ≡ as_object (entity_by path later v.number v.place v.form)
+        by true e = entity_here v.number v.place v.form (h v refl (same_number v.number n e)) e
+        by false e = ap as_object (entity_same a later v.number v.place v.form (sym (ap (λ o. object_of o v.place) (entry_elsewhere a n (objects xs) v.number e))))
