@@ -1,5 +1,5 @@
 -- Scopes that keep what is had of a package keep what is had with one entry more.
-use Rattle.std.proofs.Common.{◌≡◌, ℕ, nat_eq, Bool, true, false, cond, not, ◌&&◌, List, [], ◌++◌, Option, Some, None, refl, sym, ap, ◌∙◌, subst, append-nil}
+use Rattle.std.proofs.Common.{◌≡◌, ℕ, nat_eq, Bool, true, false, cond, not, List, [], ◌++◌, Option, Some, None, refl, sym, ap, ◌∙◌, subst, append-nil}
 use Rattle.std.specs.Prelude.{slice_get}
 use Rattle.std.specs.Cmp.Lexicographic.{bytes_decides}
 use Rattle.std.specs.Option.{option_or}
@@ -26,10 +26,10 @@ use Rattle.go_typings.specs.Declarations.{Declaration, declarations, Declared, d
 use Rattle.go_typings.specs.PackageEnvironments.{as_object, Entries, Entry, object_of, objects, own_entity, signature_of, signed, underlying, underlying_of}
 use Rattle.go_typings.specs.Receivers.{base, DeclaredMethod, methods, selector}
 use Rattle.go_typings.specs.Sources.{PackageSource, Setting}
-use Rattle.go_typings.proofs.Cells.{none_some, some_once}
+use Rattle.go_typings.proofs.Cells.{some_once}
 use Rattle.go_package_scopes.specs.KeptScopes.{extended, first_object, HasObjects, IsFirstOf, Keeps, shown, ShowsType, with_entry, with_methods}
 use Rattle.go_package_scopes.proofs.DeclaredNames.{form_of, own_name}
-use Rattle.go_package_scopes.proofs.NumberedMethods.{declared_there, Declares, stands_there}
+use Rattle.go_package_scopes.proofs.NumberedMethods.{declared_there, stands_there}
 use Rattle.go_package_scopes.proofs.OneMoreEntry.{entity_kept, entity_more, entry_elsewhere, entry_here, itself, same_number, told_alike}
 use Rattle.go_package_scopes.proofs.ShownMethods.{hidden, misses, named_both, sel_is, sel_self, shown_apart, shown_named, shown_same}
 use Rattle.go_package_scopes.proofs.UnderlyingTypes.{of_under, shows_same, ShowsUnder, under_at, under_definition, under_of, under_same}

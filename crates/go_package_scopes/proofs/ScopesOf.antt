@@ -12,7 +12,7 @@ use Rattle.go_rules.specs.Names.{items_at, value_at}
 use Rattle.go_rules.specs.Scopes.{is_had, lacking, Scopes}
 use Rattle.go_rules.proofs.Lacking.{among_lacking}
 use Rattle.go_typings.specs.Declarations.{declarations, declared}
-use Rattle.go_typings.specs.PackageEnvironments.{defined_with, Entries, had, missing, own_defined}
+use Rattle.go_typings.specs.PackageEnvironments.{defined_with, Entries, had, missing}
 use Rattle.go_typings.specs.Receivers.{DeclaredMethod, methods}
 use Rattle.go_typings.specs.Sources.{PackageSource, Setting}
 use Rattle.go_package_scopes.specs.KeptScopes.{Keeps, selector_of, shown, ShowsType}

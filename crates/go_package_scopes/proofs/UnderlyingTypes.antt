@@ -4,7 +4,6 @@ use Rattle.go_model.specs.declared.types.names.Sel.{Sel}
 use Rattle.go_model.specs.declared.types.package.Defined.{Defined}
 use Rattle.go_model.specs.declared.types.package.MethodOf.{MethodOf}
 use Rattle.go_model.specs.declared.types.term.Term.{Term}
-use Rattle.go_rules.specs.Growth.{methods_named}
 use Rattle.go_syntax.specs.declared.declaration.TypeSpec.{TypeSpec}
 use Rattle.go_typings.specs.Declarations.{Form, constants, variables, alias, definition, function, method, declarations, Declared, declared}
 use Rattle.go_typings.specs.PackageEnvironments.{defined_at, defined_by, defined_with, Entries, had, own_defined, underlying_of}
