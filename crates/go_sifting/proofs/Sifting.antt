@@ -1,5 +1,5 @@
 -- Flags of those that lead to one that fails by itself are flags of the lost declarations.
-use Rattle.std.proofs.Common.{◌≡◌, ℕ, ◌<◌, Bool, true, false, ◌||◌, List, [], ◌∷◌, length, Option, Some, None, refl, sym, ap, ◌∙◌, subst, ◌⊎◌, inl, inr, arith}
+use Rattle.std.proofs.Common.{◌≡◌, ℕ, ◌<◌, Bool, true, false, ◌||◌, List, length, refl, sym, ◌∙◌, subst, ◌⊎◌, inl, inr, arith}
 use Rattle.std.specs.Prelude.{not}
 use Rattle.std.proofs.lemmas.Option.{slice_get_within}
 use Rattle.go_base.specs.Lists.{Has}
@@ -9,11 +9,11 @@ use Rattle.go_graphs.specs.Walks.{LeadsBack, LeadsInto, is_end, leads_by, LeadsT
 use Rattle.go_graphs.proofs.FallingRanks.{ranks_fall}
 use Rattle.go_graphs.proofs.Flagging.{apart, either}
 use Rattle.go_typings.specs.Declarations.{declarations}
-use Rattle.go_typings.specs.PackageEnvironments.{Entries, Entry}
+use Rattle.go_typings.specs.PackageEnvironments.{Entries}
 use Rattle.go_typings.specs.References.{LeadsTo, leads_here, leads_by_name, leads_by_method}
 use Rattle.go_typings.specs.Sources.{PackageSource, Setting}
 use Rattle.go_typings.proofs.Cells.{maybe, or_false}
-use Rattle.go_soundness.specs.LostDeclarations.{Depends, HasInLength, IsLost, lost_without_entry, lost_without_rank, lost_by_length, lost_by_asks, lost_by_another, MeetsAsks}
+use Rattle.go_soundness.specs.LostDeclarations.{Depends, HasInLength, IsLost, lost_without_entry, lost_without_rank, lost_by_length, lost_by_asks, lost_by_another}
 use Rattle.go_soundness.specs.Ranks.{ComesAfter, HasRank, ranked}
 use Rattle.go_soundness.specs.Settled.{AreSifted}
 use Rattle.go_sifting.specs.Graphs.{IsGraphOf, Leads, Stands}
