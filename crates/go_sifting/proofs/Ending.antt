@@ -1,8 +1,7 @@
--- The numbers that fail, one more at a time.
-use Rattle.std.proofs.Common.{◌≡◌, ℕ, ◌+◌, ◌<◌, Bool, true, false, List, [], ◌∷◌, ◌++◌, sym, ap, ◌∙◌, subst, ◌⊎◌, inl, inr, arith}
+-- The next number that fails is one more of those that do.
+use Rattle.std.proofs.Common.{◌≡◌, ℕ, ◌+◌, ◌<◌, Bool, true, List, [], ◌∷◌, ◌++◌, sym, subst, ◌⊎◌, inl, inr, arith}
 use Rattle.go_base.specs.Lists.{Has}
 use Rattle.go_base.proofs.Members.{has_split}
-use Rattle.go_graphs.proofs.Flagging.{apart}
 use Rattle.go_soundness.proofs.Members.{has_left, has_right}
 use Rattle.go_sifting.specs.inner.Ends.{AreEnds, fails}
 
@@ -27,18 +26,3 @@ module _ (standing ranked back : List Bool) (count : ℕ) (old : List ℕ) (are 
 
   pub ends_more : Fails count ≡ true → AreEnds standing ranked back (count + 1) (old ++ count ∷ [])
   ends_more e n = (added e n, had n)
-
-  kept : (n : ℕ) → Has old n → (n < count + 1) × (Fails n ≡ true)
-  kept n h = let p = (are n).0 h in let l = p.0 in (omega (arith, l), p.1)
-
-  left_out : Fails count ≡ false → (n : ℕ) → (n < count + 1) × (Fails n ≡ true) → Has old n
-  left_out e n k = elim (last_or_before n count k.0) [
-    | inl q ↦ apart (sym k.1 ∙ ap Fails q ∙ e)
-    | inr l ↦ (are n).1 (l, k.1)
-  ]
-
-  pub ends_same : Fails count ≡ false → AreEnds standing ranked back (count + 1) old
-  ends_same e n = (kept n, left_out e n)
-
-pub no_ends : (standing ranked back : List Bool) → AreEnds standing ranked back 0 []
-no_ends standing ranked back n = (λ h. absurd h, λ k. let l = k.0 in absurd (omega (arith, l)))

@@ -49,13 +49,13 @@ module _ (s : Setting) (u : PackageSource) (a : Entries) where
     leads_along {m = m} (leads_by_method k p r) = leads_by k (of m k (inr p)) (leads_along r)
 
   module _
-    (g : DeclarationGraph) (standing ranks back lost : List Bool) (ends : List ℕ)
-    (graph : IsGraphOf s u a g)
-    (stand : AreFlagsOf (length (declarations u)) (Stands s u a) standing)
-    (rank : AreFlagsOf (length g.after) (HasRankIn g.after) ranks)
-    (straight : AreFlagsOf (length g.leads) (LeadsBack g.leads g.lengths) back)
-    (end : AreEnds standing ranks back (length g.depends) ends)
-    (leading : AreFlagsOf (length g.depends) (LeadsInto g.depends ends) lost) where
+      (g : DeclarationGraph) (standing ranks back lost : List Bool) (ends : List ℕ)
+      (graph : IsGraphOf s u a g)
+      (stand : AreFlagsOf (length (declarations u)) (Stands s u a) standing)
+      (rank : AreFlagsOf (length g.after) (HasRankIn g.after) ranks)
+      (straight : AreFlagsOf (length g.leads) (LeadsBack g.leads g.lengths) back)
+      (end : AreEnds standing ranks back (length g.depends) ends)
+      (leading : AreFlagsOf (length g.depends) (LeadsInto g.depends ends) lost) where
     abbrev count : ℕ
     count = length (declarations u)
 

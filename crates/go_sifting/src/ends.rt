@@ -35,9 +35,7 @@ fn add_end(
 }
 
 /// The numbers below the count of those that don't stand, have no rank, or lead back from one of their lengths.
-///
-/// # Errors
-/// `NoMemory`, also where one of these numbers is no `u32`.
+/// `NoMemory` may come at any time, and comes where a number below the count is no `u32`.
 pub(crate) fn ends(
     alloc: Global,
     count: usize,

@@ -53,10 +53,7 @@ fn depending(
 
 /// Flags of the declarations that are lost, where these are flags of those that have an entry and meet what they are
 /// asked: lost is one that doesn't stand, that has no rank, or from a length of which a way leads back to it, and each
-/// that depends on a lost one.
-///
-/// # Errors
-/// `NoMemory`, also for more than 2^32 - 1 declarations.
+/// that depends on a lost one. `NoMemory` may come at any time, and comes for more than 2^32 - 1 declarations.
 pub fn sift(
     alloc: Global,
     graph: &DeclarationGraph,

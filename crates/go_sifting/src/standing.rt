@@ -19,6 +19,7 @@ fn both(left: bool, right: bool) -> bool
     left && right
 }
 
+// Flags of the numbers that are flagged in both.
 fn joined(alloc: Global, left: &[bool], right: &[bool]) -> Result<Vec<bool>, NoMemory>
     ensures { IfOk result (λ flags. AreJoined left.now right.now flags.items) }
 {
@@ -30,8 +31,8 @@ fn joined(alloc: Global, left: &[bool], right: &[bool]) -> Result<Vec<bool>, NoM
     Ok(flags)
 }
 
-/// Flags of the numbers that are flagged in both: of those that stand, where the first are of those that have an entry
-/// and the second of those that meet what they are asked.
+/// Flags of the numbers that are flagged in both, as many as the first: of the declarations that stand, where the first are
+/// flags of those that have an entry, and the second of those that meet what they are asked.
 pub fn standing(alloc: Global, entered: &[bool], met: &[bool]) -> Result<Vec<bool>, NoMemory>
     ensures joined { IfOk result (λ flags. AreJoined entered.now met.now flags.items) }
     ensures stands { (s : Setting) (u : PackageSource) (a : Entries) → AreFlagsOf (length (declarations u)) (λ n. is_had a n ≡ true) entered.now → AreFlagsOf (length (declarations u)) (MeetsAsks s u a) met.now → IfOk result (λ flags. AreFlagsOf (length (declarations u)) (Stands s u a) flags.items) }
