@@ -1,4 +1,6 @@
 pub mod KeptFinds
+pub mod KeptResults
+pub mod KeptRules
 pub mod KeptTerms
 pub mod NamedParts
 pub mod Owned

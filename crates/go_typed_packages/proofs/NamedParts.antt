@@ -2,16 +2,17 @@
 use Rattle.std.proofs.Common.{◌≡◌, Bool, false, List, [], ◌∷◌, map, sym, subst}
 use Rattle.go_base.proofs.Members.{each_has}
 use Rattle.go_base.specs.Lists.{Each}
-use Rattle.go_rules.proofs.LocalParts.{each_both}
+use Rattle.go_rules.proofs.LocalParts.{each_both, each_left, each_right}
 use Rattle.go_rules.proofs.LocalTypes.{each_made}
 use Rattle.go_rules.specs.Asks.{ElementMeets, Meets, TypeMeets, method_names, methods_names}
 use Rattle.go_rules.specs.Environments.{Env}
 use Rattle.go_rules.specs.Expressions.{IsCall, call, call_receive_type, is_blank}
-use Rattle.go_rules.specs.Nodes.{ElemLayer, Node, PostLayer, Stands, TypeLayer, expression, expression_parts, parts, post, post_parts, signature, stands_here, stands_in, type, type_parts, value}
+use Rattle.go_rules.specs.Nodes.{ElemLayer, Node, PostLayer, Stands, TypeLayer, expression, expression_parts, optional_result_parts, parameter_parts, parts, post, post_parts, signature, stands_here, stands_in, type, type_parts, value}
 use Rattle.go_syntax.specs.declared.expression.Expr.{Expr}
 use Rattle.go_syntax.specs.declared.expression.Expr.TheVariants as expr
 use Rattle.go_syntax.specs.declared.expression.Expr.TheVariants.{outs-Type as expr_type}
 use Rattle.go_syntax.specs.declared.types.InterfaceElem.{InterfaceElem, InterfaceElem-F, out-InterfaceElem}
+use Rattle.go_syntax.specs.declared.types.Signature.{Signature as Sig, out-Signature as out-Sig}
 use Rattle.go_syntax.specs.declared.types.«Type».{«Type» as Typ, «Type-F» as Typ-F, «out-Type» as out-Typ}
 use Rattle.go_syntax.specs.declared.types.«Type».TheVariants as typ
 use Rattle.go_syntax.specs.declared.types.«Type».TheVariants.{outs-ReceiveChan as receive_type}
@@ -34,6 +35,13 @@ receive_named t h =
 pub call_named : {l : PostLayer} {es : List Expr} {dots : Bool} → IsCall l es dots → Each AreNamed (post_parts l) → Each AreNamed (map expression es)
 call_named call h = h
 call_named (call_receive_type {t = t}) h = (receive_named t h.0, h.1)
+
+-- the parameters and the result of a signature
+pub parameters_named : (g : Sig) → AreNamed (signature g) → Each AreNamed (parameter_parts (out-Sig g).parameters)
+parameters_named g h = each_left AreNamed (parameter_parts (out-Sig g).parameters) (optional_result_parts (out-Sig g).result) (parts_named (signature g) h)
+
+pub result_named : (g : Sig) → AreNamed (signature g) → Each AreNamed (optional_result_parts (out-Sig g).result)
+result_named g h = each_right AreNamed (parameter_parts (out-Sig g).parameters) (optional_result_parts (out-Sig g).result) (parts_named (signature g) h)
 
 -- ---- what is asked of a tree names its members well
 
