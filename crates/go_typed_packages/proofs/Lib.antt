@@ -1,3 +1,5 @@
+pub mod KeptDeclarations
+pub mod KeptEnvironments
 pub mod KeptFinds
 pub mod KeptResults
 pub mod KeptRules

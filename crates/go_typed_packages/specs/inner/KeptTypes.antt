@@ -1,5 +1,6 @@
 -- Types in which all names of types and all selectors are as is said, and all struct and interface types are well formed.
-use Rattle.std.specs.Prelude.{◌≡◌, ℕ, List, Some, map}
+use Rattle.std.specs.Prelude.{◌≡◌, ℕ, List, [], Some, codes, map}
+use Rattle.go_base.specs.Keys.{first_with}
 use Rattle.go_base.specs.Lists.{Each}
 use Rattle.go_model.specs.declared.types.names.Sel.{Sel}
 use Rattle.go_model.specs.declared.types.names.TypeName.{TypeName}
@@ -20,6 +21,7 @@ use Rattle.go_model.specs.types.Terms.{Layer}
 use Rattle.go_model.specs.types.TypeNames.{names, signature_names}
 use Rattle.go_model.specs.types.TypeSelectors.{selectors, signature_selectors}
 use Rattle.go_model.specs.types.Underlying.{entry}
+use Rattle.go_model.specs.worlds.Worlds.{path_of}
 use Rattle.go_rules.specs.Environments.{Env, selector_of}
 use Rattle.go_rules.specs.Regions.{error_name}
 use Rattle.go_rules.specs.declared.operand.Operand.{Operand}
@@ -27,7 +29,15 @@ use Rattle.go_rules.specs.declared.operand.Shape.{Shape}
 use Rattle.go_rules.specs.declared.operand.Shape.TheVariants as shape
 use Rattle.go_rules.specs.declared.seen.Seen.{Seen}
 use Rattle.go_rules.specs.declared.seen.Seen.TheVariants as seen
+use Rattle.go_syntax.specs.declared.declaration.TypeSpec.{TypeSpec}
+use Rattle.go_typings.specs.Declarations.{Declared, declarations, declared, definition}
 use Rattle.go_typings.specs.PackageEnvironments.{Entries, Entry, objects, underlying, signed}
+use Rattle.go_typings.specs.Receivers.{selector}
+use Rattle.go_typings.specs.Sources.{PackageSource, Setting}
+
+-- the selector of the method of `error`
+abbrev pub error_sel : Sel
+error_sel = record { name = codes "Error"; «package» = [] }
 
 module _ (N : TypeName → Type 0) (S : Sel → Type 0) where
   -- these names, selectors, and struct and interface types may stand in a type
@@ -118,3 +128,13 @@ module _ (N : TypeName → Type 0) (S : Sel → Type 0) where
     pub meaning : (name : List ℕ) (m : Seen) → E.meaning name ≡ Some m → SeenKept m
     pub object : (path name : List ℕ) (x : Entity) → E.object path name ≡ Some x → EntityKept x
     pub entry : (n : TypeName) (d : Defined) → entry E.table n ≡ Some d → DefinedKept d
+
+  -- ---- what a package is typed over
+
+  -- the packages of the setting are kept so, and the names of the types and the selectors that the package declares
+  pub record SourceKept (s : Setting) (u : PackageSource) : Type 0 where
+    pub own : (name : List ℕ) → S (selector u.path name)
+    pub exported : S error_sel
+    pub error : N error_name
+    pub imports : (path : List ℕ) (q : Package) → first_with path_of s.world.packages path ≡ Some q → PackageKept q
+    pub types : (name : List ℕ) (w : Declared) (c : TypeSpec) → declared (declarations u) name ≡ Some w → w.form ≡ definition c → N (record { path = u.path; name = c.name.text })
