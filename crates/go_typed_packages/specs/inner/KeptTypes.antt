@@ -1,5 +1,5 @@
 -- Types in which all names of types and all selectors are as is said, and all struct and interface types are well formed.
-use Rattle.std.specs.Prelude.{◌≡◌, ℕ, List, [], Some, codes, map}
+use Rattle.std.specs.Prelude.{◌≡◌, ◌≢◌, ℕ, List, [], None, Some, codes, map}
 use Rattle.go_base.specs.Keys.{first_with}
 use Rattle.go_base.specs.Lists.{Each}
 use Rattle.go_model.specs.declared.types.names.Sel.{Sel}
@@ -17,6 +17,7 @@ use Rattle.go_model.specs.declared.types.term.Signature.{Signature}
 use Rattle.go_model.specs.declared.types.term.Term.{Term, Term-F}
 use Rattle.go_model.specs.types.Members.{AreDistinct, AreOrdered, IsWellFormed, Members, field_sel, members, signature_members}
 use Rattle.go_model.specs.types.MethodSets.{method_sel}
+use Rattle.go_model.specs.types.Tables.{Table}
 use Rattle.go_model.specs.types.Terms.{Layer}
 use Rattle.go_model.specs.types.TypeNames.{names, signature_names}
 use Rattle.go_model.specs.types.TypeSelectors.{selectors, signature_selectors}
@@ -34,6 +35,10 @@ use Rattle.go_typings.specs.Declarations.{Declared, declarations, declared, defi
 use Rattle.go_typings.specs.PackageEnvironments.{Entries, Entry, objects, underlying, signed}
 use Rattle.go_typings.specs.Receivers.{selector}
 use Rattle.go_typings.specs.Sources.{PackageSource, Setting}
+
+-- the name has an entry
+abbrev pub HasEntry : Table → TypeName → Type 0
+HasEntry T n = entry T n ≢ None
 
 -- the selector of the method of `error`
 abbrev pub error_sel : Sel
