@@ -1,5 +1,5 @@
 -- A package that is typed over a world joins it.
-use Rattle.std.proofs.Common.{◌≡◌, ◌≢◌, ℕ, Bool, true, false, List, [], ◌∷◌, Option, Some, None, map, refl, sym, ap, ◌∙◌, subst, ◌⊎◌, inl, inr}
+use Rattle.std.proofs.Common.{◌≡◌, ◌≢◌, ℕ, Bool, true, false, List, [], ◌∷◌, Option, Some, None, map, refl, sym, ap, ◌∙◌, subst, inl, inr}
 use Rattle.std.specs.Prelude.{if◌then◌else◌}
 use Rattle.std.specs.Str.{bytes_eq}
 use Rattle.std.proofs.lemmas.Slice.Eq.{bytes_eq-Decides}
@@ -9,7 +9,6 @@ use Rattle.go_model.proofs.MoreWorlds.{first_placed, more_world}
 use Rattle.go_model.specs.declared.types.names.Sel.{Sel}
 use Rattle.go_model.specs.declared.types.names.TypeName.{TypeName}
 use Rattle.go_model.specs.declared.types.package.Defined.{Defined}
-use Rattle.go_model.specs.declared.types.package.MethodOf.{MethodOf}
 use Rattle.go_model.specs.declared.types.package.Package.{Package}
 use Rattle.go_model.specs.types.Members.{IsWellFormed}
 use Rattle.go_model.specs.types.Tables.{Table}
@@ -21,10 +20,10 @@ use Rattle.go_rules.proofs.OneKind.{no_truth}
 use Rattle.go_rules.specs.Environments.{Env, is_exported}
 use Rattle.go_soundness.proofs.DeclaredForms.{is_at, own_name}
 use Rattle.go_syntax.specs.declared.declaration.TypeSpec.{TypeSpec}
-use Rattle.go_typings.proofs.Cells.{none_some, some_once}
+use Rattle.go_typings.proofs.Cells.{none_some}
 use Rattle.go_typings.specs.DeclarationRules.{Gives, gives_constants, gives_typed_variables, gives_variables, gives_alias, gives_definition, gives_function, gives_method}
 use Rattle.go_typings.specs.Declarations.{Form, definition, Declaration, Declared, declarations, declared}
-use Rattle.go_typings.specs.PackageEnvironments.{Entries, Entry, objects, underlying, signed, defined_at, defined_by, defined_with, had, own_defined, underlying_of}
+use Rattle.go_typings.specs.PackageEnvironments.{Entries, Entry, underlying, defined_at, defined_by, defined_with, had, own_defined, underlying_of}
 use Rattle.go_typings.specs.Receivers.{methods, selector}
 use Rattle.go_typings.specs.Sources.{PackageSource, Setting}
 use Rattle.go_typings.specs.TypedPackages.{AreOrdered, IsPackageOf, IsTypedAs}
@@ -32,10 +31,10 @@ use Rattle.go_typings.specs.Typings.{IsTyping}
 use Rattle.go_typed_packages.proofs.KeptEnvironments.{package_kept}
 use Rattle.go_typed_packages.proofs.KeptPackages.{close_package, resolved_of, world_kept}
 use Rattle.go_typed_packages.proofs.Lists.{absent, own_placed}
-use Rattle.go_typed_packages.proofs.Owned.{given_at}
+use Rattle.go_typed_packages.proofs.OwnDeclarations.{given_at}
 use Rattle.go_typed_packages.proofs.Shapes.{package_shaped}
 use Rattle.go_typed_packages.specs.PackageShapes.{AreResolved, HasShape, IsShaped}
-use Rattle.go_typed_packages.specs.inner.KeptTypes.{HasEntry, PackageKept, SourceKept}
+use Rattle.go_typed_packages.specs.inner.KeptTypes.{HasEntry, PackageKept}
 
 -- ---- a defined type of a typed package is had
 

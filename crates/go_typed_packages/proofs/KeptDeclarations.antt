@@ -1,5 +1,5 @@
 -- What a declaration is given is kept, where the environment is, and the members in it are named well.
-use Rattle.std.proofs.Common.{◌≡◌, ℕ, zero, suc, List, [], ◌∷◌, ◌++◌, Option, Some, map, subst}
+use Rattle.std.proofs.Common.{◌≡◌, ℕ, zero, suc, List, ◌++◌, Option, Some, map, subst}
 use Rattle.std.specs.Prelude.{replicate}
 use Rattle.go_base.specs.Lists.{Each}
 use Rattle.go_model.specs.declared.constants.value.Untyped.TheVariants as untyped

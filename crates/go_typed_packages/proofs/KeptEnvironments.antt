@@ -1,6 +1,6 @@
 -- The environments of a package's declarations are kept, where what it is typed over and its entries are; so its entries are, and
 -- the package.
-use Rattle.std.proofs.Common.{◌≡◌, ℕ, zero, suc, ◌<◌, Bool, true, false, List, [], ◌∷◌, Option, Some, None, map, refl, sym, ap, ◌∙◌, subst, inl, inr, arith}
+use Rattle.std.proofs.Common.{◌≡◌, ℕ, zero, suc, ◌<◌, false, List, [], ◌∷◌, Option, Some, None, refl, sym, ap, ◌∙◌, subst, inl, inr, arith}
 use Rattle.std.specs.Prelude.{codes, slice_get}
 use Rattle.std.specs.List.Sorted.{IsStrictlySortedBy}
 use Rattle.std.specs.Option.{option_or}
@@ -20,7 +20,7 @@ use Rattle.go_model.specs.declared.types.package.MethodOf.{MethodOf}
 use Rattle.go_model.specs.declared.types.package.Object.{Object}
 use Rattle.go_model.specs.declared.types.package.Package.{Package}
 use Rattle.go_model.specs.declared.types.term.Method.{out-roll-Method}
-use Rattle.go_model.specs.declared.types.term.Signature.{Signature, roll-Signature}
+use Rattle.go_model.specs.declared.types.term.Signature.{roll-Signature}
 use Rattle.go_model.specs.declared.types.term.Term.{Term-F, roll-Term}
 use Rattle.go_model.specs.types.Members.{AreOrdered}
 use Rattle.go_model.specs.types.MethodSets.{method_sel}
@@ -43,7 +43,7 @@ use Rattle.go_typings.proofs.OneTyping.{grows, one}
 use Rattle.go_typings.specs.Assignments.{all_of, before}
 use Rattle.go_typings.specs.Declarations.{Form, constants, variables, alias, definition, function, method, Declaration, Declared, declarations, declared}
 use Rattle.go_typings.specs.PackageEnvironments.{Entries, Entry, objects, underlying, signed, as_object, entity_at, entity_by, environment, had, import_of, meaning_at, object_of, own_defined, own_type, path_in, types_of}
-use Rattle.go_typings.specs.Receivers.{methods, selector}
+use Rattle.go_typings.specs.Receivers.{methods}
 use Rattle.go_typings.specs.Sources.{PackageSource, Setting}
 use Rattle.go_typings.specs.TypedPackages.{IsPackageOf}
 use Rattle.go_typings.specs.Typings.{IsTyping, given}
@@ -51,9 +51,9 @@ use Rattle.go_typed_packages.proofs.KeptDeclarations.{gives_kept}
 use Rattle.go_typed_packages.proofs.KeptResults.{basic_kept, signature_kept}
 use Rattle.go_typed_packages.proofs.KeptTerms.{close_term}
 use Rattle.go_typed_packages.proofs.NamedParts.{all_named}
-use Rattle.go_typed_packages.proofs.Owned.{asked_at, had_as, method_at, own_type_of}
+use Rattle.go_typed_packages.proofs.OwnDeclarations.{asked_at, had_as, method_at, own_type_of}
 use Rattle.go_typed_packages.proofs.Shapes.{type_of}
-use Rattle.go_typed_packages.specs.inner.KeptTypes.{DeclaredKept, DefinedKept, EntityKept, EntriesKept, EntryKept, EnvKept, MethodKept, PackageKept, SeenKept, SignatureKept, SourceKept, TermKept, error_sel}
+use Rattle.go_typed_packages.specs.inner.KeptTypes.{DeclaredKept, DefinedKept, EntityKept, EntriesKept, EntryKept, EnvKept, PackageKept, SeenKept, SignatureKept, SourceKept, TermKept, error_sel}
 
 -- ---- the predeclared `error`
 
@@ -71,10 +71,13 @@ module _ (N : TypeName → Type 0) (S : Sel → Type 0) where
       record {
         beneath = close_term N S (Term-F.Interface (error_method ∷ [])) (
           one_ordered (method_sel error_method) (subst (λ (x : _). IsBlank x.sel → ⊥) (sym e) error_named),
-          (record {
-            sel = subst (λ (x : _). S x.sel) (sym e) h;
-            signature = subst (λ (x : _). SignatureKept N S x.signature) (sym e) (signature_kept N S [] (roll-Term (Term-F.Plain basic.Str) ∷ []) false tt (basic_kept N S basic.Str, tt));
-          }, tt),
+          (
+            record {
+              sel = subst (λ (x : _). S x.sel) (sym e) h;
+              signature = subst (λ (x : _). SignatureKept N S x.signature) (sym e) (signature_kept N S [] (roll-Term (Term-F.Plain basic.Str) ∷ []) false tt (basic_kept N S basic.Str, tt));
+            },
+            tt,
+          ),
         );
         methods = tt;
       }

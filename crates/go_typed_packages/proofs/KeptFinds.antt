@@ -1,5 +1,5 @@
 -- What is underneath a type that is kept, and what a selector finds in it, is kept.
-use Rattle.std.proofs.Common.{◌≡◌, ℕ, zero, suc, Bool, true, false, List, [], ◌∷◌, ◌++◌, Option, Some, None, refl, sym, subst, inl, inr}
+use Rattle.std.proofs.Common.{◌≡◌, ℕ, zero, suc, Bool, true, false, [], ◌∷◌, ◌++◌, Option, Some, None, refl, sym, subst, inl, inr}
 use Rattle.std.specs.Prelude.{if◌then◌else◌}
 use Rattle.go_base.proofs.Members.{each_has, gather_of, has_split}
 use Rattle.go_base.specs.Gathered.{gather}
@@ -7,9 +7,8 @@ use Rattle.go_base.specs.Lists.{Each, Has}
 use Rattle.go_model.specs.declared.types.names.Sel.{Sel}
 use Rattle.go_model.specs.declared.types.names.TypeName.{TypeName}
 use Rattle.go_model.specs.declared.types.package.Defined.{Defined}
-use Rattle.go_model.specs.declared.types.package.MethodOf.{MethodOf}
-use Rattle.go_model.specs.declared.types.term.Field.{Field, out-Field}
-use Rattle.go_model.specs.declared.types.term.Method.{Method, out-Method}
+use Rattle.go_model.specs.declared.types.term.Field.{out-Field}
+use Rattle.go_model.specs.declared.types.term.Method.{out-Method}
 use Rattle.go_model.specs.declared.types.term.Signature.{Signature}
 use Rattle.go_model.specs.declared.types.term.Term.{Term, Term-F, out-Term}
 use Rattle.go_model.specs.types.Selectors.{Spot, Target, field, method, Ending, base_layer, base_of, declared_ending, endings, ends, field_ending, method_ending, name_of, start, start_layer, start_named, start_pointer, step, steps}

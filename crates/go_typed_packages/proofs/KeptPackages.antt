@@ -1,5 +1,5 @@
 -- What is kept of a package is kept of all names, selectors and members in its types, and the other way round.
-use Rattle.std.proofs.Common.{◌≡◌, ◌≢◌, ℕ, List, [], ◌∷◌, ◌++◌, Option, Some, None, map, sym}
+use Rattle.std.proofs.Common.{◌≡◌, ◌≢◌, ℕ, List, [], ◌∷◌, Some, None, map, sym}
 use Rattle.go_base.proofs.Members.{each_has}
 use Rattle.go_base.proofs.Ordered.{each_first}
 use Rattle.go_base.specs.Gathered.{gather}
@@ -14,7 +14,7 @@ use Rattle.go_model.specs.declared.types.package.Entity.TheVariants as entity
 use Rattle.go_model.specs.declared.types.package.MethodOf.{MethodOf}
 use Rattle.go_model.specs.declared.types.package.Object.{Object}
 use Rattle.go_model.specs.declared.types.package.Package.{Package}
-use Rattle.go_model.specs.types.Members.{IsWellFormed, members, signature_members}
+use Rattle.go_model.specs.types.Members.{members, signature_members}
 use Rattle.go_model.specs.types.Tables.{Table}
 use Rattle.go_model.specs.types.TypeNames.{names, signature_names}
 use Rattle.go_model.specs.types.TypeSelectors.{selectors, signature_selectors}

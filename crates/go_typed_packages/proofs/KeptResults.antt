@@ -15,7 +15,7 @@ use Rattle.go_model.specs.declared.types.package.ConstTerm.{ConstTerm}
 use Rattle.go_model.specs.declared.types.package.ConstTerm.TheVariants as constant
 use Rattle.go_model.specs.declared.types.package.Entity.{Entity}
 use Rattle.go_model.specs.declared.types.package.Entity.TheVariants as entity
-use Rattle.go_model.specs.declared.types.term.Signature.{Signature, Signature-F, out-Signature, out-roll-Signature}
+use Rattle.go_model.specs.declared.types.term.Signature.{out-roll-Signature}
 use Rattle.go_model.specs.declared.types.term.Term.{Term, Term-F}
 use Rattle.go_model.specs.types.Members.{AreOrdered}
 use Rattle.go_model.specs.types.Terms.{pointer_to}

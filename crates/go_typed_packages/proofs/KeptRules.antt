@@ -1,8 +1,6 @@
 -- What an expression is, and which type a type form stands for, is kept, where the environment is, and the members of struct and
 -- interface types are named well.
 use Rattle.std.proofs.Common.{◌≡◌, ℕ, Bool, true, false, List, [], ◌∷◌, ◌++◌, Option, map, refl, sym, ap, ◌∙◌, subst, inl, inr}
-use Rattle.std.specs.List.Sorted.{IsStrictlySortedBy}
-use Rattle.std.specs.Str.{bytes_eq}
 use Rattle.std.proofs.lemmas.Slice.Eq.{bytes_eq-Decides}
 use Rattle.go_base.proofs.Members.{each_has}
 use Rattle.go_base.specs.declared.operator.CompareOp.{CompareOp}
@@ -14,12 +12,12 @@ use Rattle.go_model.specs.declared.constants.value.BinaryOp.{BinaryOp}
 use Rattle.go_model.specs.declared.types.names.Sel.{Sel}
 use Rattle.go_model.specs.declared.types.names.TypeName.{TypeName}
 use Rattle.go_model.specs.declared.types.term.Direction.TheVariants as direction
-use Rattle.go_model.specs.declared.types.term.Field.{Field, out-Field, out-roll-Field}
-use Rattle.go_model.specs.declared.types.term.Method.{Method, out-Method, roll-Method, out-roll-Method}
+use Rattle.go_model.specs.declared.types.term.Field.{Field, out-roll-Field}
+use Rattle.go_model.specs.declared.types.term.Method.{Method, roll-Method, out-roll-Method}
 use Rattle.go_model.specs.declared.types.term.Signature.{Signature, out-Signature}
 use Rattle.go_model.specs.declared.types.term.Term.{Term, Term-F}
-use Rattle.go_model.specs.types.Members.{AreDistinct, AreOrdered, field_sel}
-use Rattle.go_model.specs.types.MethodSets.{method_sel, sel_order}
+use Rattle.go_model.specs.types.Members.{AreDistinct, field_sel}
+use Rattle.go_model.specs.types.MethodSets.{method_sel}
 use Rattle.go_model.specs.types.Terms.{IsBlank, Layer, blank}
 use Rattle.go_model.specs.types.Underlying.{under}
 use Rattle.go_rules.proofs.LocalParts.{each_both, each_left, each_right}
@@ -40,7 +38,7 @@ use Rattle.go_syntax.specs.declared.types.FuncResult.{FuncResult}
 use Rattle.go_syntax.specs.declared.types.InterfaceElem.{InterfaceElem, out-InterfaceElem}
 use Rattle.go_syntax.specs.declared.types.ParameterDecl.{ParameterDecl, out-ParameterDecl}
 use Rattle.go_syntax.specs.declared.types.Signature.{Signature as Sig, out-Signature as out-Sig}
-use Rattle.go_syntax.specs.declared.types.«Type».{«Type» as Typ, «out-Type» as out-Typ}
+use Rattle.go_syntax.specs.declared.types.«Type».{«Type» as Typ}
 use Rattle.go_typed_packages.proofs.KeptFinds.{found_kept, level_kept, method_kept}
 use Rattle.go_typed_packages.proofs.KeptResults.{any_kept, basic_kept, comparison_kept, computed_kept, computes_kept, converts_kept, denotes_kept, for_names_kept, imported_kept, of_kept, pointer_kept, product_kept, results_kept, signature_kept, slice_kept, sliced_kept, type_name_kept, typed_kept}
 use Rattle.go_typed_packages.proofs.KeptTerms.{close_term, open_signature}

@@ -1,5 +1,5 @@
 -- What is kept of a type is kept of each type on its level, and the other way round.
-use Rattle.std.proofs.Common.{◌≡◌, ℕ, Bool, List, [], ◌∷◌, ◌++◌, map, refl, sym, ap, ◌∙◌, subst}
+use Rattle.std.proofs.Common.{◌≡◌, List, [], ◌∷◌, ◌++◌, map, refl, sym, ap, subst}
 use Rattle.go_base.specs.Gathered.{gather}
 use Rattle.go_base.specs.Lists.{Each}
 use Rattle.go_model.proofs.WorldTypes.{each_behind, each_front}
@@ -7,7 +7,7 @@ use Rattle.go_model.specs.declared.types.names.Sel.{Sel}
 use Rattle.go_model.specs.declared.types.names.TypeName.{TypeName}
 use Rattle.go_model.specs.declared.types.term.Field.{Field, fold-Field, fold_out-Field}
 use Rattle.go_model.specs.declared.types.term.Method.{Method, fold-Method, fold_out-Method}
-use Rattle.go_model.specs.declared.types.term.Signature.{Signature, out-Signature, roll-Signature, out-roll-Signature, fold_out-Signature}
+use Rattle.go_model.specs.declared.types.term.Signature.{Signature, out-Signature, fold_out-Signature}
 use Rattle.go_model.specs.declared.types.term.Term.{Term, Term-F, out-Term, roll-Term, fold-roll-Term, fold_out-Term, map-Term}
 use Rattle.go_model.specs.types.Members.{AreDistinct, AreOrdered, IsWellFormed, Member, Members, field_member, field_sel, member_step, members, method_member, parameter_members, sel_of, signature_members, within_of}
 use Rattle.go_model.specs.types.MethodSets.{method_sel}

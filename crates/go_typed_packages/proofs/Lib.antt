@@ -8,5 +8,5 @@ pub mod KeptRules
 pub mod KeptTerms
 pub mod Lists
 pub mod NamedParts
-pub mod Owned
+pub mod OwnDeclarations
 pub mod Shapes

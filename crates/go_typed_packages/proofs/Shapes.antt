@@ -1,5 +1,5 @@
 -- A typed package has the shape that a world asks.
-use Rattle.std.proofs.Common.{◌≡◌, ◌≢◌, ℕ, Bool, true, false, List, [], ◌∷◌, Option, Some, None, map, refl, sym, ap, ◌∙◌, subst, inl, inr}
+use Rattle.std.proofs.Common.{◌≡◌, ◌≢◌, ℕ, false, List, [], ◌∷◌, Option, Some, None, map, refl, sym, ap, ◌∙◌, subst, inl, inr}
 use Rattle.std.specs.Str.{bytes_eq}
 use Rattle.std.proofs.lemmas.Slice.Eq.{bytes_eq-Decides}
 use Rattle.go_base.proofs.Ordered.{first_key}
@@ -14,7 +14,6 @@ use Rattle.go_model.specs.declared.types.package.MethodOf.{MethodOf}
 use Rattle.go_model.specs.declared.types.package.Object.{Object}
 use Rattle.go_model.specs.declared.types.package.Package.{Package}
 use Rattle.go_model.specs.declared.types.term.Term.{Term-F, out-Term, out-roll-Term}
-use Rattle.go_model.specs.types.Members.{AreOrdered}
 use Rattle.go_model.specs.types.Terms.{IsBlank, blank}
 use Rattle.go_model.specs.worlds.Worlds.{bars_methods, declared_sel, name_of, object_name, table_of, type_object}
 use Rattle.go_rules.proofs.LocalTypes.{each_made}
@@ -35,7 +34,7 @@ use Rattle.go_typings.specs.Sources.{PackageSource, Setting}
 use Rattle.go_typings.specs.TypedPackages.{AreOrdered as AreOrderedAs, IsOrdered, IsPackageOf, IsTypedAs}
 use Rattle.go_typings.specs.Typings.{IsTyping}
 use Rattle.go_typed_packages.specs.PackageShapes.{HasShape, IsShaped}
-use Rattle.go_typed_packages.proofs.Owned.{HadAs, MethodAt, OwnType, asked_at, given_at, had_as, is_named_method, method_at, own_type_of}
+use Rattle.go_typed_packages.proofs.OwnDeclarations.{OwnType, asked_at, given_at, had_as, is_named_method, method_at, own_type_of}
 
 -- ---- what is underneath
 

@@ -23,9 +23,10 @@ pub record IsShaped (d : Defined) : Type 0 where
   -- with a pointer or an interface underneath it has no method
   pub bare : bars_methods (out-Term d.underlying) ≡ true → d.methods ≡ []
   -- no method has the name of a field of the struct underneath
-  pub apart : (m : MethodOf) (f : Field) → Has d.methods m → Has (fields_of (out-Term d.underlying)) f → (out-Field f).sel.name ≢ m.sel.name
+  pub apart : (m : MethodOf) (f : Field) → Has d.methods m → Has (fields_of (out-Term d.underlying)) f
+      → (out-Field f).sel.name ≢ m.sel.name
 
--- a package by its shape: all that a world asks of it besides the types that stand in it
+-- a package by its shape: all that a world asks of it besides its path and the types that stand in it
 pub record HasShape (p : Package) : Type 0 where
   -- its objects and its defined types are in order of their names, each name once
   pub objects : Ascending (map object_name p.objects)

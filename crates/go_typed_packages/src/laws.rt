@@ -18,22 +18,26 @@ pub fn shaped()
 
 /// Each name in the types of a package that is typed over a world, with a path of its own, has an entry among the packages of the
 /// world and the package.
-pub fn resolved()
-    ensures { (s : Setting) (u : PackageSource) (p : Package) (public : Bool) → IsWorld s.world → first_with path_of s.world.packages u.path ≡ None → IsTypedAs s u p → AreResolved (table_of (with_package s.world p public).packages) p }
+pub fn resolves()
+    ensures { (s : Setting) (u : PackageSource) (p : Package) (public : Bool) → IsWorld s.world
+        → first_with path_of s.world.packages u.path ≡ None → IsTypedAs s u p → AreResolved (table_of (with_package s.world p public).packages) p }
 {}
 
 /// Each selector in a package that is typed over a world is exported, or of the package itself or of one of the world.
 pub fn owned()
-    ensures { (s : Setting) (u : PackageSource) (p : Package) → IsWorld s.world → IsTypedAs s u p → Each (IsOwned (p.path ∷ map path_of s.world.packages)) (package_selectors p) }
+    ensures { (s : Setting) (u : PackageSource) (p : Package) → IsWorld s.world → IsTypedAs s u p
+        → Each (IsOwned (p.path ∷ map path_of s.world.packages)) (package_selectors p) }
 {}
 
 /// In each struct type of a package that is typed over a world the names of fields are distinct, and in each interface type methods
 /// are in order, none of them blank.
 pub fn formed()
-    ensures { (s : Setting) (u : PackageSource) (p : Package) → IsWorld s.world → IsTypedAs s u p → Each IsWellFormed (package_members p) }
+    ensures { (s : Setting) (u : PackageSource) (p : Package) → IsWorld s.world → IsTypedAs s u p
+        → Each IsWellFormed (package_members p) }
 {}
 
 /// A package that is typed over the packages of a world, with a path of its own, may join them.
 pub fn joins_world()
-    ensures { (s : Setting) (u : PackageSource) (p : Package) (public : Bool) → IsWorld s.world → u.path ≢ [] → u.path ≢ client_path → first_with path_of s.world.packages u.path ≡ None → IsTypedAs s u p → IsWorld (with_package s.world p public) }
+    ensures { (s : Setting) (u : PackageSource) (p : Package) (public : Bool) → IsWorld s.world → u.path ≢ [] → u.path ≢ client_path
+        → first_with path_of s.world.packages u.path ≡ None → IsTypedAs s u p → IsWorld (with_package s.world p public) }
 {}

@@ -142,4 +142,5 @@ module _ (N : TypeName → Type 0) (S : Sel → Type 0) where
     pub exported : S error_sel
     pub error : N error_name
     pub imports : (path : List ℕ) (q : Package) → first_with path_of s.world.packages path ≡ Some q → PackageKept q
-    pub types : (name : List ℕ) (w : Declared) (c : TypeSpec) → declared (declarations u) name ≡ Some w → w.form ≡ definition c → N (record { path = u.path; name = c.name.text })
+    pub types : (name : List ℕ) (w : Declared) (c : TypeSpec) → declared (declarations u) name ≡ Some w → w.form ≡ definition c
+        → N (record { path = u.path; name = c.name.text })
