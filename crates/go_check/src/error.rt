@@ -1,4 +1,5 @@
 //! Why a package is refused.
+use go_base::memory::NoMemory;
 use go_syntax::name::Place;
 use thiserror::Error;
 
@@ -16,4 +17,15 @@ pub enum CheckError {
     Unsound(Place),
     #[error("out of memory")]
     NoMemory,
+}
+
+impl From<NoMemory> for CheckError {
+    ghost use Rattle.std.specs.Prelude.{◌≡◌};
+    ghost use Rattle.go_check.specs.declared.error.CheckError.TheVariants.{NoMemory};
+
+    ghost from_gives = { λ _ e. e ≡ NoMemory };
+
+    fn from(_: NoMemory) -> CheckError {
+        CheckError::NoMemory
+    }
 }

@@ -1,6 +1,9 @@
 //! Checks a package: its typing, or the first thing for which it is refused.
 #![tactic(auto)]
 
+mod answer;
 pub mod check;
+mod entered;
 pub mod error;
+mod lost;
 mod places;
