@@ -1,5 +1,5 @@
 //! Which declarations have an entry.
-ghost use Rattle.std.specs.Prelude.{◌≡◌, length, IfOk};
+ghost use Rattle.std.specs.Prelude.{◌≡◌, length, true, IfOk};
 ghost use Rattle.go_check.specs.inner.Entered.{entered};
 ghost use Rattle.go_graphs.specs.Flags.{AreFlagsOf};
 ghost use Rattle.go_had_entries.specs.HadEntries.{entries_at};
