@@ -1,0 +1,66 @@
+-- The scopes that are made keep what is had of a package with no entry.
+use Rattle.std.proofs.Common.{◌≡◌, ℕ, Bool, List, [], map, Option, None, Some, refl, sym, ap, ◌∙◌, subst}
+use Rattle.go_declared.specs.MethodTables.{AreMethods}
+use Rattle.go_declared.specs.NameTables.{AreDeclared}
+use Rattle.go_declared.specs.declared.methods.MethodRow.{MethodRow}
+use Rattle.go_declared.specs.declared.names.NamePlace.{NamePlace}
+use Rattle.go_model.specs.worlds.Worlds.{Packages}
+use Rattle.go_package_scopes.specs.KeptScopes.{Keeps, Shows}
+use Rattle.go_rules.specs.Names.{Named}
+use Rattle.go_rules.specs.Scopes.{new_scopes, Scopes}
+use Rattle.go_typings.specs.Declarations.{alias, constants, declarations, declared, Declaration, Declared, definition, Form, function, method, variables}
+use Rattle.go_typings.specs.PackageEnvironments.{defined_at, Entries}
+use Rattle.go_typings.specs.Receivers.{methods}
+use Rattle.go_typings.specs.Sources.{PackageSource, Setting}
+use Rattle.go_new_scopes.proofs.AnnouncedNames.{announced_names}
+use Rattle.go_new_scopes.proofs.AwaitedSelectors.{awaited_at_first}
+use Rattle.go_new_scopes.proofs.ImportTables.{imports_of_files}
+use Rattle.go_new_scopes.proofs.TypeObjects.{objects_at_first}
+use Rattle.go_new_scopes.specs.inner.Announced as announced
+use Rattle.go_new_scopes.specs.inner.AwaitedMethods as awaited
+use Rattle.go_new_scopes.specs.inner.FileImports.{with_files}
+use Rattle.go_new_scopes.specs.inner.OwnTypes as types
+
+no_entries : Entries
+no_entries number = None
+
+module _ (s : Setting) (u : PackageSource) (names : Named NamePlace) (methods_at : Named (List MethodRow)) where
+  abbrev pub made : List Declaration → Scopes
+  made ds = record (new_scopes s.world u.path s.bits s.profile) {
+    imports = with_files 0 [] u.files;
+    announced = announced.with_declarations names [] ds;
+    declared = types.with_declarations u.path names [] 0 ds;
+    awaited = awaited.with_declarations ds u.path names methods_at [] 0 ds;
+  }
+
+  -- no type is had
+  no_type : (type : List ℕ) (o : Option Declared) → Shows (λ number. None) (methods u type) (defined_at u (λ number. None) type o) None
+  no_type type None = tt
+  no_type type (Some w) = by w.form
+    where
+      by : (f : Form) → Shows (λ number. None) (methods u type) (defined_at u (λ number. None) type (Some (record { number = w.number; form = f; place = w.place }))) None
+      by (constants x place) = tt
+      by (variables x) = tt
+      by (alias x) = tt
+      by (definition x) = tt
+      by (function x) = tt
+      by (method receiver x) = tt
+
+  kept : AreDeclared (declarations u) names → AreMethods (declarations u) methods_at → Keeps s u (λ number. None) (made (declarations u))
+  kept are rows = record {
+    world = refl;
+    path = refl;
+    bits = refl;
+    profile = refl;
+    opened = refl;
+    imports = λ file name. imports_of_files file name u.files;
+    announced = λ name. announced_names names name (declarations u) are;
+    objects = λ name. objects_at_first u.path names name (declarations u) are;
+    awaited = λ type. awaited_at_first u names methods_at type are rows;
+    types = λ type. no_type type (declared (declarations u) type);
+  }
+
+  pub kept_at_first : (ds : List Declaration) (c : Scopes) → ds ≡ declarations u → AreDeclared ds names → AreMethods ds methods_at → c ≡ made ds → Keeps s u (λ number. None) c
+  kept_at_first ds c listed are rows is =
+      subst (λ (x : Scopes). Keeps s u (λ number. None) x) (sym (is ∙ ap made listed))
+      (kept (subst (λ (xs : List Declaration). AreDeclared xs names) listed are) (subst (λ (xs : List Declaration). AreMethods xs methods_at) listed rows))
