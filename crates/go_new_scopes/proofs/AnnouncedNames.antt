@@ -97,7 +97,10 @@ module _ (names : Named NamePlace) (q : List ℕ) where
   same_some None = refl
   same_some (Some d) = refl
 
-  by_left_out : (b : Bool) (o : Option Declared) → (is_some o && is_some (if b then None else o)) ≡ is_some {A = Declared} (if b then None else o)
+  abbrev unless : Bool → Option Declared → Option Declared
+  unless b o = if b then None else o
+
+  by_left_out : (b : Bool) (o : Option Declared) → (is_some o && is_some (unless b o)) ≡ is_some (unless b o)
   by_left_out true o = and_false (is_some o)
   by_left_out false o = and_itself (is_some o)
 

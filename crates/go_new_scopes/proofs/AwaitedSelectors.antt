@@ -19,7 +19,7 @@ use Rattle.go_rules.specs.Expressions.{is_blank}
 use Rattle.go_rules.specs.Names.{Named, items_at, value_at, with_value}
 use Rattle.go_syntax.specs.declared.types.ParameterDecl.{ParameterDecl}
 use Rattle.go_typings.specs.Declarations.{alias, constants, declarations, declared, Declaration, Declared, definition, Form, function, method, variables}
-use Rattle.go_typings.specs.Receivers.{base, is_named, is_selectable, method_by, methods_from, selector}
+use Rattle.go_typings.specs.Receivers.{base, DeclaredMethod, is_named, is_pointer_form, is_selectable, method_by, methods_from, receiver_form, selector}
 use Rattle.go_typings.specs.Sources.{PackageSource}
 use Rattle.go_new_scopes.proofs.OwnDeclarations.{is_definition, names_type, own_by, own_first, own_from, own_past}
 use Rattle.go_new_scopes.specs.inner.AwaitedMethods.{with_declarations, with_form, with_method, with_rows}
@@ -50,6 +50,9 @@ module _ (ds : List Declaration) (type : List ℕ) where
           same true h = absurd (true≢false (sym (base_declared receiver (e ∙ ap (λ (x : List ℕ). Some x) ((bytes_decides k type).0 h))) ∙ n))
           same false h = refl
 
+abbrev only_if : Bool → DeclaredMethod → List DeclaredMethod
+only_if b m = if b then m ∷ [] else []
+
 module _ (u : PackageSource) (type : List ℕ) (n : names_type (declared (declarations u) type) ≡ false) where
   none_by : (number : ℕ) (f : Form) → method_by u type number f ≡ []
   none_by number (constants s place) = refl
@@ -57,7 +60,8 @@ module _ (u : PackageSource) (type : List ℕ) (n : names_type (declared (declar
   none_by number (alias s) = refl
   none_by number (definition s) = refl
   none_by number (function f) = refl
-  none_by number (method receiver f) = ap (λ b. if b then _ ∷ [] else []) (other_base (declarations u) type receiver n)
+  none_by number (method receiver f) =
+      ap (λ b. only_if b (record { number = number; sel = selector u.path f.name.text; pointer = is_pointer_form (receiver_form receiver) })) (other_base (declarations u) type receiver n)
 
   none_from : (number : ℕ) (ds : List Declaration) → methods_from u type number ds ≡ []
   none_from number [] = refl

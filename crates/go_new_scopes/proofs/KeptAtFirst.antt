@@ -9,9 +9,9 @@ use Rattle.go_package_scopes.specs.KeptScopes.{Keeps, Shows}
 use Rattle.go_rules.specs.Names.{Named}
 use Rattle.go_rules.specs.Scopes.{new_scopes, Scopes}
 use Rattle.go_typings.specs.Declarations.{alias, constants, declarations, declared, Declaration, Declared, definition, Form, function, method, variables}
-use Rattle.go_typings.specs.PackageEnvironments.{defined_at, Entries}
+use Rattle.go_typings.specs.PackageEnvironments.{defined_at}
 use Rattle.go_typings.specs.Receivers.{methods}
-use Rattle.go_typings.specs.Sources.{PackageSource, Setting}
+use Rattle.go_typings.specs.Sources.{PackageSource, Setting, SourceFile}
 use Rattle.go_new_scopes.proofs.AnnouncedNames.{announced_names}
 use Rattle.go_new_scopes.proofs.AwaitedSelectors.{awaited_at_first}
 use Rattle.go_new_scopes.proofs.ImportTables.{imports_of_files}
@@ -20,9 +20,6 @@ use Rattle.go_new_scopes.specs.inner.Announced as announced
 use Rattle.go_new_scopes.specs.inner.AwaitedMethods as awaited
 use Rattle.go_new_scopes.specs.inner.FileImports.{with_files}
 use Rattle.go_new_scopes.specs.inner.OwnTypes as types
-
-no_entries : Entries
-no_entries number = None
 
 module _ (s : Setting) (u : PackageSource) (names : Named NamePlace) (methods_at : Named (List MethodRow)) where
   abbrev pub made : List Declaration → Scopes
@@ -64,3 +61,17 @@ module _ (s : Setting) (u : PackageSource) (names : Named NamePlace) (methods_at
   kept_at_first ds c listed are rows is =
       subst (λ (x : Scopes). Keeps s u (λ number. None) x) (sym (is ∙ ap made listed))
       (kept (subst (λ (xs : List Declaration). AreDeclared xs names) listed are) (subst (λ (xs : List Declaration). AreMethods xs methods_at) listed rows))
+
+  -- the scopes that are made step by step
+  pub made_in_turn : (ds : List Declaration) (path : List ℕ) (files : List SourceFile) (new filed announced' declared' awaited' : Scopes) → path ≡ u.path → files ≡ u.files → new ≡ new_scopes s.world path s.bits s.profile
+      → filed ≡ record new { imports = with_files 0 new.imports files }
+      → announced' ≡ record filed { announced = announced.with_declarations names filed.announced ds }
+      → declared' ≡ record announced' { declared = types.with_declarations announced'.path names announced'.declared 0 ds }
+      → awaited' ≡ record declared' { awaited = awaited.with_declarations ds declared'.path names methods_at declared'.awaited 0 ds }
+      → awaited' ≡ made ds
+  made_in_turn ds path files new filed announced' declared' awaited' p f e1 e2 e3 e4 e5 =
+      e5 ∙ ap (λ (c : Scopes). record c { awaited = awaited.with_declarations ds c.path names methods_at c.awaited 0 ds })
+      (e4 ∙ ap (λ (c : Scopes). record c { declared = types.with_declarations c.path names c.declared 0 ds })
+      (e3 ∙ ap (λ (c : Scopes). record c { announced = announced.with_declarations names c.announced ds })
+      (e2 ∙ ap (λ (c : Scopes). record c { imports = with_files 0 c.imports files }) (e1 ∙ ap (λ (k : List ℕ). new_scopes s.world k s.bits s.profile) p)
+      ∙ ap (λ (fs : List SourceFile). record (new_scopes s.world u.path s.bits s.profile) { imports = with_files 0 [] fs }) f)))

@@ -24,10 +24,13 @@ abbrev pub names_type : Option Declared → Bool
 names_type None = false
 names_type (Some d) = is_definition d.form
 
+abbrev zero_if : Bool → Option ℕ
+zero_if b = if b then Some 0 else None
+
 no_name : (n q : List ℕ) → place_from 0 (n ∷ []) q ≡ None → bytes_eq n q ≡ false
 no_name n q e = by (bytes_eq n q) refl e
   where
-    by : (b : Bool) → bytes_eq n q ≡ b → (if b then Some 0 else None) ≡ None → b ≡ false
+    by : (b : Bool) → bytes_eq n q ≡ b → zero_if b ≡ None → b ≡ false
     by true h f = none_some {A = ℕ} (Some 0) 0 f refl
     by false h f = refl
 

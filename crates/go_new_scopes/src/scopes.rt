@@ -5,7 +5,7 @@ ghost use Rattle.go_declared.specs.MethodTables.{AreMethods};
 ghost use Rattle.go_declared.specs.NameTables.{AreDeclared};
 ghost use Rattle.go_package_scopes.specs.KeptScopes.{Keeps};
 ghost use Rattle.go_sources.specs.UnitSources.{source_of};
-ghost use Rattle.go_typings.specs.Declarations.{declarations};
+ghost use Rattle.go_typings.specs.Declarations as declared;
 
 use crate::announced::announce;
 use crate::awaited_methods::await_methods;
@@ -37,7 +37,7 @@ pub fn new_scopes<'w>(
     methods: &DeclaredMethods,
 ) -> Result<Env<'w>, NoMemory>
     requires bits { (bits ≡ 32) ⊎ (bits ≡ 64) }
-    requires listed { declarations_of declarations.now ≡ declarations (source_of unit.now) }
+    requires listed { declarations_of declarations.now ≡ declared.declarations (source_of unit.now) }
     requires names { AreDeclared (declarations_of declarations.now) names.now }
     requires methods { AreMethods (declarations_of declarations.now) methods.now }
     ensures { IfOk result (Keeps (record { world = world.now; bits = bits; profile = profile }) (source_of unit.now) (λ number. None)) }
