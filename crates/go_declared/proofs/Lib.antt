@@ -2,3 +2,4 @@ pub mod Aliases
 pub mod Declared
 pub mod Stands
 pub mod ToldMethods
+pub mod BaseTypes

@@ -5,7 +5,7 @@ ghost use Rattle.go_declarations.specs.Listings.{declarations_of};
 ghost use Rattle.go_rules.specs.Names.{value_at, with_value};
 ghost use Rattle.go_typings.specs.Declarations.{is_init, names_of};
 ghost use Rattle.go_rules.specs.Expressions.{is_blank};
-ghost use Rattle.go_declared.specs.NameTables.{AreDeclared};
+ghost use Rattle.go_declared.specs.NameTables.{AreDeclared, is_first};
 ghost use Rattle.go_declared.specs.inner.Adding.{with_first, with_names};
 
 use go_base::memory::NoMemory;
@@ -71,6 +71,16 @@ impl DeclaredNames {
         ensures { result ≡ value_at self.now name.now }
     {
         self.entries.get(name).copied()
+    }
+
+    /// Whether the declaration of this number is the first that declares a name.
+    pub fn is_first(&self, number: usize, name: &[u8]) -> bool
+        ensures { result ≡ is_first self.now number name.now }
+    {
+        match self.get(name) {
+            None => false,
+            Some(place) => place.number == number,
+        }
     }
 
     fn has(&self, name: &[u8]) -> bool
