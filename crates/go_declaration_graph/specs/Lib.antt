@@ -1,0 +1,2 @@
+pub mod DeclarationRows
+pub mod inner

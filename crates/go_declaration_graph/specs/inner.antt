@@ -1,0 +1,4 @@
+pub mod FieldKeys
+pub mod MethodNumbers
+pub mod Numbers
+pub mod Rows

@@ -1,0 +1,10 @@
+//! What the declarations of a package have to do with one another, as rows of numbers.
+#![tactic(auto)]
+
+mod field_keys;
+pub mod graph;
+mod method_index;
+mod numbers;
+mod references;
+mod rows;
+mod trees;
