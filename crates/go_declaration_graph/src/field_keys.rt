@@ -1,13 +1,10 @@
 //! The names in a declaration that are keys of struct literals, as a set.
-ghost use Rattle.std.specs.Prelude.{◌≡◌, map, IfOk, OnOk};
+ghost use Rattle.std.specs.Prelude.{◌≡◌, IfOk, OnOk};
 ghost use Rattle.go_base.specs.Growing.{Grows};
-ghost use Rattle.go_base.specs.Lists.{Has};
 ghost use Rattle.go_declarations.specs.Forms.{form_of};
-ghost use Rattle.go_leads.specs.Listed.{names_of};
 ghost use Rattle.go_leads.specs.inner.Some.{SomeIn};
-ghost use Rattle.go_nodes.specs.Trees.{node_of};
 ghost use Rattle.go_rules.specs.Scopes.{env_of};
-ghost use Rattle.go_declaration_graph.specs.inner.FieldKeys.{AreFieldKeys, KeysField, is_among, key_of};
+ghost use Rattle.go_declaration_graph.specs.inner.FieldKeys.{AreFieldKeys, IsKeyOf, KeysField, is_among, key_of};
 
 use crate::trees::trees;
 use go_base::memory::NoMemory;
@@ -45,7 +42,7 @@ fn add(alloc: Global, keys: &mut BTreeSet<FieldKey>, name: &Name) -> Result<(), 
 }
 
 fn add_all(alloc: Global, keys: &mut BTreeSet<FieldKey>, names: &[&Name]) -> Result<(), NoMemory>
-    ensures { OnOk result (Grows (λ k. Has (map key_of (names_of names.now)) k) keys.old.keys keys.new.keys) }
+    ensures { OnOk result (Grows (SomeIn IsKeyOf names.now) keys.old.keys keys.new.keys) }
 {
     for name in names {
         add(alloc, keys, *name)?;
@@ -60,7 +57,7 @@ fn add_in(
     tree: Tree<'_>,
     keys: &mut BTreeSet<FieldKey>,
 ) -> Result<(), NoMemory>
-    ensures { OnOk result (Grows (KeysField (env_of env.now) (node_of tree.entry)) keys.old.keys keys.new.keys) }
+    ensures { OnOk result (Grows (KeysField (env_of env.now) tree.entry) keys.old.keys keys.new.keys) }
 {
     let names = keys_in(env, alloc, tree)?;
     add_all(alloc, keys, names.items())
@@ -73,7 +70,7 @@ fn add_in_each(
     trees: &[Tree<'_>],
     keys: &mut BTreeSet<FieldKey>,
 ) -> Result<(), NoMemory>
-    ensures { OnOk result (Grows (SomeIn (KeysField (env_of env.now)) (map node_of trees.now)) keys.old.keys keys.new.keys) }
+    ensures { OnOk result (Grows (SomeIn (KeysField (env_of env.now)) trees.now) keys.old.keys keys.new.keys) }
 {
     for tree in trees {
         add_in(env, alloc, *tree, keys)?;

@@ -7,7 +7,7 @@ ghost use Rattle.go_package_scopes.specs.KeptScopes.{IsMoved};
 ghost use Rattle.go_package_scopes.specs.PackageScopes.{IsScopeOf, at_declaration};
 ghost use Rattle.go_rules.specs.Scopes.{env_of};
 ghost use Rattle.go_sifting.specs.Graphs.{IsGraphOf};
-ghost use Rattle.go_typings.specs.Declarations.{declarations};
+ghost use Rattle.go_typings.specs.Declarations.{declarations as declarations_in};
 ghost use Rattle.go_typings.specs.PackageEnvironments.{Entries};
 ghost use Rattle.go_typings.specs.Sources.{PackageSource, Setting};
 ghost use Rattle.go_declaration_graph.specs.declared.rows.DeclarationRows.{DeclarationRows as Rows};
@@ -98,7 +98,7 @@ fn add_declarations(
 
 /// What the declarations of a package have to do with one another, where the environment has what is had of it. `names`
 /// tells where they declare names, and `methods` which methods they declare. The file in turn and the value of `iota`
-/// change. A package of more than 4,294,967,296 declarations is one without memory.
+/// change. For numbers past 32 bits there is no memory.
 pub fn graph(
     alloc: Global,
     env: &mut Env<'_>,
@@ -108,7 +108,7 @@ pub fn graph(
 ) -> Result<DeclarationGraph, NoMemory>
     requires names { AreDeclared (declarations_of declarations.now) names.now }
     requires methods { AreMethods (declarations_of declarations.now) methods.now }
-    ensures graph { (s : Setting) (u : PackageSource) (a : Entries) → declarations u ≡ declarations_of declarations.now → u.path ≢ [] → IsScopeOf s u a env.old → IfOk result (λ g. IsGraphOf s u a g) }
+    ensures graph { (s : Setting) (u : PackageSource) (a : Entries) → declarations_in u ≡ declarations_of declarations.now → u.path ≢ [] → IsScopeOf s u a env.old → IfOk result (λ g. IsGraphOf s u a g) }
     ensures moved { IsMoved env.old env.new }
 {
     let index = MethodIndex::of(alloc, declarations, methods)?;

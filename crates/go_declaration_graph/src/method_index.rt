@@ -2,7 +2,7 @@
 ghost use Rattle.std.specs.Prelude.{◌≡◌, ◌++◌, ◌∷◌, [], map, IfOk, OnOk};
 ghost use Rattle.go_declarations.specs.Forms.{form_of};
 ghost use Rattle.go_declarations.specs.Listings.{declarations_of};
-ghost use Rattle.go_declared.specs.MethodTables.{method_name};
+ghost use Rattle.go_declared.specs.MethodTables.{method_name, name_by};
 ghost use Rattle.go_rules.specs.Expressions.{is_blank};
 ghost use Rattle.go_rules.specs.Names.{items_at, with_value};
 ghost use Rattle.go_declaration_graph.specs.inner.MethodNumbers.{numbers_at, table_by, tables_from, tables_of, with_number, with_rows};

@@ -4,9 +4,8 @@ ghost use Rattle.go_base.specs.Gathered.{gather};
 ghost use Rattle.go_base.specs.Growing.{Grows};
 ghost use Rattle.go_declarations.specs.Forms.{form_of};
 ghost use Rattle.go_leads.specs.inner.Some.{SomeIn};
-ghost use Rattle.go_nodes.specs.Trees.{node_of};
 ghost use Rattle.go_rules.specs.Scopes.{env_of};
-ghost use Rattle.go_declaration_graph.specs.inner.Numbers.{FindsNumber, counted, found, named, names_field, number_of, own_methods};
+ghost use Rattle.go_declaration_graph.specs.inner.Numbers.{FindsNumberIn, counted, found, named, names_field, number_of, own_methods};
 
 use crate::field_keys::{FieldKey, is_among};
 use crate::method_index::MethodIndex;
@@ -22,7 +21,7 @@ use go_rules::env::Env;
 use std::alloc::Global;
 use std::collections::BTreeSet;
 
-/// A number of a declaration as rows hold it. There is no memory for more of them.
+/// The number of a declaration as rows hold it; for one past 32 bits there is no memory.
 pub(crate) fn to_number(number: usize) -> Result<u32, NoMemory>
     ensures { IfOk result (λ n. n ≡ number) }
 {
@@ -188,7 +187,7 @@ fn push_found_in(
     index: &MethodIndex,
     tree: Tree<'_>,
 ) -> Result<(), NoMemory>
-    ensures { OnOk result (Grows (FindsNumber (env_of env.now) names.now index.now.tables (node_of tree.entry)) row.old row.new) }
+    ensures { OnOk result (Grows (FindsNumberIn (env_of env.now) names.now index.now.tables tree.entry) row.old row.new) }
 {
     let methods = found_methods(env, alloc, tree)?;
     push_all_found(row, env.path(), names, index, methods.items())
@@ -203,7 +202,7 @@ pub(crate) fn push_found_in_each(
     index: &MethodIndex,
     trees: &[Tree<'_>],
 ) -> Result<(), NoMemory>
-    ensures { OnOk result (Grows (SomeIn (FindsNumber (env_of env.now) names.now index.now.tables) (map node_of trees.now)) row.old row.new) }
+    ensures { OnOk result (Grows (SomeIn (FindsNumberIn (env_of env.now) names.now index.now.tables) trees.now) row.old row.new) }
 {
     for tree in trees {
         push_found_in(env, alloc, row, names, index, *tree)?;

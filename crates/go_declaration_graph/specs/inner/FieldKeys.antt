@@ -1,9 +1,12 @@
 -- The names in a declaration that are keys of struct literals, as a set.
 -- Public source: Go specification, "Composite literals".
-use Rattle.std.specs.Prelude.{ℕ, Bool, ◌&&◌, nat_eq, ◌↔◌, List}
+use Rattle.std.specs.Prelude.{◌≡◌, ◌↔◌, Bool, ◌&&◌, nat_eq, List}
+use denote.Ref.{Bor}
 use Rattle.std.specs.List.{list_any}
 use Rattle.std.specs.Str.{bytes_eq}
 use Rattle.go_base.specs.Lists.{Has}
+use Rattle.go_nodes.specs.Trees.{node_of}
+use Rattle.go_nodes.specs.declared.tree.Tree.{Tree}
 use Rattle.go_rules.specs.Environments.{Env}
 use Rattle.go_rules.specs.Nodes.{Node}
 use Rattle.go_syntax.specs.declared.name.Name.{Name}
@@ -25,9 +28,13 @@ is_key_of n k = nat_eq n.place k.place && bytes_eq n.text k.text
 abbrev pub is_among : Name → List FieldKey → Bool
 is_among n keys = list_any (is_key_of n) keys
 
+-- the key is that of the name
+abbrev pub IsKeyOf : Bor Name → FieldKey → Type 0
+IsKeyOf n k = key_of n.now ≡ k
+
 -- the key is that of a field in the tree
-abbrev pub KeysField : Env → Node → FieldKey → Type 0
-KeysField E at k = IsFieldKey E at (name_of k)
+abbrev pub KeysField : Env → Tree → FieldKey → Type 0
+KeysField E t k = IsFieldKey E (node_of t) (name_of k)
 
 -- the name is the key of a field in a tree of the declaration
 abbrev pub IsFieldKeyIn : Env → Form → Name → Type 0

@@ -9,6 +9,8 @@ use Rattle.go_declared.specs.declared.names.NamePlace.{NamePlace}
 use Rattle.go_leads.specs.Methods.{found_in}
 use Rattle.go_leads.specs.inner.Some.{SomeIn}
 use Rattle.go_leads.specs.declared.methods.FoundMethod.{FoundMethod}
+use Rattle.go_nodes.specs.Trees.{node_of}
+use Rattle.go_nodes.specs.declared.tree.Tree.{Tree}
 use Rattle.go_references.specs.declared.references.Reference.{Reference}
 use Rattle.go_rules.specs.Environments.{Env}
 use Rattle.go_rules.specs.Names.{Named, items_at, value_at}
@@ -50,6 +52,9 @@ found path names tables m = if bytes_eq m.owner.path path then numbers_at tables
 -- the number is that of a method of the package that is found in the tree
 abbrev pub FindsNumber : Env → Named NamePlace → List Numbered → Node → ℕ → Type 0
 FindsNumber E names tables at n = (m : FoundMethod) × found_in E at m × Has (found E.path names tables m) n
+
+abbrev pub FindsNumberIn : Env → Named NamePlace → List Numbered → Tree → ℕ → Type 0
+FindsNumberIn E names tables t n = FindsNumber E names tables (node_of t) n
 
 -- ---- the rows of a declaration
 

@@ -17,19 +17,24 @@ use Rattle.go_declaration_graph.specs.DeclarationRows.{AreRowsOf}
 use Rattle.go_declaration_graph.specs.declared.rows.DeclarationRows.{DeclarationRows}
 use Rattle.go_declaration_graph.specs.inner.MethodNumbers.{Numbered, tables_of}
 
-module _ (names : Named NamePlace) (methods : Named (List MethodRow)) (tables : List Numbered) where
+-- the rows of the declaration of a number
+abbrev pub rows_at : DeclarationGraph → ℕ → DeclarationRows
+rows_at g n = record { depends = row_of g.depends n; leads = row_of g.leads n; after = row_of g.after n; lengths = row_of g.lengths n }
+
+-- the rows of one declaration more
+abbrev pub with_rows : DeclarationGraph → DeclarationRows → DeclarationGraph
+with_rows g r = record { depends = g.depends ++ r.depends ∷ []; leads = g.leads ++ r.leads ∷ []; after = g.after ++ r.after ∷ []; lengths = g.lengths ++ r.lengths ∷ [] }
+
+module _ (declared_at : Named NamePlace) (methods_of : Named (List MethodRow)) (numbered : List Numbered) where
   -- the tables tell what the package's declarations declare
   pub record Tell (u : PackageSource) : Type 0 where
-    pub names : AreDeclared (declarations u) names
-    pub methods : AreMethods (declarations u) methods
-    pub tables : tables ≡ tables_of (declarations u) methods
+    pub names : AreDeclared (declarations u) declared_at
+    pub methods : AreMethods (declarations u) methods_of
+    pub tables : numbered ≡ tables_of (declarations u) methods_of
 
   -- the rows are those of the declaration, whatever the package that the tables tell of
   abbrev pub AreRowsIn : Env → Form → DeclarationRows → Type 0
   AreRowsIn E f r = (u : PackageSource) → u.path ≡ E.path → Tell u → AreRowsOf E u f r
-
-  abbrev pub rows_at : DeclarationGraph → ℕ → DeclarationRows
-  rows_at g n = record { depends = row_of g.depends n; leads = row_of g.leads n; after = row_of g.after n; lengths = row_of g.lengths n }
 
   -- the graph has the rows of so many declarations, each in its environment
   pub record HasRows (c : Scopes) (ds : List Declaration) (count : ℕ) (g : DeclarationGraph) : Type 0 where
@@ -38,6 +43,3 @@ module _ (names : Named NamePlace) (methods : Named (List MethodRow)) (tables : 
     pub after : length g.after ≡ count
     pub lengths : length g.lengths ≡ count
     pub rows : (n : ℕ) (d : Declaration) → n < count → slice_get ds n ≡ Some d → AreRowsIn (env_of (at_declaration c d)) d.form (rows_at g n)
-
-abbrev pub with_rows : DeclarationGraph → DeclarationRows → DeclarationGraph
-with_rows g r = record { depends = g.depends ++ r.depends ∷ []; leads = g.leads ++ r.leads ∷ []; after = g.after ++ r.after ∷ []; lengths = g.lengths ++ r.lengths ∷ [] }
