@@ -1,1 +1,14 @@
 pub mod SameEnvironments
+pub mod WholeRegion
+pub mod SameAnswers
+pub mod DeclaredNames
+pub mod NumberedMethods
+pub mod ShownMethods
+pub mod OneMoreEntry
+pub mod UnderlyingTypes
+pub mod Tables
+pub mod ScopesOf
+pub mod KeptScopes
+pub mod KeptObjects
+pub mod KeptTypes
+pub mod KeptMethods
