@@ -14,6 +14,7 @@ use Rattle.go_graphs.specs.Walks.{row_of}
 use Rattle.go_graphs.proofs.Pushed.{get_pushed}
 use Rattle.go_leads.specs.Listed.{Lists}
 use Rattle.go_leads.specs.inner.Some.{SomeIn}
+use Rattle.go_package_scopes.proofs.SameAnswers.{finds_same, names_same}
 use Rattle.go_package_scopes.specs.KeptScopes.{IsMoved}
 use Rattle.go_package_scopes.specs.PackageScopes.{IsScopeOf, at_declaration}
 use Rattle.go_references.specs.declared.references.Reference.{Reference}
@@ -121,6 +122,11 @@ module _ (names : Named NamePlace) (methods : Named (List MethodRow)) (tables : 
             subst (λ (z : Declaration). AreRowsIn names methods tables (env_of (at_declaration c z)) z.form r) same
             (subst (λ (z : Scopes). AreRowsIn names methods tables (env_of (at_declaration z d)) d.form r) m here)
 
+pub moved_next : (c e new : Scopes) (d : Declaration) → IsMoved c e → new ≡ at_declaration e d → IsMoved c new
+moved_next c e new d m at =
+    let k : new ≡ at_declaration c d = at ∙ ap (λ (z : Scopes). at_declaration z d) m in
+    k ∙ sym (ap (λ (z : Scopes). record c { file = z.file; iota = z.iota }) k)
+
 -- ---- all declarations
 
 has_row : (rows : List (List ℕ)) (m n : ℕ) → Has (row_of rows m) n → m < length rows
@@ -139,21 +145,16 @@ exact Q rows ds size tell m n = (
     (λ a. (tell m a.0 a.1 n).1 a.2),
   )
 
--- the law: in the scopes the declaration names and finds what it does in the package's environment
-pub record SameAnswers (s : Setting) (u : PackageSource) (a : Entries) (c : Scopes) : Type 0 where
-  pub names : (d : Declaration) (f : Form) (rs : List Reference) (n : ℕ) → NamesDeclaration (env_of (at_declaration c d)) u f rs n ↔ NamesDeclaration (environment s u a d) u f rs n
-  pub finds : (d : Declaration) (f : Form) (n : ℕ) → FindsMethod (env_of (at_declaration c d)) u f n ↔ FindsMethod (environment s u a d) u f n
-
 via : {P Q : ℕ → Type 0} (xs : List ℕ) → Lists P xs → ((n : ℕ) → P n ↔ Q n) → Lists Q xs
 via xs l same n = ((λ h. (same n).0 ((l n).0 h)), (λ q. (l n).1 ((same n).1 q)))
 
 module _ (s : Setting) (u : PackageSource) (a : Entries) (c : Scopes) (names : Named NamePlace) (methods : Named (List MethodRow)) (g : DeclarationGraph) where
-  pub graph_of : IsScopeOf s u a c → SameAnswers s u a c → AreDeclared (declarations u) names → AreMethods (declarations u) methods → HasRows names methods (tables_of (declarations u) methods) c (declarations u) (length (declarations u)) g → IsGraphOf s u a g
-  graph_of scope same are have has = record {
+  graph_of : u.path ≢ [] → IsScopeOf s u a c → AreDeclared (declarations u) names → AreMethods (declarations u) methods → HasRows names methods (tables_of (declarations u) methods) c (declarations u) (length (declarations u)) g → IsGraphOf s u a g
+  graph_of pathed scope are have has = record {
     depends = record { size = has.depends; exact = exact (λ d n. DependsOn u d.form n) g.depends (declarations u) has.depends (λ m d e. (rows_there m d e).depends) };
     leads = record { size = has.leads; exact = λ m n. (let k = led m n in ((λ h. apart m n (k.0 h)), (λ h. k.1 (together m n h)))) };
-    after = record { size = has.after; exact = exact (λ d n. NamesDeclaration (environment s u a d) u d.form (strong_references d.form) n) g.after (declarations u) has.after (λ m d e. via (row_of g.after m) (rows_there m d e).after (same.names d d.form (strong_references d.form))) };
-    lengths = record { size = has.lengths; exact = exact (λ d n. NamesDeclaration (environment s u a d) u d.form (length_references d.form) n) g.lengths (declarations u) has.lengths (λ m d e. via (row_of g.lengths m) (rows_there m d e).lengths (same.names d d.form (length_references d.form))) };
+    after = record { size = has.after; exact = exact (λ d n. NamesDeclaration (environment s u a d) u d.form (strong_references d.form) n) g.after (declarations u) has.after (λ m d e. via (row_of g.after m) (rows_there m d e).after (same_names d (strong_references d.form))) };
+    lengths = record { size = has.lengths; exact = exact (λ d n. NamesDeclaration (environment s u a d) u d.form (length_references d.form) n) g.lengths (declarations u) has.lengths (λ m d e. via (row_of g.lengths m) (rows_there m d e).lengths (same_names d (length_references d.form))) };
   }
     where
       told : Tell names methods (tables_of (declarations u) methods) u
@@ -162,13 +163,19 @@ module _ (s : Setting) (u : PackageSource) (a : Entries) (c : Scopes) (names : N
       rows_there : (m : ℕ) (d : Declaration) → slice_get (declarations u) m ≡ Some d → AreRowsOf (env_of (at_declaration c d)) u d.form (rows_at g m)
       rows_there m d e = has.rows m d (slice_get_within (declarations u) m d e) e u (sym scope.path) told
 
+      same_names : (d : Declaration) (rs : List Reference) (n : ℕ) → NamesDeclaration (env_of (at_declaration c d)) u d.form rs n ↔ NamesDeclaration (environment s u a d) u d.form rs n
+      same_names d rs n = names_same s u a c scope pathed d d.form rs n
+
+      same_finds : (d : Declaration) (n : ℕ) → FindsMethod (env_of (at_declaration c d)) u d.form n ↔ FindsMethod (environment s u a d) u d.form n
+      same_finds d n = finds_same s u a c scope pathed d d.form n
+
       Led : Declaration → ℕ → Type 0
       Led d n = NamesDeclaration (environment s u a d) u d.form (references d.form) n ⊎ FindsMethod (environment s u a d) u d.form n
 
       same_led : (d : Declaration) (n : ℕ) → (NamesDeclaration (env_of (at_declaration c d)) u d.form (references d.form) n ⊎ FindsMethod (env_of (at_declaration c d)) u d.form n) ↔ Led d n
       same_led d n = (
-        (λ h. elim h [ inl k ↦ inl ((same.names d d.form (references d.form) n).0 k) | inr k ↦ inr ((same.finds d d.form n).0 k) ]),
-        (λ h. elim h [ inl k ↦ inl ((same.names d d.form (references d.form) n).1 k) | inr k ↦ inr ((same.finds d d.form n).1 k) ]),
+        (λ h. elim h [ inl k ↦ inl ((same_names d (references d.form) n).0 k) | inr k ↦ inr ((same_finds d n).0 k) ]),
+        (λ h. elim h [ inl k ↦ inl ((same_names d (references d.form) n).1 k) | inr k ↦ inr ((same_finds d n).1 k) ]),
       )
 
       led : (m n : ℕ) → Has (row_of g.leads m) n ↔ At (declarations u) m (λ d. Led d n)
@@ -190,3 +197,13 @@ item_at (y ∷ xs) (suc i) x l e = item_at xs i x (omega (arith, l)) e
 pub as_long : (xs : List Borrowed) → length (declarations_of xs) ≡ length xs
 as_long [] = refl
 as_long (x ∷ xs) = ap suc (as_long xs)
+
+pub graph_from : (s : Setting) (u : PackageSource) (a : Entries) (c : Scopes) (names : Named NamePlace) (methods : Named (List MethodRow)) (g : DeclarationGraph) (tables : List Numbered) (xs : List Borrowed)
+    → declarations u ≡ declarations_of xs → u.path ≢ [] → IsScopeOf s u a c → AreDeclared (declarations_of xs) names → AreMethods (declarations_of xs) methods → tables ≡ tables_of (declarations_of xs) methods
+    → HasRows names methods tables c (declarations_of xs) (length xs) g → IsGraphOf s u a g
+graph_from s u a c names methods g tables xs same pathed scope are have told has =
+    let back = sym same in
+    graph_of s u a c names methods g pathed scope (subst (λ (ds : List Declaration). AreDeclared ds names) back are) (subst (λ (ds : List Declaration). AreMethods ds methods) back have)
+    (subst (λ (ds : List Declaration). HasRows names methods (tables_of ds methods) c ds (length ds) g) back
+    (subst (λ (n : ℕ). HasRows names methods (tables_of (declarations_of xs) methods) c (declarations_of xs) n g) (sym (as_long xs))
+    (subst (λ (ts : List Numbered). HasRows names methods ts c (declarations_of xs) (length xs) g) told has)))
