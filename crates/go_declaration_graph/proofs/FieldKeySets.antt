@@ -104,9 +104,9 @@ tree_keys E t names added old new e are g = grows_as (SomeIn IsKeyOf names) (Key
 
 pub declaration_keys : (E : Env) (f : Form) (trees : List Tree) (old new : List FieldKey) → map node_of trees ≡ nodes f → old ≡ [] → Grows (SomeIn (KeysField E) trees) old new → AreFieldKeys E f new
 declaration_keys E f trees old new e none g k = (
-    (λ h. elim (g.sound k h) [ inl o ↦ absurd (subst (λ (xs : List FieldKey). Has xs k) none o) | inr s ↦ (node_of s.0, subst (λ (xs : List Node). Has xs (node_of s.0)) e (has_map node_of trees s.0 s.1), s.2) ]),
-    (λ h. let m = map_has node_of trees h.0 (subst (λ (xs : List Node). Has xs h.0) (sym e) h.1) in g.complete k (m.0, m.1, subst (λ (at : Node). IsFieldKey E at (name_of k)) (sym m.2) h.2)),
-  )
+  (λ h. elim (g.sound k h) [ inl o ↦ absurd (subst (λ (xs : List FieldKey). Has xs k) none o) | inr s ↦ (node_of s.0, subst (λ (xs : List Node). Has xs (node_of s.0)) e (has_map node_of trees s.0 s.1), s.2) ]),
+  (λ h. let m = map_has node_of trees h.0 (subst (λ (xs : List Node). Has xs h.0) (sym e) h.1) in g.complete k (m.0, m.1, subst (λ (at : Node). IsFieldKey E at (name_of k)) (sym m.2) h.2)),
+)
 
 -- a name is found among the keys where it is a field's
 pub among_tells : (E : Env) (f : Form) (keys : List FieldKey) (n : Name) → AreFieldKeys E f keys → (is_among n keys ≡ true) ↔ IsFieldKeyIn E f n

@@ -31,7 +31,8 @@ use Rattle.go_typings.proofs.Cells.{either, if_false, if_true}
 use Rattle.go_soundness.proofs.Members.{gathered, has_left, has_right}
 use Rattle.go_declaration_graph.specs.declared.field_keys.FieldKey.{FieldKey}
 use Rattle.go_declaration_graph.specs.inner.MethodNumbers.{Numbered, numbers_at, tables_of}
-use Rattle.go_declaration_graph.specs.inner.Numbers.{FindsNumber, FindsNumberIn, LeadsTo, counted, found}
+use Rattle.go_declaration_graph.specs.inner.FoundNumbers.{FindsNumber, FindsNumberIn, LeadsTo, found}
+use Rattle.go_declaration_graph.specs.inner.NamedNumbers.{counted}
 use Rattle.go_declaration_graph.proofs.Mapped.{has_map, map_has}
 use Rattle.go_declaration_graph.proofs.TypeMethods.{have_numbers, numbers_have}
 
@@ -55,17 +56,17 @@ tree_numbers E names tables t methods taken path old new p q are e =
 pub leads_told : (E : Env) (names : Named NamePlace) (tables : List Numbered) (keys : List FieldKey) (f : Form) (trees : List Tree) (old new : List ℕ)
     → map node_of trees ≡ nodes f → old ≡ gather (counted names keys) (references f) → Grows (SomeIn (FindsNumberIn E names tables) trees) old new → Lists (LeadsTo E names tables keys f) new
 leads_told E names tables keys f trees old new e o g n = (
-    (λ h. elim (g.sound n h) [
-      | inl k ↦ inl (subst (λ (xs : List ℕ). Has xs n) o k)
-      | inr s ↦ inr (node_of s.0, subst (λ (xs : List Node). Has xs (node_of s.0)) e (has_map node_of trees s.0 s.1), s.2)
-    ]),
-    (λ h. elim h [
-      | inl k ↦ g.kept n (subst (λ (xs : List ℕ). Has xs n) (sym o) k)
-      | inr s ↦ (
+  (λ h. elim (g.sound n h) [
+    | inl k ↦ inl (subst (λ (xs : List ℕ). Has xs n) o k)
+    | inr s ↦ inr (node_of s.0, subst (λ (xs : List Node). Has xs (node_of s.0)) e (has_map node_of trees s.0 s.1), s.2)
+  ]),
+  (λ h. elim h [
+    | inl k ↦ g.kept n (subst (λ (xs : List ℕ). Has xs n) (sym o) k)
+    | inr s ↦ (
         let m = map_has node_of trees s.0 (subst (λ (xs : List Node). Has xs s.0) (sym e) s.1) in
         g.complete n (m.0, m.1, subst (λ (at : Node). FindsNumber E names tables at n) (sym m.2) s.2))
-    ]),
-  )
+  ]),
+)
 
 -- ---- the methods that are found
 
@@ -83,19 +84,19 @@ module _ (E : Env) (u : PackageSource) (same : u.path ≡ E.path) (names : Named
   number_found : (f : Form) (n : ℕ) → SomeIn (FindsNumber E names tables) (nodes f) n → FindsMethod E u f n
   number_found f n (at, h, (m, k, i)) = elim (either (bytes_eq m.owner.path E.path)) [
     | inl e ↦ (
-      let p : m.owner.path ≡ u.path = (bytes_decides m.owner.path E.path).0 e ∙ sym same in
-      let d = numbers_have u names are rows have m.owner.name m.sel.name n (subst (λ (xs : List ℕ). Has xs n) (if_true (bytes_eq m.owner.path E.path) (numbers_at tables names m.owner.name m.sel.name) [] e) i) in
-      let owner : m.owner ≡ record { path = u.path; name = m.owner.name } = ap (λ (path : List ℕ). record { path = path; name = m.owner.name }) p in
-      let sel : m.sel ≡ d.0.sel = own_selector at m k ∙ sym (selectors_same m.sel.name) ∙ sym d.2 in
-      record {
-        type = m.owner.name;
-        method = d.0;
-        at = at;
-        stands = h;
-        found = subst (λ (s : Sel). Finds E at (record { path = u.path; name = m.owner.name }) s) sel (subst (λ (o : TypeName). Finds E at o m.sel) owner k);
-        has = d.1;
-        number = d.3;
-      })
+        let p : m.owner.path ≡ u.path = (bytes_decides m.owner.path E.path).0 e ∙ sym same in
+        let d = numbers_have u names are rows have m.owner.name m.sel.name n (subst (λ (xs : List ℕ). Has xs n) (if_true (bytes_eq m.owner.path E.path) (numbers_at tables names m.owner.name m.sel.name) [] e) i) in
+        let owner : m.owner ≡ record { path = u.path; name = m.owner.name } = ap (λ (path : List ℕ). record { path = path; name = m.owner.name }) p in
+        let sel : m.sel ≡ d.0.sel = own_selector at m k ∙ sym (selectors_same m.sel.name) ∙ sym d.2 in
+        record {
+          type = m.owner.name;
+          method = d.0;
+          at = at;
+          stands = h;
+          found = subst (λ (s : Sel). Finds E at (record { path = u.path; name = m.owner.name }) s) sel (subst (λ (o : TypeName). Finds E at o m.sel) owner k);
+          has = d.1;
+          number = d.3;
+        })
     | inr e ↦ absurd (subst (λ (xs : List ℕ). Has xs n) (if_false (bytes_eq m.owner.path E.path) (numbers_at tables names m.owner.name m.sel.name) [] e) i)
   ]
 
@@ -103,10 +104,16 @@ module _ (E : Env) (u : PackageSource) (same : u.path ≡ E.path) (names : Named
   found_number f n k =
       let m : FoundMethod = record { owner = record { path = u.path; name = k.type }; sel = k.method.sel } in
       let s : k.method.sel ≡ selector u.path k.method.sel.name = own_selector k.at m k.found ∙ sym (selectors_same k.method.sel.name) in
-      let e : bytes_eq u.path E.path ≡ true = (bytes_decides u.path E.path).1 same in
-      (k.at, k.stands, (m, k.found,
-        subst (λ (xs : List ℕ). Has xs n) (sym (if_true (bytes_eq u.path E.path) (numbers_at tables names k.type k.method.sel.name) [] e))
-        (have_numbers u names are rows have k.type k.method.sel.name n (k.method, k.has, s, k.number))))
+      let e : bytes_eq u.path E.path ≡ true = (bytes_decides u.path E.path).1 same in (
+        k.at,
+        k.stands,
+        (
+          m,
+          k.found,
+          subst (λ (xs : List ℕ). Has xs n) (sym (if_true (bytes_eq u.path E.path) (numbers_at tables names k.type k.method.sel.name) [] e))
+              (have_numbers u names are rows have k.type k.method.sel.name n (k.method, k.has, s, k.number)),
+        ),
+      )
 
   pub found_tells : (f : Form) (n : ℕ) → SomeIn (FindsNumber E names tables) (nodes f) n ↔ FindsMethod E u f n
   found_tells f n = (number_found f n, found_number f n)

@@ -32,13 +32,13 @@ use Rattle.go_typings.specs.PackageEnvironments.{Entries, environment}
 use Rattle.go_typings.specs.References.{DependsOn, FindsMethod, NamesDeclaration}
 use Rattle.go_typings.specs.Sources.{PackageSource, Setting}
 use Rattle.go_typings.proofs.Cells.{some_once}
-use Rattle.go_declaration_graph.specs.DeclarationRows.{AreRowsOf}
 use Rattle.go_declaration_graph.specs.declared.field_keys.FieldKey.{FieldKey}
 use Rattle.go_declaration_graph.specs.declared.rows.DeclarationRows.{DeclarationRows}
 use Rattle.go_declaration_graph.specs.inner.FieldKeys.{AreFieldKeys}
 use Rattle.go_declaration_graph.specs.inner.MethodNumbers.{Numbered, tables_of}
-use Rattle.go_declaration_graph.specs.inner.Numbers.{FindsNumber, LeadsTo, counted, dependencies}
-use Rattle.go_declaration_graph.specs.inner.Rows.{AreRowsIn, HasRows, Tell, rows_at, with_rows}
+use Rattle.go_declaration_graph.specs.inner.FoundNumbers.{FindsNumber, LeadsTo}
+use Rattle.go_declaration_graph.specs.inner.NamedNumbers.{counted, dependencies}
+use Rattle.go_declaration_graph.specs.inner.Rows.{AreRowsIn, AreRowsOf, HasRows, Tell, rows_at, with_rows}
 use Rattle.go_declaration_graph.proofs.FoundNumbers.{found_tells}
 use Rattle.go_declaration_graph.proofs.NamedNumbers.{counted_tell, dependencies_tell}
 
@@ -141,9 +141,9 @@ within (d ∷ ds) (suc m) l = within ds m (omega (arith, l))
 
 exact : (Q : Declaration → ℕ → Type 0) (rows : List (List ℕ)) (ds : List Declaration) → length rows ≡ length ds → ((m : ℕ) (d : Declaration) → slice_get ds m ≡ Some d → Lists (Q d) (row_of rows m)) → (m n : ℕ) → Has (row_of rows m) n ↔ At ds m (λ d. Q d n)
 exact Q rows ds size tell m n = (
-    (λ h. let d = within ds m (let l = has_row rows m n h in omega (arith, l, size)) in (d.0, d.1, (tell m d.0 d.1 n).0 h)),
-    (λ a. (tell m a.0 a.1 n).1 a.2),
-  )
+  (λ h. let d = within ds m (let l = has_row rows m n h in omega (arith, l, size)) in (d.0, d.1, (tell m d.0 d.1 n).0 h)),
+  (λ a. (tell m a.0 a.1 n).1 a.2),
+)
 
 via : {P Q : ℕ → Type 0} (xs : List ℕ) → Lists P xs → ((n : ℕ) → P n ↔ Q n) → Lists Q xs
 via xs l same n = ((λ h. (same n).0 ((l n).0 h)), (λ q. (l n).1 ((same n).1 q)))

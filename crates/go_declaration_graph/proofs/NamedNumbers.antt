@@ -23,7 +23,7 @@ use Rattle.go_typings.proofs.Cells.{either, if_false, if_true}
 use Rattle.go_soundness.proofs.Members.{gathered, has_left, has_right}
 use Rattle.go_declaration_graph.specs.declared.field_keys.FieldKey.{FieldKey}
 use Rattle.go_declaration_graph.specs.inner.FieldKeys.{AreFieldKeys, IsFieldKeyIn, is_among}
-use Rattle.go_declaration_graph.specs.inner.Numbers.{counted, dependencies, named, names_field, number_in, number_of, own_methods}
+use Rattle.go_declaration_graph.specs.inner.NamedNumbers.{counted, dependencies, named, names_field, number_in, number_of, own_methods}
 use Rattle.go_declaration_graph.proofs.FieldKeySets.{among_tells, both_true}
 use Rattle.go_declaration_graph.proofs.Mapped.{has_map, map_has}
 

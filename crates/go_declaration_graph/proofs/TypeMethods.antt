@@ -202,14 +202,16 @@ module _ (u : PackageSource) (names : Named NamePlace) (are : AreDeclared (decla
   numbers_have type name n h = elim (either (is_blank name)) [
     | inl e ↦ absurd (subst (λ (xs : List ℕ). Has xs n) (if_true (is_blank name) [] (items_at (table_at tables (value_at names type)) name) e) h)
     | inr e ↦ (
-      let k = subst (λ (xs : List ℕ). Has xs n) (if_false (is_blank name) [] (items_at (table_at tables (value_at names type)) name) e) h in
-      let d = table_defined type name n k in
-      let r = table_rows name n (declarations u) (items_at rows type) (subst (λ (t : Numbered). Has (items_at t name) n) (table_there type d) k) in
-      let m = method_of u r.0 in
-      let s : m.sel ≡ selector u.path name = ap (selector u.path) r.2 in
-      (m,
-        filter_has is_selectable (declared_methods u type) m (subst (λ (ms : List DeclaredMethod). Has ms m) (have u refl type) (has_map (method_of u) (items_at rows type) r.0 r.1)) (passes m.sel.name (ap (λ (w : List ℕ). is_blank w) r.2 ∙ e)),
-        s, r.3))
+        let k = subst (λ (xs : List ℕ). Has xs n) (if_false (is_blank name) [] (items_at (table_at tables (value_at names type)) name) e) h in
+        let d = table_defined type name n k in
+        let r = table_rows name n (declarations u) (items_at rows type) (subst (λ (t : Numbered). Has (items_at t name) n) (table_there type d) k) in
+        let m = method_of u r.0 in
+        let s : m.sel ≡ selector u.path name = ap (selector u.path) r.2 in (
+          m,
+          filter_has is_selectable (declared_methods u type) m (subst (λ (ms : List DeclaredMethod). Has ms m) (have u refl type) (has_map (method_of u) (items_at rows type) r.0 r.1)) (passes m.sel.name (ap (λ (w : List ℕ). is_blank w) r.2 ∙ e)),
+          s,
+          r.3,
+        ))
   ]
 
   pub have_numbers : (type name : List ℕ) (n : ℕ) → HasMethod type name n → Has (numbers_at tables names type name) n

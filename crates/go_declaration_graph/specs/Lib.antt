@@ -1,2 +1,1 @@
-pub mod DeclarationRows
 pub mod inner

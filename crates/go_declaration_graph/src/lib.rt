@@ -2,8 +2,10 @@
 #![tactic(auto)]
 
 mod field_keys;
+mod found;
 pub mod graph;
 mod method_index;
+mod named;
 mod numbers;
 mod references;
 mod rows;

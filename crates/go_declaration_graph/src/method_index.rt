@@ -158,12 +158,7 @@ impl MethodIndex {
     {
         let mut tables = List::new(alloc);
         for declaration in declarations {
-            tables.push(MethodNumbers::of(
-                alloc,
-                declarations,
-                methods,
-                declaration.form,
-            )?)?;
+            tables.push(MethodNumbers::of(alloc, declarations, methods, declaration.form)?)?;
         }
         Ok(MethodIndex { tables })
     }

@@ -14,7 +14,10 @@ use go_syntax::declaration::VarSpec;
 use std::alloc::Global;
 
 // Those that stand by value or in the length of an array.
-fn whole_parts(alloc: Global, references: List<Reference>) -> Result<List<Reference>, NoMemory>
+fn by_value_or_in_length(
+    alloc: Global,
+    references: List<Reference>,
+) -> Result<List<Reference>, NoMemory>
     ensures { IfOk result (λ rs. rs ≡ filter (λ r. r.by_value || r.in_length) references) }
 {
     let mut kept = List::new(alloc);
@@ -40,7 +43,7 @@ fn in_lengths(alloc: Global, references: List<Reference>) -> Result<List<Referen
 }
 
 /// The references of a declaration.
-pub(crate) fn references(alloc: Global, form: Form<'_>) -> Result<List<Reference>, NoMemory>
+pub(crate) fn all_references(alloc: Global, form: Form<'_>) -> Result<List<Reference>, NoMemory>
     ensures { IfOk result (λ rs. rs ≡ nodes.references (form_of form.entry)) }
 {
     match form {
@@ -70,9 +73,12 @@ pub(crate) fn strong_references(alloc: Global, form: Form<'_>) -> Result<List<Re
     ensures { IfOk result (λ rs. rs ≡ nodes.strong_references (form_of form.entry)) }
 {
     match form {
-        Form::Constants(_) => references(alloc, form),
+        Form::Constants(_) => all_references(alloc, form),
         Form::Variables(spec) => variable_references(alloc, spec),
-        Form::Alias(_) | Form::Definition(_) => whole_parts(alloc, references(alloc, form)?),
+        Form::Alias(_) | Form::Definition(_) => by_value_or_in_length(
+            alloc,
+            all_references(alloc, form)?,
+        ),
         Form::Function(_) | Form::Method(_, _) => Ok(List::new(alloc)),
     }
 }
@@ -83,6 +89,6 @@ pub(crate) fn length_references(alloc: Global, form: Form<'_>) -> Result<List<Re
 {
     match form {
         Form::Constants(_) | Form::Variables(_) => Ok(List::new(alloc)),
-        _ => in_lengths(alloc, references(alloc, form)?),
+        _ => in_lengths(alloc, all_references(alloc, form)?),
     }
 }

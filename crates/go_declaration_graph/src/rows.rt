@@ -5,13 +5,15 @@ ghost use Rattle.go_declarations.specs.Forms.{form_of};
 ghost use Rattle.go_leads.specs.Listed.{Lists};
 ghost use Rattle.go_rules.specs.Scopes.{env_of};
 ghost use Rattle.go_typings.specs.DeclarationNodes.{length_references, strong_references};
-ghost use Rattle.go_declaration_graph.specs.inner.Numbers.{LeadsTo, counted, dependencies};
+ghost use Rattle.go_declaration_graph.specs.inner.FoundNumbers.{LeadsTo};
+ghost use Rattle.go_declaration_graph.specs.inner.NamedNumbers.{counted, dependencies};
 ghost use Rattle.go_declaration_graph.specs.inner.Rows.{AreRowsIn};
 
 use crate::field_keys::{FieldKey, field_keys};
+use crate::found::push_found_in_each;
 use crate::method_index::MethodIndex;
-use crate::numbers::{push_all_counted, push_all_named, push_found_in_each, push_own_methods};
-use crate::references::{length_references, references, strong_references};
+use crate::named::{push_all_counted, push_all_named, push_own_methods};
+use crate::references::{all_references, length_references, strong_references};
 use crate::trees::trees;
 use go_base::list::List;
 use go_base::memory::NoMemory;
@@ -22,16 +24,16 @@ use go_rules::env::Env;
 use std::alloc::Global;
 use std::collections::BTreeSet;
 
-/// For a declaration of a package the numbers of others, as in a graph of declarations.
+/// The rows of one declaration, one of each kind that a graph of declarations has.
 #[derive(Drop)]
-pub struct DeclarationRows {
+pub(crate) struct DeclarationRows {
     pub depends: List<u32>,
     pub leads: List<u32>,
     pub after: List<u32>,
     pub lengths: List<u32>,
 }
 
-fn depends(
+fn depends_row(
     alloc: Global,
     names: &DeclaredNames,
     methods: &DeclaredMethods,
@@ -39,14 +41,14 @@ fn depends(
 ) -> Result<List<u32>, NoMemory>
     ensures { IfOk result (λ row. row ≡ dependencies names.now methods.now (form_of form.entry)) }
 {
-    let references = references(alloc, form)?;
+    let references = all_references(alloc, form)?;
     let mut row = List::new(alloc);
     push_all_named(&mut row, names, references.items())?;
     push_own_methods(&mut row, methods, form)?;
     Ok(row)
 }
 
-fn leads(
+fn leads_row(
     env: &Env<'_>,
     alloc: Global,
     names: &DeclaredNames,
@@ -56,7 +58,7 @@ fn leads(
 ) -> Result<List<u32>, NoMemory>
     ensures { IfOk result (Lists (LeadsTo (env_of env.now) names.now index.now.tables keys.now.keys (form_of form.entry))) }
 {
-    let references = references(alloc, form)?;
+    let references = all_references(alloc, form)?;
     let mut row = List::new(alloc);
     push_all_counted(alloc, &mut row, names, keys, references.items())?;
     let each = trees(alloc, form)?;
@@ -64,7 +66,7 @@ fn leads(
     Ok(row)
 }
 
-fn after(
+fn after_row(
     alloc: Global,
     names: &DeclaredNames,
     keys: &BTreeSet<FieldKey>,
@@ -78,7 +80,7 @@ fn after(
     Ok(row)
 }
 
-fn lengths(
+fn lengths_row(
     alloc: Global,
     names: &DeclaredNames,
     keys: &BTreeSet<FieldKey>,
@@ -104,10 +106,10 @@ pub(crate) fn rows(
     ensures { IfOk result (AreRowsIn names.now methods.now index.now.tables (env_of env.now) (form_of form.entry)) }
 {
     let keys = field_keys(env, alloc, form)?;
-    let depends = depends(alloc, names, methods, form)?;
-    let leads = leads(env, alloc, names, index, &keys, form)?;
-    let after = after(alloc, names, &keys, form)?;
-    let lengths = lengths(alloc, names, &keys, form)?;
+    let depends = depends_row(alloc, names, methods, form)?;
+    let leads = leads_row(env, alloc, names, index, &keys, form)?;
+    let after = after_row(alloc, names, &keys, form)?;
+    let lengths = lengths_row(alloc, names, &keys, form)?;
     Ok(DeclarationRows {
         depends,
         leads,

@@ -12,7 +12,7 @@ loop-declaration-preserved c =
     let added = c.in_ok-add_declaration.ensures.rows in (
       moved_next c.args.env.now c.loop-declaration.env c.add_declaration.new.env (declaration_of x) c.loop-declaration.invariant.0 c.add_declaration.ensures.moved,
       rows_next c.args.names.now c.args.methods.now c.args.index.now.tables c.args.env.now (declarations_of xs) i c.loop-declaration.graph added.0 c.loop-declaration.invariant.1 c.loop-declaration.env (declaration_of x) c.add_declaration.new.graph
-      c.loop-declaration.invariant.0 (item_at xs i x c.loop-declaration-test.true c.declaration-item.is) added.1 added.2,
+          c.loop-declaration.invariant.0 (item_at xs i x c.loop-declaration-test.true c.declaration-item.is) added.1 added.2,
     )
 
 pub returns-clause-rows : goal.returns-clause-rows

@@ -1,7 +1,8 @@
 use Rattle.std.proofs.Common.{◌≡◌, ◌++◌, drop, map}
 use Rattle.go_base.specs.Gathered.{gather}
-use Rattle.go_declaration_graph.specs.inner.Numbers.{counted, found, named, number_of}
-use Rattle.go_declaration_graph.proofs.numbers.push_all_counted.Given as goal
+use Rattle.go_declaration_graph.specs.inner.FoundNumbers.{found}
+use Rattle.go_declaration_graph.specs.inner.NamedNumbers.{counted, named, number_of}
+use Rattle.go_declaration_graph.proofs.named.push_all_counted.Given as goal
 
 abbrev pub invariant-loop-reference : goal.invariant-loop-reference
 invariant-loop-reference l = l.row ++ gather (counted l.names l.keys.keys) (drop l.reference-index l.references) ≡ l.initial.row ++ gather (counted l.names l.keys.keys) l.references

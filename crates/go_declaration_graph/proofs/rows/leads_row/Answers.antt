@@ -3,9 +3,9 @@ use Rattle.go_base.specs.Gathered.{gather}
 use Rattle.go_declarations.specs.Forms.{form_of}
 use Rattle.go_nodes.specs.Trees.{node_of}
 use Rattle.go_rules.specs.Scopes.{env_of}
-use Rattle.go_declaration_graph.specs.inner.Numbers.{counted}
+use Rattle.go_declaration_graph.specs.inner.NamedNumbers.{counted}
 use Rattle.go_declaration_graph.proofs.FoundNumbers.{leads_told}
-use Rattle.go_declaration_graph.proofs.rows.leads.Goals as goal
+use Rattle.go_declaration_graph.proofs.rows.leads_row.Goals as goal
 
 pub returns : goal.returns
 returns c =

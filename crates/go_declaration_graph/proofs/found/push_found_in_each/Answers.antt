@@ -1,8 +1,8 @@
 use Rattle.std.proofs.Common.{arith}
 use Rattle.go_imports.proofs.GrowingSets.{grows_next, grows_none, grows_whole}
 use Rattle.go_rules.specs.Scopes.{env_of}
-use Rattle.go_declaration_graph.specs.inner.Numbers.{FindsNumberIn}
-use Rattle.go_declaration_graph.proofs.numbers.push_found_in_each.Goals as goal
+use Rattle.go_declaration_graph.specs.inner.FoundNumbers.{FindsNumberIn}
+use Rattle.go_declaration_graph.proofs.found.push_found_in_each.Goals as goal
 
 pub loop-tree-init : goal.loop-tree-init
 loop-tree-init c = grows_none (FindsNumberIn (env_of c.args.env.now) c.args.names.now c.args.index.now.tables) c.args.row.now

@@ -1,7 +1,7 @@
 use Rattle.std.proofs.lemmas.Result.{on_ok_weaker}
 use Rattle.go_rules.specs.Scopes.{env_of}
 use Rattle.go_declaration_graph.proofs.FoundNumbers.{tree_numbers}
-use Rattle.go_declaration_graph.proofs.numbers.push_found_in.Goals as goal
+use Rattle.go_declaration_graph.proofs.found.push_found_in.Goals as goal
 
 pub returns : goal.returns
 returns c =
