@@ -1,6 +1,5 @@
 -- The numbers that the index tells for methods which selectors find are those of the methods that a declaration finds.
-use Rattle.std.proofs.Common.{◌≡◌, ◌↔◌, ℕ, Bool, true, false, List, [], ◌∷◌, ◌++◌, map, refl, sym, ap, ◌∙◌, subst, ◌⊎◌, inl, inr}
-use Rattle.std.specs.Prelude.{if◌then◌else◌}
+use Rattle.std.proofs.Common.{◌≡◌, ◌↔◌, ℕ, true, List, [], ◌++◌, map, sym, ap, ◌∙◌, subst, inl, inr}
 use Rattle.std.specs.Cmp.Lexicographic.{bytes_decides}
 use Rattle.std.specs.Str.{bytes_eq}
 use Rattle.go_base.specs.Gathered.{gather}
@@ -19,7 +18,7 @@ use Rattle.go_model.specs.declared.types.names.Sel.{Sel}
 use Rattle.go_model.specs.declared.types.names.TypeName.{TypeName}
 use Rattle.go_nodes.specs.Trees.{node_of}
 use Rattle.go_nodes.specs.declared.tree.Tree.{Tree}
-use Rattle.go_rules.specs.Environments.{Env, is_exported, selector_of}
+use Rattle.go_rules.specs.Environments.{Env, selector_of}
 use Rattle.go_rules.specs.Names.{Named}
 use Rattle.go_rules.specs.Nodes.{Node}
 use Rattle.go_typings.specs.DeclarationNodes.{nodes, references}

@@ -1,11 +1,12 @@
 -- A graph that got the rows of each declaration of a package in turn is the package's.
-use Rattle.std.proofs.Common.{◌≡◌, ◌≢◌, ◌↔◌, ℕ, zero, suc, ◌+◌, ◌<◌, List, [], ◌∷◌, ◌++◌, map, length, get_or, Some, refl, sym, ap, ◌∙◌, subst, ◌⊎◌, inl, inr, arith, length-append}
+use Rattle.std.proofs.Common.{◌≡◌, ◌≢◌, ◌↔◌, ℕ, zero, suc, ◌+◌, ◌<◌, List, [], ◌∷◌, ◌++◌, length, get_or, Some, refl, sym, ap, ◌∙◌, subst, ◌⊎◌, inl, inr, arith, length-append}
 use Rattle.std.specs.Prelude.{slice_get}
 use Rattle.std.proofs.lemmas.Option.{slice_get_within}
 use Rattle.go_base.specs.Gathered.{gather}
 use Rattle.go_base.specs.Lists.{Has}
 use Rattle.go_declarations.specs.Listings.{declaration_of, declarations_of}
 use Rattle.go_declarations.specs.declared.listing.Declaration.{Declaration as Borrowed}
+use Rattle.go_declared.proofs.Declared.{as_long}
 use Rattle.go_declared.specs.MethodTables.{AreMethods}
 use Rattle.go_declared.specs.NameTables.{AreDeclared}
 use Rattle.go_declared.specs.declared.methods.MethodRow.{MethodRow}
@@ -21,10 +22,8 @@ use Rattle.go_references.specs.declared.references.Reference.{Reference}
 use Rattle.go_rules.specs.Environments.{Env}
 use Rattle.go_rules.specs.Names.{Named}
 use Rattle.go_rules.specs.Scopes.{Scopes, env_of}
-use Rattle.go_sifting.specs.Graphs.{AreRows, IsGraphOf, Leads}
+use Rattle.go_sifting.specs.Graphs.{IsGraphOf, Leads}
 use Rattle.go_sifting.specs.declared.graph.DeclarationGraph.{DeclarationGraph}
-use Rattle.go_soundness.specs.LostDeclarations.{Depends, HasInLength}
-use Rattle.go_soundness.specs.Ranks.{ComesAfter}
 use Rattle.go_typings.specs.Assignments.{At}
 use Rattle.go_typings.specs.DeclarationNodes.{length_references, nodes, references, strong_references}
 use Rattle.go_typings.specs.Declarations.{Declaration, Form, declarations}
@@ -193,10 +192,6 @@ pub item_at : (xs : List Borrowed) (i : ℕ) (x : Borrowed) → i < length xs �
 item_at [] i x l e = absurd (omega (arith, l))
 item_at (y ∷ xs) zero x l e = ap (λ (z : Borrowed). Some (declaration_of z)) (sym e)
 item_at (y ∷ xs) (suc i) x l e = item_at xs i x (omega (arith, l)) e
-
-pub as_long : (xs : List Borrowed) → length (declarations_of xs) ≡ length xs
-as_long [] = refl
-as_long (x ∷ xs) = ap suc (as_long xs)
 
 pub graph_from : (s : Setting) (u : PackageSource) (a : Entries) (c : Scopes) (names : Named NamePlace) (methods : Named (List MethodRow)) (g : DeclarationGraph) (tables : List Numbered) (xs : List Borrowed)
     → declarations u ≡ declarations_of xs → u.path ≢ [] → IsScopeOf s u a c → AreDeclared (declarations_of xs) names → AreMethods (declarations_of xs) methods → tables ≡ tables_of (declarations_of xs) methods

@@ -1,7 +1,6 @@
 -- The rows of numbers that tables tell are those of the declarations that are named, and of the methods of a type.
-use Rattle.std.proofs.Common.{◌≡◌, ◌↔◌, ℕ, Bool, true, false, ◌&&◌, List, [], ◌∷◌, ◌++◌, map, Option, Some, None, refl, sym, ap, ◌∙◌, subst, inl, inr}
+use Rattle.std.proofs.Common.{◌≡◌, ℕ, true, false, ◌&&◌, List, [], map, Option, Some, None, refl, sym, ap, ◌∙◌, subst, inl, inr}
 use mathlib.Core.Bool.{true≢false}
-use Rattle.std.specs.Prelude.{if◌then◌else◌}
 use Rattle.go_base.specs.Gathered.{gather}
 use Rattle.go_base.specs.Lists.{Has}
 use Rattle.go_base.proofs.Members.{gather_of, has_split}
@@ -16,7 +15,7 @@ use Rattle.go_rules.specs.Names.{Named, items_at}
 use Rattle.go_rules.specs.Nodes.{Node}
 use Rattle.go_typings.specs.DeclarationNodes.{nodes, references}
 use Rattle.go_typings.specs.Declarations.{Form, constants, variables, alias, definition, function, method, Declared, declared, declarations}
-use Rattle.go_typings.specs.Receivers.{DeclaredMethod, declared_methods}
+use Rattle.go_typings.specs.Receivers.{DeclaredMethod}
 use Rattle.go_typings.specs.References.{DependsOn, HasDeclared, HasMethods, IsDeclaredAs, IsFieldKey, NamesDeclaration, by_name, to_method}
 use Rattle.go_typings.specs.Sources.{PackageSource}
 use Rattle.go_typings.proofs.Cells.{either, if_false, if_true}

@@ -1,5 +1,5 @@
 -- A type that has methods is declared as a defined type, and the index has their numbers.
-use Rattle.std.proofs.Common.{◌≡◌, ◌↔◌, ℕ, zero, suc, Bool, true, false, cond, List, [], ◌∷◌, ◌++◌, map, get_or, Option, Some, None, refl, sym, ap, ◌∙◌, subst, ◌⊎◌, inl, inr}
+use Rattle.std.proofs.Common.{◌≡◌, ℕ, zero, suc, Bool, true, false, cond, List, [], ◌∷◌, ◌++◌, map, get_or, Option, Some, None, refl, sym, ap, ◌∙◌, subst, ◌⊎◌, inl, inr}
 use mathlib.Core.Bool.{true≢false}
 use Rattle.std.specs.Prelude.{if◌then◌else◌, not, slice_get}
 use Rattle.std.specs.Cmp.Lexicographic.{bytes_decides}
@@ -13,19 +13,18 @@ use Rattle.go_declared.specs.declared.methods.MethodRow.{MethodRow}
 use Rattle.go_declared.specs.declared.names.NamePlace.{NamePlace}
 use Rattle.go_model.specs.declared.types.names.Sel.{Sel}
 use Rattle.go_rules.specs.Expressions.{is_blank}
-use Rattle.go_rules.specs.Names.{Named, items_at, value_at, with_value}
+use Rattle.go_rules.specs.Names.{Named, items_at, value_at}
 use Rattle.go_rules.proofs.NamedEntries.{put_is}
 use Rattle.go_syntax.specs.declared.declaration.TypeSpec.{TypeSpec}
 use Rattle.go_syntax.specs.declared.name.Name.{Name}
-use Rattle.go_syntax.specs.declared.name.QualifiedName.{QualifiedName}
 use Rattle.go_syntax.specs.declared.types.ParameterDecl.{ParameterDecl}
 use Rattle.go_typings.specs.Declarations.{Form, constants, variables, alias, definition, function, method, Declaration, Declared, declared, declarations}
-use Rattle.go_typings.specs.Receivers.{NameForm, DeclaredMethod, after_aliases, base, base_in, declared_methods, defined_name, definition_name, is_named, is_selectable, method_by, methods, methods_from, named_definition, own_definition, receiver_form, selector}
+use Rattle.go_typings.specs.Receivers.{NameForm, DeclaredMethod, after_aliases, base, base_in, declared_methods, defined_name, definition_name, is_named, is_selectable, method_by, methods, methods_from, own_definition, receiver_form, selector}
 use Rattle.go_typings.specs.Sources.{PackageSource}
 use Rattle.go_typings.proofs.Cells.{either, if_false, if_true, none_some, some_once}
 use Rattle.go_soundness.proofs.DeclaredForms.{is_at, method_declared, own_name}
 use Rattle.go_soundness.proofs.Members.{has_left, has_right}
-use Rattle.go_declaration_graph.specs.inner.MethodNumbers.{Numbered, numbers_at, table_at, table_by, tables_of, with_number, with_rows}
+use Rattle.go_declaration_graph.specs.inner.MethodNumbers.{Numbered, numbers_at, table_at, table_by, tables_of, with_number, with_methods}
 use Rattle.go_declaration_graph.proofs.Mapped.{filter_has, filter_passes, has_map, map_has}
 
 -- ---- a type that has methods
@@ -122,25 +121,25 @@ module _ (q : List ℕ) (n : ℕ) where
     abbrev HasRow : List MethodRow → Type 0
     HasRow rows = (r : MethodRow) × Has rows r × (method_name ds r.number ≡ q) × (r.number ≡ n)
 
-    rows_of : (t : Numbered) (rows : List MethodRow) → Has (items_at (with_rows ds t rows) q) n → Has (items_at t q) n ⊎ HasRow rows
+    rows_of : (t : Numbered) (rows : List MethodRow) → Has (items_at (with_methods ds t rows) q) n → Has (items_at t q) n ⊎ HasRow rows
     rows_of t [] h = inl h
     rows_of t (r ∷ rows) h = elim (rows_of (with_number t (method_name ds r.number) r.number) rows h) [
       | inl k ↦ elim (more_has t (method_name ds r.number) r.number k) [ inl o ↦ inl o | inr e ↦ inr (r, inl refl, e.0, e.1) ]
       | inr k ↦ inr (k.0, inr k.1, k.2, k.3)
     ]
 
-    kept : (t : Numbered) (rows : List MethodRow) → Has (items_at t q) n → Has (items_at (with_rows ds t rows) q) n
+    kept : (t : Numbered) (rows : List MethodRow) → Has (items_at t q) n → Has (items_at (with_methods ds t rows) q) n
     kept t [] h = h
     kept t (r ∷ rows) h = kept (with_number t (method_name ds r.number) r.number) rows (has_old t (method_name ds r.number) r.number h)
 
-    row_has : (t : Numbered) (rows : List MethodRow) → HasRow rows → Has (items_at (with_rows ds t rows) q) n
+    row_has : (t : Numbered) (rows : List MethodRow) → HasRow rows → Has (items_at (with_methods ds t rows) q) n
     row_has t [] k = absurd k.1
     row_has t (r ∷ rows) k = elim k.1 [
       | inl s ↦ kept (with_number t (method_name ds r.number) r.number) rows (has_new t (method_name ds r.number) r.number (ap (λ (w : MethodRow). method_name ds w.number) s ∙ k.2) (ap (λ (w : MethodRow). w.number) s ∙ k.3))
       | inr i ↦ row_has (with_number t (method_name ds r.number) r.number) rows (k.0, i, k.2, k.3)
     ]
 
-    pub table_rows : (rows : List MethodRow) → Has (items_at (with_rows ds [] rows) q) n → HasRow rows
+    pub table_rows : (rows : List MethodRow) → Has (items_at (with_methods ds [] rows) q) n → HasRow rows
     table_rows rows h = elim (rows_of [] rows h) [ inl z ↦ absurd z | inr k ↦ k ]
 
 -- ---- the index
@@ -155,13 +154,13 @@ module _ (u : PackageSource) (names : Named NamePlace) (are : AreDeclared (decla
   tables = tables_of (declarations u) rows
 
   -- the table of a defined type
-  table_there : (type : List ℕ) (k : IsDefined (declarations u) type) → table_at tables (value_at names type) ≡ with_rows (declarations u) [] (items_at rows type)
+  table_there : (type : List ℕ) (k : IsDefined (declarations u) type) → table_at tables (value_at names type) ≡ with_methods (declarations u) [] (items_at rows type)
   table_there type k =
       let i = is_at (declarations u) type k.found k.declared in
       ap (table_at tables) (are type ∙ ap place_of k.declared)
       ∙ map_at (λ (d : Declaration). table_by (declarations u) rows d.form) (declarations u) k.found.number i.declaration [] i.is
       ∙ ap (table_by (declarations u) rows) (i.form ∙ k.form)
-      ∙ ap (λ (name : List ℕ). with_rows (declarations u) [] (items_at rows name)) k.named
+      ∙ ap (λ (name : List ℕ). with_methods (declarations u) [] (items_at rows name)) k.named
 
   form_table : (type name : List ℕ) (n : ℕ) (d : Declared) (f : Form) → declared (declarations u) type ≡ Some d → d.form ≡ f → Has (items_at (table_by (declarations u) rows f) name) n → IsDefined (declarations u) type
   form_table type name n d (constants s place) e g h = absurd h

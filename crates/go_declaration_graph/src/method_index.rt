@@ -5,7 +5,7 @@ ghost use Rattle.go_declarations.specs.Listings.{declarations_of};
 ghost use Rattle.go_declared.specs.MethodTables.{method_name, name_by};
 ghost use Rattle.go_rules.specs.Expressions.{is_blank};
 ghost use Rattle.go_rules.specs.Names.{items_at, with_value};
-ghost use Rattle.go_declaration_graph.specs.inner.MethodNumbers.{numbers_at, table_by, tables_from, tables_of, with_number, with_rows};
+ghost use Rattle.go_declaration_graph.specs.inner.MethodNumbers.{numbers_at, table_by, tables_from, tables_of, with_number, with_methods};
 
 use crate::numbers::to_number;
 use go_base::list::List;
@@ -121,7 +121,7 @@ impl MethodNumbers {
         declarations: &[Declaration<'_>],
         rows: &[MethodRow],
     ) -> Result<(), NoMemory>
-        ensures { OnOk result (self.new ≡ with_rows (declarations_of declarations.now) self.old rows.now) }
+        ensures { OnOk result (self.new ≡ with_methods (declarations_of declarations.now) self.old rows.now) }
     {
         for row in rows {
             let number = to_number(row.number)?;

@@ -58,7 +58,7 @@ pub(crate) fn all_references(alloc: Global, form: Form<'_>) -> Result<List<Refer
     }
 }
 
-// Those of a variable's type, or else of its values.
+// Those of variables that have to be settled first: those of their type, or else of their values.
 fn variable_references(alloc: Global, spec: &VarSpec) -> Result<List<Reference>, NoMemory>
     ensures { IfOk result (λ rs. rs ≡ nodes.variable_references spec.now.type_ spec.now) }
 {

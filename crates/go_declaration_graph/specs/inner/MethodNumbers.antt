@@ -16,13 +16,14 @@ Numbered = Named (List ℕ)
 abbrev pub with_number : Numbered → List ℕ → ℕ → Numbered
 with_number t name n = with_value t name (items_at t name ++ n ∷ [])
 
-abbrev pub with_rows : List Declaration → Numbered → List MethodRow → Numbered
-with_rows ds t [] = t
-with_rows ds t (r ∷ rs) = with_rows ds (with_number t (method_name ds r.number) r.number) rs
+-- the methods of these rows more, by their names
+abbrev pub with_methods : List Declaration → Numbered → List MethodRow → Numbered
+with_methods ds t [] = t
+with_methods ds t (r ∷ rs) = with_methods ds (with_number t (method_name ds r.number) r.number) rs
 
 -- the methods of the defined type that a declaration declares
 abbrev pub table_by : List Declaration → Named (List MethodRow) → Form → Numbered
-table_by ds methods (definition s) = with_rows ds [] (items_at methods s.name.text)
+table_by ds methods (definition s) = with_methods ds [] (items_at methods s.name.text)
 table_by ds methods f = []
 
 abbrev pub tables_from : List Declaration → Named (List MethodRow) → List Declaration → List Numbered

@@ -1,4 +1,4 @@
--- The rows of declarations: the numbers of the declarations of their package to which they stand so; and graphs that grow by rows.
+-- The rows of declarations, that is the numbers of those of their package to which they stand so, and graphs that grow by rows.
 -- Own: graphs as lists.
 use Rattle.std.specs.Prelude.{◌≡◌, ◌<◌, ◌⊎◌, ℕ, List, [], ◌∷◌, ◌++◌, Some, length, slice_get}
 use Rattle.go_declared.specs.MethodTables.{AreMethods}

@@ -1,7 +1,6 @@
-use Rattle.std.proofs.Common.{◌≡◌, ◌++◌, drop, map}
+use Rattle.std.proofs.Common.{◌≡◌, ◌++◌, drop}
 use Rattle.go_base.specs.Gathered.{gather}
-use Rattle.go_declaration_graph.specs.inner.FoundNumbers.{found}
-use Rattle.go_declaration_graph.specs.inner.NamedNumbers.{counted, named, number_of}
+use Rattle.go_declaration_graph.specs.inner.NamedNumbers.{counted}
 use Rattle.go_declaration_graph.proofs.named.push_all_counted.Given as goal
 
 abbrev pub invariant-loop-reference : goal.invariant-loop-reference

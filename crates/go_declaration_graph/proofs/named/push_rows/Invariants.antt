@@ -1,7 +1,5 @@
 use Rattle.std.proofs.Common.{◌≡◌, ◌++◌, drop, map}
-use Rattle.go_base.specs.Gathered.{gather}
-use Rattle.go_declaration_graph.specs.inner.FoundNumbers.{found}
-use Rattle.go_declaration_graph.specs.inner.NamedNumbers.{counted, named, number_of}
+use Rattle.go_declaration_graph.specs.inner.NamedNumbers.{number_of}
 use Rattle.go_declaration_graph.proofs.named.push_rows.Given as goal
 
 abbrev pub invariant-loop-method : goal.invariant-loop-method
