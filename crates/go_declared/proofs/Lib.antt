@@ -1,4 +1,5 @@
 pub mod Aliases
 pub mod Declared
+pub mod NamesInOrder
 pub mod Stands
 pub mod ToldMethods
