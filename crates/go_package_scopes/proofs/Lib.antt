@@ -1,1 +1,10 @@
 pub mod SameEnvironments
+pub mod WholeRegion
+pub mod SameAnswers
+pub mod DeclaredNames
+pub mod NumberedMethods
+pub mod ShownMethods
+pub mod OneMoreEntry
+pub mod UnderlyingTypes
+pub mod ScopesOf
+pub mod KeptScopes

@@ -15,12 +15,12 @@ use Rattle.go_model.specs.worlds.Worlds.{object_in, Packages, path_of, table_of}
 use Rattle.go_rules.specs.Environments.{Env, is_among}
 use Rattle.go_rules.specs.Growth.{Grown, Grows}
 use Rattle.go_rules.specs.Names.{items_at, value_at}
-use Rattle.go_rules.specs.Scopes.{as_import, entity_of, env_of, imports_of, innermost, lacking, of_universe, outermost, Scopes, types_of}
+use Rattle.go_rules.specs.Scopes.{as_import, entity_of, env_of, imports_of, innermost, lacking, of_universe, outermost, Scopes}
 use Rattle.go_rules.specs.Universe.{predeclared}
 use Rattle.go_rules.specs.declared.seen.Seen.{Seen}
 use Rattle.go_typings.specs.DeclarationRules.{Gives}
 use Rattle.go_typings.specs.Declarations.{declarations, declared, Declaration, Declared, Form}
-use Rattle.go_typings.specs.PackageEnvironments.{Entries, Entry, as_object, entity_at, entity_by, environment, import_of, meaning_at, missing, own_defined, own_entity, path_in}
+use Rattle.go_typings.specs.PackageEnvironments.{Entries, Entry, as_object, entity_at, entity_by, environment, import_of, meaning_at, missing, own_defined, path_in}
 use Rattle.go_typings.specs.Receivers.{methods}
 use Rattle.go_typings.specs.Sources.{PackageSource, Setting}
 use Rattle.go_typings.proofs.Cells.{either, if_false, if_true, none_some, some_once}

@@ -1,7 +1,7 @@
 -- What scopes keep while the declarations of a package are settled one by one, and how an entry more changes it.
 -- Public source: Go specification, "Declarations and scope" and "Method declarations". Own: that a type shows the methods of a
 -- selector once all of them are had, of which there are several only where a package is refused.
-use Rattle.std.specs.Prelude.{◌≡◌, ◌≢◌, ℕ, if◌then◌else◌, nat_eq, List, [], ◌++◌, map, Option, None, Some, is_some, slice_get}
+use Rattle.std.specs.Prelude.{◌≡◌, ℕ, if◌then◌else◌, nat_eq, List, [], ◌++◌, map, Option, None, Some, is_some, slice_get}
 use Rattle.std.specs.Option.{option_or}
 use Rattle.go_model.specs.declared.types.names.Sel.{Sel}
 use Rattle.go_model.specs.declared.types.package.Defined.{Defined}

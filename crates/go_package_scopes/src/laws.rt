@@ -1,7 +1,9 @@
 //! Laws of the definitions.
 ghost use Rattle.std.specs.Prelude.{◌≡◌, ◌≢◌, ◌↔◌, ℕ, false, List, [], None, Some, slice_get};
+ghost use Rattle.go_references.specs.declared.references.Reference.{Reference};
 ghost use Rattle.go_rules.specs.Growth.{Grows};
 ghost use Rattle.go_rules.specs.Scopes.{Scopes, env_of};
+ghost use Rattle.go_typings.specs.DeclarationAsks.{Asks};
 ghost use Rattle.go_typings.specs.DeclarationRules.{Gives};
 ghost use Rattle.go_typings.specs.Declarations.{Declaration, Form, declarations};
 ghost use Rattle.go_typings.specs.PackageEnvironments.{Entries, Entry, environment};
@@ -19,6 +21,7 @@ ghost use Rattle.go_syntax.specs.declared.types.ParameterDecl.{ParameterDecl};
 ghost use Rattle.go_typings.specs.Declarations.{definition, method};
 ghost use Rattle.go_typings.specs.PackageEnvironments.{objects, signed, underlying};
 ghost use Rattle.go_typings.specs.Receivers.{base, methods, selector};
+ghost use Rattle.go_typings.specs.References.{FindsMethod, NamesDeclaration};
 ghost use Rattle.go_package_scopes.specs.KeptScopes.{HasObjects, IsFirstOf, Keeps, ShowsType, shown, with_entry, with_methods};
 ghost use Rattle.go_package_scopes.specs.PackageScopes.{IsScopeOf, at_declaration};
 
@@ -28,6 +31,14 @@ pub fn same_environment()
     ensures grows { (s : Setting) (u : PackageSource) (a : Entries) (c : Scopes) (d : Declaration) → IsScopeOf s u a c → u.path ≢ [] → Grows (env_of (at_declaration c d)) (environment s u a d) }
     ensures back { (s : Setting) (u : PackageSource) (a : Entries) (c : Scopes) (d : Declaration) → IsScopeOf s u a c → u.path ≢ [] → Grows (environment s u a d) (env_of (at_declaration c d)) }
     ensures given { (s : Setting) (u : PackageSource) (a : Entries) (c : Scopes) (d : Declaration) (f : Form) (x : Entry) → IsScopeOf s u a c → u.path ≢ [] → Gives (env_of (at_declaration c d)) (declarations u) f x ↔ Gives (environment s u a d) (declarations u) f x }
+{}
+
+/// There a declaration meets what it is asked, names other declarations and finds methods exactly where it does in the package's
+/// environment.
+pub fn same_answers()
+    ensures asks { (s : Setting) (u : PackageSource) (a : Entries) (c : Scopes) (d : Declaration) (n : ℕ) (f : Form) → IsScopeOf s u a c → u.path ≢ [] → Asks (env_of (at_declaration c d)) u n f ↔ Asks (environment s u a d) u n f }
+    ensures names { (s : Setting) (u : PackageSource) (a : Entries) (c : Scopes) (d : Declaration) (f : Form) (rs : List Reference) (n : ℕ) → IsScopeOf s u a c → u.path ≢ [] → NamesDeclaration (env_of (at_declaration c d)) u f rs n ↔ NamesDeclaration (environment s u a d) u f rs n }
+    ensures finds { (s : Setting) (u : PackageSource) (a : Entries) (c : Scopes) (d : Declaration) (f : Form) (n : ℕ) → IsScopeOf s u a c → u.path ≢ [] → FindsMethod (env_of (at_declaration c d)) u f n ↔ FindsMethod (environment s u a d) u f n }
 {}
 
 /// Scopes that keep what is had of a package are scopes of the package.

@@ -1,14 +1,12 @@
 -- What an attempt to settle a declaration keeps, and what a pass over them has done.
-use Rattle.std.proofs.Common.{◌≡◌, ◌≢◌, ℕ, zero, suc, ◌+◌, ◌<◌, ◌≤◌, Bool, true, false, ◌||◌, List, length, Option, Some, None, refl, sym, ap, ◌∙◌, subst, ◌⊎◌, inl, inr, arith}
-use Rattle.std.specs.Prelude.{is_some, nat_eq, Result, Ok, Err, slice_get}
-use Rattle.std.proofs.lemmas.Bool.Decides.{nat_tests}
+use Rattle.std.proofs.Common.{◌≡◌, ◌≢◌, ℕ, zero, suc, ◌+◌, ◌<◌, Bool, true, false, ◌||◌, length, Some, None, refl, sym, ap, ◌∙◌, subst, ◌⊎◌, inl, inr, arith}
+use Rattle.std.specs.Prelude.{Result, Ok, Err}
 use Rattle.std.proofs.lemmas.Option.{slice_get_within}
 use Rattle.go_base.specs.declared.memory.NoMemory.{NoMemory}
 use Rattle.go_typings.specs.Declarations.{declarations}
 use Rattle.go_typings.specs.PackageEnvironments.{Entries, Entry}
 use Rattle.go_typings.specs.Sources.{PackageSource, Setting}
 use Rattle.go_typings.specs.Typings.{given}
-use Rattle.go_typings.proofs.Cells.{either}
 use Rattle.go_typings.proofs.OneTyping.{grows}
 use Rattle.go_settling.specs.Settling.{AreFromBelow, Attempts, Gains, IsStuck}
 use Rattle.go_settling.specs.inner.Passes.{IsSamePackage, Passed, empties, one_empty}

@@ -1,6 +1,6 @@
 -- How the declarations of a package are settled: one that has no entry gets the one that it is given under those that are had.
 -- Own.
-use Rattle.std.specs.Prelude.{◌≡◌, ◌≢◌, ℕ, Bool, true, false, Option, None, Some, Result, Ok, Err}
+use Rattle.std.specs.Prelude.{◌≡◌, ◌≢◌, ℕ, Bool, true, false, None, Some, Result, Ok, Err}
 use Rattle.go_base.specs.declared.memory.NoMemory.{NoMemory}
 use Rattle.go_typings.specs.Assignments.{At, Below}
 use Rattle.go_typings.specs.Declarations.{declarations}

@@ -5,6 +5,7 @@ use Rattle.go_settling.proofs.settle.settle_all.Given as goal
 abbrev pub invariant-passes : goal.invariant-passes
 invariant-passes g l = record {
   same : IsSamePackage (g.G.Giver.setting l.fn.giver) (g.G.Giver.setting l.giver) (g.G.Giver.source l.fn.giver) (g.G.Giver.source l.giver);
+  held : g.G.Giver.holds l.giver;
   below : AreFromBelow (g.G.Giver.setting l.fn.giver) (g.G.Giver.source l.fn.giver) (g.G.Giver.entries l.giver);
 }
 

@@ -12,11 +12,13 @@ settle_one-requires-clause-below g c =
 pub loop-hint-preserved : goal.loop-hint-preserved
 loop-hint-preserved g c = record {
   same = same_then (g.G.Giver.setting c.args.giver.now) (g.G.Giver.setting c.loop-hint.giver) (g.G.Giver.setting c.settle_one.new.giver) (g.G.Giver.source c.args.giver.now) (g.G.Giver.source c.loop-hint.giver) (g.G.Giver.source c.settle_one.new.giver) c.loop-hint.invariant.same c.settle_one.ensures.same;
+  held = c.in_default.ensures.held;
   below = below_then (g.G.Giver.setting c.args.giver.now) (g.G.Giver.setting c.loop-hint.giver) (g.G.Giver.source c.args.giver.now) (g.G.Giver.source c.loop-hint.giver) (g.G.Giver.entries c.settle_one.new.giver) c.loop-hint.invariant.same c.settle_one.ensures.below;
 }
 
 pub returns-in-Err : goal.returns-in-Err
 returns-in-Err g c = record {
+  held = tt;
   same = same_then (g.G.Giver.setting c.args.giver.now) (g.G.Giver.setting c.loop-hint.giver) (g.G.Giver.setting c.settle_one.new.giver) (g.G.Giver.source c.args.giver.now) (g.G.Giver.source c.loop-hint.giver) (g.G.Giver.source c.settle_one.new.giver) c.loop-hint.invariant.same c.settle_one.ensures.same;
   below = below_then (g.G.Giver.setting c.args.giver.now) (g.G.Giver.setting c.loop-hint.giver) (g.G.Giver.source c.args.giver.now) (g.G.Giver.source c.loop-hint.giver) (g.G.Giver.entries c.settle_one.new.giver) c.loop-hint.invariant.same c.settle_one.ensures.below;
 }
