@@ -4,3 +4,4 @@ pub mod NamesInOrder
 pub mod Stands
 pub mod ToldMethods
 pub mod BaseTypes
+pub mod ToldNamesakes

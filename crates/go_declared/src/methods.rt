@@ -74,7 +74,7 @@ pub fn method_name<'a>(declarations: &[Declaration<'a>], number: usize) -> &'a [
 }
 
 impl DeclaredMethods {
-    fn new(alloc: Global) -> DeclaredMethods
+    pub(crate) fn new(alloc: Global) -> DeclaredMethods
         ensures { result ≡ [] }
     {
         DeclaredMethods {
@@ -100,7 +100,12 @@ impl DeclaredMethods {
         Ok(())
     }
 
-    fn push(&mut self, alloc: Global, name: &Text, row: MethodRow) -> Result<(), NoMemory>
+    pub(crate) fn push(
+        &mut self,
+        alloc: Global,
+        name: &Text,
+        row: MethodRow,
+    ) -> Result<(), NoMemory>
         ensures { OnOk result (self.new ≡ with_row self.old name.now row) }
     {
         if let Some(rows) = self.entries.get_mut(name.bytes()) {
