@@ -1,0 +1,3 @@
+pub mod ListedDeclarations
+pub mod MovedScopes
+pub mod SameSettings

@@ -1,6 +1,6 @@
 -- What the check of a package answers.
 -- Own: words of the contracts.
-use Rattle.std.specs.Prelude.{◌≡◌, ℕ, Bool, Option, None, Some, Result, Ok, Err}
+use Rattle.std.specs.Prelude.{ℕ, Bool, Option, None, Some, Result, Ok, Err}
 use Rattle.go_model.specs.declared.types.package.Package.{Package}
 use Rattle.go_model.specs.worlds.Worlds.{Packages}
 use Rattle.go_check.specs.declared.error.CheckError.{CheckError}

@@ -1,5 +1,5 @@
 //! What is answered of a package whose entries are all had.
-ghost use Rattle.std.specs.Prelude.{◌≡◌, ◌≢◌, ⊥, length};
+ghost use Rattle.std.specs.Prelude.{◌≡◌, length};
 ghost use Rattle.go_check.specs.Answers.{Answers};
 ghost use Rattle.go_declarations.specs.Listings.{declarations_of};
 ghost use Rattle.go_declared.specs.MethodTables.{AreMethods};

@@ -1,5 +1,5 @@
 //! The check of a package.
-ghost use Rattle.std.specs.Prelude.{◌≡◌, ◌≢◌, ◌⊎◌, ◌+◌, ◌-◌, ◌^◌, ⊥, [], false, min, None};
+ghost use Rattle.std.specs.Prelude.{◌≡◌, ◌≢◌, ◌⊎◌, ◌+◌, ◌-◌, ◌^◌, [], false, min, None};
 ghost use Rattle.go_base.specs.Keys.{first_with};
 ghost use Rattle.go_check.specs.Answers.{Answers, setting};
 ghost use Rattle.go_model.specs.worlds.Worlds.{path_of};
@@ -45,6 +45,8 @@ fn check_declarations(
 {
     apart_from_world();
     kept_scopes();
+    // What a world keeps is told by its packages.
+    let _packages = imports.packages();
     let declarations = declarations_in(alloc, unit)?;
     let names = DeclaredNames::of(alloc, declarations.items())?;
     let methods = DeclaredMethods::of(alloc, declarations.items(), &names)?;

@@ -1,1 +1,3 @@
+pub mod NextUnits
 pub mod TypedUnits
+pub mod UnitPrefixes

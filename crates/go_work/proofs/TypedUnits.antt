@@ -1,5 +1,5 @@
 -- Packages that are typed one after another, and what one more of them does.
-use Rattle.std.proofs.Common.{◌≡◌, ℕ, suc, Bool, true, false, List, [], ◌∷◌, ◌++◌, map, length, refl, sym, ap, ◌∙◌, subst, ◌⊎◌, inl, inr}
+use Rattle.std.proofs.Common.{◌≡◌, ℕ, Bool, true, false, List, [], ◌∷◌, ◌++◌, map, length, refl, sym, ◌∙◌, subst, ◌⊎◌, inl, inr}
 use Rattle.std.specs.Prelude.{if◌then◌else◌}
 use Rattle.std.specs.Cmp.Lexicographic.{slice_cmp}
 use Rattle.std.specs.Ordering.{is_lt, nat_cmp}
@@ -8,7 +8,7 @@ use Rattle.go_base.specs.Lists.{Has, Passes}
 use Rattle.go_model.specs.declared.types.package.Package.{Package}
 use Rattle.go_model.specs.worlds.Worlds.{Packages, path_of}
 use Rattle.go_model.proofs.MoreWorlds.{key_placed, keys_kept}
-use Rattle.go_typings.specs.PackageWorlds.{Become, become_none, become_more, Becomes, IsFirstRefused, IsRefusedAt, refused_here, refused_later, IsWorldOf, Outcome, typed, refused, blocked, is_typed, no_packages, over, with_outcome}
+use Rattle.go_typings.specs.PackageWorlds.{Become, become_none, become_more, Becomes, IsFirstRefused, IsRefusedAt, refused_here, refused_later, IsWorldOf, Outcome, typed, refused, blocked, is_typed, over, with_outcome}
 use Rattle.go_typings.specs.Refusals.{Refusal}
 use Rattle.go_typings.specs.Sources.{PackageSource}
 

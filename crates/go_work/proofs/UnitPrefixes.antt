@@ -1,5 +1,5 @@
 -- What stands before a unit in canonical order: all that it needs, and none of its path.
-use Rattle.std.proofs.Common.{◌≡◌, ℕ, zero, suc, ◌+◌, ◌<◌, ◌≤◌, Bool, true, false, List, [], ◌∷◌, ◌++◌, length, map, take, get_or, Option, None, Some, slice_get, refl, sym, ap, ◌∙◌, subst, ◌⊎◌, inl, inr, arith, length-append}
+use Rattle.std.proofs.Common.{◌≡◌, ℕ, zero, suc, ◌+◌, ◌<◌, ◌≤◌, Bool, true, false, List, [], ◌∷◌, ◌++◌, length, map, take, get_or, None, slice_get, refl, sym, ap, ◌∙◌, subst, ◌⊎◌, inl, inr, arith, length-append}
 use Rattle.std.proofs.lemmas.List.{take_more}
 use Rattle.std.proofs.lemmas.Slice.Eq.{bytes_eq-Decides}
 use Rattle.std.specs.Str.{bytes_eq}
@@ -14,7 +14,7 @@ use Rattle.go_model.specs.declared.types.package.Package.{Package}
 use Rattle.go_model.specs.worlds.Worlds.{Packages, path_of}
 use Rattle.go_sources.specs.UnitSources.{file_of, import_of, source_of}
 use Rattle.go_typings.specs.PackageWorlds.{AreTyped, IsWorldOf}
-use Rattle.go_typings.specs.Sources.{Import, PackageSource, SourceFile, imports_in, imports_of}
+use Rattle.go_typings.specs.Sources.{Import, imports_in, imports_of}
 use Rattle.go_units.proofs.NeededPaths.{found_needed}
 use Rattle.go_units.specs.UnitFacts.{needed_by}
 use Rattle.go_units.specs.UnitOrders.{AreInOrder, InOrder, none, next, IsNextUnit, Stands}

@@ -10,10 +10,9 @@ use go_base::memory::NoMemory;
 use go_base::steps::Steps;
 use go_check::check::check_package;
 use go_check::error::CheckError;
-use go_model::types::package::Package;
 use go_model::types::world::World;
 use go_outside::gate::Gate;
-use go_units::unit::Unit;
+use go_typed_packages::laws::joins_world;
 use go_units::unit_list::Units;
 use std::alloc::Global;
 
@@ -44,6 +43,9 @@ fn add_next<G: Gate, L: Copy + Send>(
     ensures refused { IfErr result (Refuses bits (sources units.now.packages)) }
     ensures steps { steps.new ≤ steps.old + 1 }
 {
+    joins_world();
+    // What a world keeps is told by its packages.
+    let _packages = world.packages();
     let unit = &units.packages.items()[number];
     gate.enter(0, number as u32);
     match check_package(alloc, unit, world, bits, steps) {
@@ -71,7 +73,7 @@ pub fn world<G: Gate, L: Copy + Send>(
     ensures steps { steps.new ≤ steps.old + length units.now.packages }
 {
     let mut world = World::empty(alloc);
-    for number in 0..units.packages.len() {
+    for number in 0..units.packages.items().len() {
         match add_next(alloc, units, number, bits, gate, steps, &mut world) {
             Ok(()) => {}
             Err(error) => return Err(error),

@@ -3,7 +3,9 @@ ghost use Rattle.std.specs.Prelude.{OnOk};
 ghost use Rattle.go_base.specs.Lists.{Has};
 ghost use Rattle.go_model.specs.files.Trees.{IsTree};
 
+use crate::features::features;
 use crate::lines::{add_error, add_units};
+use crate::question::Question;
 use go_base::list::List;
 use go_base::memory::NoMemory;
 use go_base::text::Text;
@@ -24,7 +26,10 @@ fn bar(alloc: Global, barred: &mut List<Text>, path: &[u8]) -> Result<(), NoMemo
     Ok(())
 }
 
-fn shown(alloc: Global, answer: Result<Units, UnitError>) -> Result<Vec<u8>, AllocError> {
+fn shown(
+    alloc: Global,
+    answer: Result<Units, UnitError>,
+) -> Result<Vec<u8>, AllocError> {
     let mut text = Vec::new(alloc);
     match answer {
         Ok(units) => add_units(alloc, &mut text, &units)?,
@@ -39,6 +44,7 @@ fn said(alloc: Global, word: &str) -> Result<Vec<u8>, AllocError> {
 
 fn of_trees(
     alloc: Global,
+    question: Question,
     platform: Platform,
     tree: &Tree,
     std_tree: &Tree,
@@ -50,14 +56,16 @@ fn of_trees(
     if let Err(_) = bar(alloc, &mut barred, tree.module.bytes()) {
         return Err(AllocError);
     }
-    shown(
-        alloc,
-        units(alloc, tree, std_tree, barred.items(), platform),
-    )
+    let answer = units(alloc, tree, std_tree, barred.items(), platform);
+    match (question, answer) {
+        (Question::Features, Ok(units)) => features(alloc, platform, &units),
+        (_, answer) => shown(alloc, answer),
+    }
 }
 
 fn of_store(
     alloc: Global,
+    question: Question,
     platform: Platform,
     mut store: MemoryFiles,
     barred: List<Text>,
@@ -70,18 +78,19 @@ fn of_store(
         Err(_) => return said(alloc, "no standard library"),
         Ok(tree) => tree,
     };
-    of_trees(alloc, platform, &tree, &std_tree, barred)
+    of_trees(alloc, question, platform, &tree, &std_tree, barred)
 }
 
-/// The units of these files, or the first refusal, as it is printed.
+/// The answer to a question on these files, or the first refusal, as it is printed.
 pub fn answer(
     alloc: Global,
+    question: Question,
     platform: Platform,
     pairs: List<FilePair>,
     barred: List<Text>,
 ) -> Result<Vec<u8>, AllocError> {
     match MemoryFiles::new(alloc, pairs) {
         Err(_) => said(alloc, "files clash"),
-        Ok(store) => of_store(alloc, platform, store, barred),
+        Ok(store) => of_store(alloc, question, platform, store, barred),
     }
 }

@@ -1,5 +1,6 @@
 //! The files of a case, which are told line by line.
 use crate::answer::answer;
+use crate::question::Question;
 use go_base::list::List;
 use go_base::memory::NoMemory;
 use go_base::text::Text;
@@ -19,6 +20,10 @@ pub struct Case {
 
 fn out_of_memory(_: NoMemory) -> AllocError {
     AllocError
+}
+
+fn not_understood(alloc: Global) -> Result<Vec<u8>, AllocError> {
+    Ok(format!(in alloc; "not understood\n")?.into_bytes())
 }
 
 impl Case {
@@ -66,11 +71,19 @@ impl Case {
         self.barred.push(path).map_err(out_of_memory)
     }
 
-    fn ask(&mut self, alloc: Global, platform: Platform) -> Result<Vec<u8>, AllocError> {
+    fn ask(
+        &mut self,
+        alloc: Global,
+        question: Question,
+        name: &str,
+    ) -> Result<Vec<u8>, AllocError> {
+        let Some(platform) = platform(name.as_bytes()) else {
+            return not_understood(alloc);
+        };
         self.end_file(alloc)?;
         let pairs = std::mem::replace(&mut self.pairs, List::new(alloc));
         let barred = std::mem::replace(&mut self.barred, List::new(alloc));
-        answer(alloc, platform, pairs, barred)
+        answer(alloc, question, platform, pairs, barred)
     }
 
     /// Takes a line; what is to be printed.
@@ -86,13 +99,9 @@ impl Case {
             Some(("new", path)) => self.begin_file(alloc, "new", path)?,
             Some(("std", path)) => self.begin_file(alloc, "std", path)?,
             Some(("barred", path)) => self.bar(alloc, path)?,
-            Some(("units", name)) => {
-                if let Some(platform) = platform(name.as_bytes()) {
-                    return self.ask(alloc, platform);
-                }
-                return Ok(format!(in alloc; "not understood\n")?.into_bytes());
-            }
-            _ => return Ok(format!(in alloc; "not understood\n")?.into_bytes()),
+            Some(("units", name)) => return self.ask(alloc, Question::Units, name),
+            Some(("features", name)) => return self.ask(alloc, Question::Features, name),
+            _ => return not_understood(alloc),
         }
         Ok(Vec::new(alloc))
     }

@@ -1,4 +1,4 @@
-//! Tells the units of trees. It reads lines, of which each begins with a word:
+//! Tells the units of trees, and the features of their packages. It reads lines, of which each begins with a word:
 //!
 //! ```text
 //! new PATH        a file of the module's tree, whose lines follow
@@ -6,17 +6,20 @@
 //! |TEXT           a line of the last file
 //! barred PATH     the path of a module of the run, beside that of the tree
 //! units PLATFORM  asks for the units of these files, which are then forgotten
+//! features PLATFORM   asks for the features of the public packages, and forgets the files too
 //! ```
 //!
-//! It answers the last of these by a line for each unit: its path, its name, its side and the paths that it needs, each behind
+//! It answers `units` by a line for each unit: its path, its name, its side and the paths that it needs, each behind
 //! `needs`. Behind it stand its files, and behind each of them the imports that it uses: the qualifier, the path, whether it is
-//! found, and the place. Or it answers the first refusal. A line that begins with `#` is printed as it is; any other is
+//! found, and the place. It answers `features` by a line for each feature. Or it answers the first refusal. A line that begins with `#` is printed as it is; any other is
 //! `not understood`.
 #![tactic(auto)]
 
 mod answer;
 mod case;
+mod features;
 mod lines;
+mod question;
 
 use crate::case::Case;
 use anyhow::Result;
