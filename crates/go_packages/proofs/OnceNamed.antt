@@ -131,14 +131,17 @@ module _ (u : PackageSource) (type : List ℕ) where
   declared_by k (definition s) m h = absurd h
   declared_by k (function f) m h = absurd h
 
+  moved : (j k : ℕ) (f : Form) (m : DeclaredMethod) → j ≡ k → Declares j f m → Declares k f m
+  moved j k f m e h = subst (λ (n : ℕ). Declares n f m) e h
+
   abbrev StandsIn : ℕ → List Declaration → DeclaredMethod → Type 0
   StandsIn k ds m = (place : ℕ) × (d : Declaration) × (slice_get ds place ≡ Some d) × Declares (k + place) d.form m
 
   stands_in : (k : ℕ) (ds : List Declaration) (m : DeclaredMethod) → Has (methods_from u type k ds) m → StandsIn k ds m
   stands_in k [] m h = absurd h
   stands_in k (d ∷ ds) m h = elim (has_split (method_by u type k d.form) (methods_from u type (suc k) ds) m h) [
-    | inl i ↦ (0, d, refl, subst (λ (n : ℕ). Declares n d.form m) (let e : k ≡ k + 0 = omega arith in e) (declared_by k d.form m i))
-    | inr i ↦ (let r = stands_in (suc k) ds m i in (suc r.0, r.1, r.2, subst (λ (n : ℕ). Declares n r.1.form m) (let e : suc k + r.0 ≡ k + suc r.0 = omega arith in e) r.3))
+    | inl i ↦ (0, d, refl, moved k (k + 0) d.form m (omega arith) (declared_by k d.form m i))
+    | inr i ↦ (let r = stands_in (suc k) ds m i in (suc r.0, r.1, r.2, moved (suc k + r.0) (k + suc r.0) r.1.form m (omega arith) r.3))
   ]
 
   filtered_has : (ms : List DeclaredMethod) (m : DeclaredMethod) → Has (filter is_selectable ms) m → Has ms m × (is_selectable m ≡ true)
@@ -170,8 +173,8 @@ module _ (u : PackageSource) (type : List ℕ) where
     once m n h k e =
         let f = filtered_has (methods_from u type 0 (declarations u)) m h in
         let r = stands_in 0 (declarations u) m f.0 in
-        let number : m.number ≡ r.0 = r.3.at in
-        let only = only_at m r.1 f.1 (ap (slice_get (declarations u)) number ∙ r.2) (subst (λ (x : ℕ). Declares x r.1.form m) (sym number) r.3) in
+        let number : m.number ≡ r.0 = r.3.at ∙ (let e : 0 + r.0 ≡ r.0 = omega arith in e) in
+        let only = only_at m r.1 f.1 (ap (slice_get (declarations u)) number ∙ r.2) (moved (0 + r.0) m.number r.1.form m (sym r.3.at) r.3) in
         sym (only n k (ap (λ (x : Sel). x.name) (sym e)))
 
     -- the methods of the type that are had have different selectors
