@@ -1,5 +1,5 @@
 -- The defined types of names in order are found by the names.
-use Rattle.std.proofs.Common.{◌≡◌, ◌+◌, ◌<◌, ◌≤◌, ℕ, suc, Bool, true, false, List, [], ◌∷◌, ◌++◌, append_assoc, append-nil, add-one, drop, drop-cons, get_or, length, map, Option, Some, None, refl, sym, ap, ◌∙◌, subst, inl, inr}
+use Rattle.std.proofs.Common.{◌≡◌, ◌+◌, ◌<◌, ◌≤◌, ℕ, Bool, true, false, List, [], ◌∷◌, ◌++◌, append_assoc, append-nil, add-one, drop, drop-cons, get_or, length, map, Option, Some, None, refl, sym, ap, ◌∙◌, subst, inl, inr}
 use mathlib.Core.Bool.{true≢false}
 use Rattle.std.specs.Prelude.{if◌then◌else◌}
 use Rattle.std.specs.Cmp.Lexicographic.{bytes_decides}

@@ -1,5 +1,5 @@
 -- In a typing no two methods of a type that a selector can find have one selector.
-use Rattle.std.proofs.Common.{◌≡◌, ◌≤◌, ◌<◌, ◌+◌, ℕ, zero, suc, Bool, true, false, not, ◌⊎◌, cond, List, [], ◌∷◌, ◌++◌, Option, Some, None, length, refl, sym, ap, ◌∙◌, subst, inl, inr, arith}
+use Rattle.std.proofs.Common.{◌≡◌, ◌≤◌, ◌+◌, ℕ, suc, Bool, true, false, not, cond, List, [], ◌∷◌, ◌++◌, Option, Some, None, length, refl, sym, ap, ◌∙◌, subst, inl, inr, arith}
 use mathlib.Core.Bool.{true≢false}
 use Rattle.std.specs.Prelude.{filter, if◌then◌else◌, slice_get}
 use Rattle.std.specs.Cmp.Lexicographic.{bytes_decides}
@@ -83,9 +83,10 @@ rises_filtered k (m ∷ ms) h = by (is_selectable m) (rises_filtered (suc m.numb
 
 apart : (k : ℕ) (ms : List DeclaredMethod) → Rises k ms → ((m n : DeclaredMethod) → Has ms m → Has ms n → m.sel ≡ n.sel → m.number ≡ n.number) → AreApart ms
 apart k [] h once = tt
-apart k (m ∷ ms) h once =
-    (λ n i e. (let l = rises_each (suc m.number) ms n h.1 i in let j = once m n (inl refl) (inr i) e in omega (arith, l, j)),
-     apart (suc m.number) ms h.1 (λ x y i j. once x y (inr i) (inr j)))
+apart k (m ∷ ms) h once = (
+  λ n i e. (let l = rises_each (suc m.number) ms n h.1 i in let j = once m n (inl refl) (inr i) e in omega (arith, l, j)),
+  apart (suc m.number) ms h.1 (λ x y i j. once x y (inr i) (inr j)),
+)
 
 module _ (u : PackageSource) (type : List ℕ) where
   rises_by : (k : ℕ) (f : Form) (rest : List DeclaredMethod) → Rises (suc k) rest → Rises k (method_by u type k f ++ rest)

@@ -1,5 +1,5 @@
 -- The package of entries that are a typing.
-use Rattle.std.proofs.Common.{◌≡◌, ℕ, Bool, true, false, cond, List, [], ◌∷◌, map, Option, Some, None, refl, sym, ap, ◌∙◌, subst, inl, inr}
+use Rattle.std.proofs.Common.{◌≡◌, ℕ, Bool, true, false, cond, List, [], ◌∷◌, map, Some, None, refl, sym, ap, ◌∙◌, subst, inl, inr}
 use Rattle.std.specs.List.{IsDistinct}
 use Rattle.std.specs.Map.{lookup}
 use Rattle.std.specs.Cmp.Lexicographic.{bytes_decides}
@@ -11,11 +11,10 @@ use Rattle.go_declared.specs.NameTables.{AreDeclared, names_in}
 use Rattle.go_declared.specs.declared.names.NamePlace.{NamePlace}
 use Rattle.go_model.specs.declared.types.package.Defined.{Defined}
 use Rattle.go_model.specs.declared.types.package.Object.{Object}
-use Rattle.go_model.specs.declared.types.package.Package.{Package}
 use Rattle.go_model.specs.worlds.Worlds.{object_name}
 use Rattle.go_rules.specs.Names.{Named, value_at}
 use Rattle.go_rules.specs.Scopes.{entity_of}
-use Rattle.go_typings.specs.Declarations.{declarations, declared, Declaration}
+use Rattle.go_typings.specs.Declarations.{declarations, declared}
 use Rattle.go_typings.specs.PackageEnvironments.{Entries, defined_at, entity_at, own_defined, own_entity}
 use Rattle.go_typings.specs.Sources.{PackageSource, Setting}
 use Rattle.go_typings.specs.TypedPackages.{IsOrdered, IsPackageOf}

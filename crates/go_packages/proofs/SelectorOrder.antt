@@ -1,5 +1,5 @@
 -- Methods that were sorted by their selectors.
-use Rattle.std.proofs.Common.{◌≡◌, ◌↔◌, ◌+◌, ◌<◌, ◌≤◌, ℕ, zero, suc, Bool, true, false, List, [], ◌∷◌, length, map, get_or, refl, sym, ap, ◌∙◌, subst, inl, inr, arith}
+use Rattle.std.proofs.Common.{◌≡◌, ◌↔◌, ◌+◌, ◌<◌, ℕ, zero, suc, Bool, true, false, List, [], ◌∷◌, length, map, get_or, refl, sym, ap, ◌∙◌, subst, inl, inr, arith}
 use mathlib.Core.Bool.{true≢false}
 use Rattle.std.specs.Cmp.{IsStrictWeakOrder, IsTotalOrder}
 use Rattle.std.specs.Cmp.Lexicographic.{on_texts, slice_cmp}
@@ -72,9 +72,10 @@ all_after m (n ∷ ms) h a = (less_of m.sel n.sel (h 0 n (omega arith)) a.0, all
 strictly_sorted : (ms : List MethodOf) → IsSortedBy comes_first ms → IsDistinct is_same ms → IsStrictlySortedBy sel_order (map declared_sel ms)
 unfolding IsStrictlySortedBy
 strictly_sorted [] up apart = tt
-strictly_sorted (m ∷ ms) up apart =
-    (all_after m ms (λ k d h. sorted_far comes_first by_selector (m ∷ ms) up 0 (suc k) d (omega arith) (omega (arith, h))) (IsDistinct-head is_same m ms apart),
-     strictly_sorted ms (rest_sorted m ms up) (IsDistinct-tail is_same m ms apart))
+strictly_sorted (m ∷ ms) up apart = (
+  all_after m ms (λ k d h. sorted_far comes_first by_selector (m ∷ ms) up 0 (suc k) d (omega arith) (omega (arith, h))) (IsDistinct-head is_same m ms apart),
+  strictly_sorted ms (rest_sorted m ms up) (IsDistinct-tail is_same m ms apart),
+)
 
 -- methods of different selectors that were sorted are in order
 pub in_order : (had ms : List MethodOf) → AreSorted had ms → IsDistinct is_same had → IsStrictlySortedBy sel_order (map declared_sel ms)
