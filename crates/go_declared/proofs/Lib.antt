@@ -3,3 +3,5 @@ pub mod Declared
 pub mod NamesInOrder
 pub mod Stands
 pub mod ToldMethods
+pub mod BaseTypes
+pub mod ToldNamesakes

@@ -7,7 +7,7 @@ ghost use Rattle.go_rules.specs.Names.{value_at, with_value};
 ghost use Rattle.go_rules.specs.inner.Entries.{by_text};
 ghost use Rattle.go_typings.specs.Declarations.{is_init, names_of};
 ghost use Rattle.go_rules.specs.Expressions.{is_blank};
-ghost use Rattle.go_declared.specs.NameTables.{AreDeclared, names_in, texts_of};
+ghost use Rattle.go_declared.specs.NameTables.{AreDeclared, is_first, names_in, texts_of};
 ghost use Rattle.go_declared.specs.inner.Adding.{with_first, with_names};
 
 use go_base::list::List;
@@ -86,6 +86,16 @@ impl DeclaredNames {
         ensures { result ≡ value_at self.now name.now }
     {
         self.entries.get(name).copied()
+    }
+
+    /// Whether the declaration of this number is the first that declares a name.
+    pub fn is_first(&self, number: usize, name: &[u8]) -> bool
+        ensures { result ≡ is_first self.now number name.now }
+    {
+        match self.get(name) {
+            None => false,
+            Some(place) => place.number == number,
+        }
     }
 
     /// The names in the order of bytes, each once.

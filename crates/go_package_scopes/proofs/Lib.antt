@@ -6,5 +6,9 @@ pub mod NumberedMethods
 pub mod ShownMethods
 pub mod OneMoreEntry
 pub mod UnderlyingTypes
+pub mod Tables
 pub mod ScopesOf
 pub mod KeptScopes
+pub mod KeptObjects
+pub mod KeptTypes
+pub mod KeptMethods

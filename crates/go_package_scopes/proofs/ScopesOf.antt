@@ -71,6 +71,6 @@ scope_of s u a c keeps = record {
   announced = keeps.announced;
   objects = keeps.objects;
   types = λ name.
-    subst (λ (o : Option Defined). HaveSame (missing a (methods u name)) (lacking (items_at c.awaited name) (methods_of_entry (value_at c.defined name))) o (value_at c.defined name)) (sym (own_is u a name))
-    (have_same a (methods u name) (items_at c.awaited name) (keeps.awaited name) name (under_at a (declared (declarations u) name)) (value_at c.defined name) (under_of u a name (value_at c.defined name) (keeps.types name)));
+      subst (λ (o : Option Defined). HaveSame (missing a (methods u name)) (lacking (items_at c.awaited name) (methods_of_entry (value_at c.defined name))) o (value_at c.defined name)) (sym (own_is u a name))
+      (have_same a (methods u name) (items_at c.awaited name) (keeps.awaited name) name (under_at a (declared (declarations u) name)) (value_at c.defined name) (under_of u a name (value_at c.defined name) (keeps.types name)));
 }

@@ -20,11 +20,15 @@ abbrev pub under_at : Entries → Option Declared → Option Term
 under_at a None = None
 under_at a (Some w) = under_by a w.number w.form
 
--- the scopes have a type exactly where the type underneath it is had, and show what is had
+-- a type is there exactly where the type underneath it is had, and shows what is had
 abbrev pub ShowsUnder : Entries → List DeclaredMethod → Option Term → Option Defined → Type 0
 ShowsUnder a ms None None = Unit {0}
 ShowsUnder a ms (Some t) (Some e) = ShowsType a ms t e
 ShowsUnder a ms t e = ⊥
+
+-- the same of the type of this name
+abbrev pub ShowsOwn : PackageSource → Entries → List ℕ → Option Defined → Type 0
+ShowsOwn u a name e = ShowsUnder a (methods u name) (under_at a (declared (declarations u) name)) e
 
 module _ (u : PackageSource) (a : Entries) (name : List ℕ) where
   defined_under : (number : ℕ) (f : Form) → defined_by u a name number f ≡ defined_with name (had a (methods u name)) (under_by a number f)
@@ -55,10 +59,10 @@ module _ (u : PackageSource) (a : Entries) (name : List ℕ) where
     from_under (Some t) None k = k
     from_under (Some t) (Some e) k = k
 
-  pub under_of : (e : Option Defined) → Shows a (methods u name) (own_defined u a name) e → ShowsUnder a (methods u name) (under_at a (declared (declarations u) name)) e
+  pub under_of : (e : Option Defined) → Shows a (methods u name) (own_defined u a name) e → ShowsOwn u a name e
   under_of e k = to_under (methods u name) (had a (methods u name)) (under_at a (declared (declarations u) name)) e (subst (λ (o : Option Defined). Shows a (methods u name) o e) own_is k)
 
-  pub of_under : (e : Option Defined) → ShowsUnder a (methods u name) (under_at a (declared (declarations u) name)) e → Shows a (methods u name) (own_defined u a name) e
+  pub of_under : (e : Option Defined) → ShowsOwn u a name e → Shows a (methods u name) (own_defined u a name) e
   of_under e k = subst (λ (o : Option Defined). Shows a (methods u name) o e) (sym own_is) (from_under (methods u name) (had a (methods u name)) (under_at a (declared (declarations u) name)) e k)
 
 module _ (a b : Entries) where
@@ -71,7 +75,8 @@ module _ (a b : Entries) where
   form_under number (method receiver f) h = refl
 
   -- the same is underneath, where it is that of the definition
-  pub under_same : (w : Option Declared) → ((v : Declared) → w ≡ Some v → (spec : TypeSpec) → v.form ≡ definition spec → underlying_of (a v.number) ≡ underlying_of (b v.number)) → under_at a w ≡ under_at b w
+  pub under_same : (w : Option Declared) → ((v : Declared) → w ≡ Some v → (spec : TypeSpec) → v.form ≡ definition spec → underlying_of (a v.number) ≡ underlying_of (b v.number))
+      → under_at a w ≡ under_at b w
   under_same None h = refl
   under_same (Some w) h = form_under w.number w.form (h w refl)
 

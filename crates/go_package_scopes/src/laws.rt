@@ -33,8 +33,8 @@ pub fn same_environment()
     ensures given { (s : Setting) (u : PackageSource) (a : Entries) (c : Scopes) (d : Declaration) (f : Form) (x : Entry) → IsScopeOf s u a c → u.path ≢ [] → Gives (env_of (at_declaration c d)) (declarations u) f x ↔ Gives (environment s u a d) (declarations u) f x }
 {}
 
-/// There a declaration meets what it is asked, names other declarations and finds methods exactly where it does in the package's
-/// environment.
+/// Where scopes keep what is had of a package, a declaration meets there what it is asked, names declarations and finds methods
+/// exactly where it does in the package's environment.
 pub fn same_answers()
     ensures asks { (s : Setting) (u : PackageSource) (a : Entries) (c : Scopes) (d : Declaration) (n : ℕ) (f : Form) → IsScopeOf s u a c → u.path ≢ [] → Asks (env_of (at_declaration c d)) u n f ↔ Asks (environment s u a d) u n f }
     ensures names { (s : Setting) (u : PackageSource) (a : Entries) (c : Scopes) (d : Declaration) (f : Form) (rs : List Reference) (n : ℕ) → IsScopeOf s u a c → u.path ≢ [] → NamesDeclaration (env_of (at_declaration c d)) u f rs n ↔ NamesDeclaration (environment s u a d) u f rs n }

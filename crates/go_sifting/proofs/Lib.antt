@@ -1,0 +1,3 @@
+pub mod Sifting
+pub mod Joining
+pub mod Ending

@@ -1,6 +1,6 @@
 -- What the declarations of a package have to do with one another, as rows of numbers.
 -- Own: graphs as lists.
-use Rattle.std.specs.Prelude.{◌≡◌, ◌×◌, ◌⊎◌, ◌↔◌, ℕ, List, length, Some}
+use Rattle.std.specs.Prelude.{◌≡◌, ◌⊎◌, ◌↔◌, ℕ, List, length, Some}
 use Rattle.go_base.specs.Lists.{Has}
 use Rattle.go_graphs.specs.Walks.{row_of}
 use Rattle.go_typings.specs.Assignments.{At}

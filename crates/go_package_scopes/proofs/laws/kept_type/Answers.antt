@@ -1,8 +1,8 @@
-use Rattle.go_package_scopes.proofs.KeptScopes.{type_elsewhere, type_more}
+use Rattle.go_package_scopes.proofs.KeptTypes.{type_elsewhere, type_more}
 use Rattle.go_package_scopes.proofs.laws.kept_type.Goals as goal
 
 pub returns-clause-first : goal.returns-clause-first
-returns-clause-first c = λ s u a scopes n d spec t e keeps fresh at form first shows. type_more s u a scopes keeps n fresh d spec t at form e first shows
+returns-clause-first c = λ s u a scopes n d spec t e keeps fresh at form. type_more s u a scopes n d spec t keeps fresh at form e
 
 pub returns-clause-other : goal.returns-clause-other
-returns-clause-other c = λ s u a scopes n d spec t keeps fresh at form not. type_elsewhere s u a scopes keeps n fresh d spec t at form not
+returns-clause-other c = type_elsewhere

@@ -1,0 +1,12 @@
+pub mod JoinedWorlds
+pub mod KeptDeclarations
+pub mod KeptEnvironments
+pub mod KeptFinds
+pub mod KeptPackages
+pub mod KeptResults
+pub mod KeptRules
+pub mod KeptTerms
+pub mod Lists
+pub mod NamedParts
+pub mod OwnDeclarations
+pub mod Shapes

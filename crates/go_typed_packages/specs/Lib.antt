@@ -1,0 +1,2 @@
+pub mod PackageShapes
+pub mod inner

@@ -1,0 +1,2 @@
+pub mod KeptTypes
+pub mod NamedMembers
