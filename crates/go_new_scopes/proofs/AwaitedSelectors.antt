@@ -1,5 +1,5 @@
 -- Which methods are awaited, where those of the types of declarations were awaited in turn.
-use Rattle.std.proofs.Common.{◌≡◌, ◌+◌, ◌<◌, ℕ, suc, Bool, true, false, ◌||◌, ◌&&◌, cond, List, [], ◌∷◌, ◌++◌, map, Option, None, Some, refl, sym, ap, ◌∙◌, subst, arith, append_assoc, append-nil}
+use Rattle.std.proofs.Common.{◌≡◌, ℕ, suc, Bool, true, false, ◌||◌, ◌&&◌, List, [], ◌∷◌, ◌++◌, map, Option, None, Some, refl, sym, ap, ◌∙◌, arith, append_assoc, append-nil}
 use mathlib.Core.Bool.{true≢false}
 use Rattle.std.specs.Prelude.{filter, if◌then◌else◌, not}
 use Rattle.std.specs.Cmp.Lexicographic.{bytes_decides}
@@ -17,7 +17,7 @@ use Rattle.go_package_scopes.specs.KeptScopes.{selector_of, selectors}
 use Rattle.go_rules.specs.Expressions.{is_blank}
 use Rattle.go_rules.specs.Names.{Named, items_at, value_at, with_value}
 use Rattle.go_syntax.specs.declared.types.ParameterDecl.{ParameterDecl}
-use Rattle.go_typings.specs.Declarations.{alias, constants, declarations, declared, Declaration, Declared, definition, Form, function, method, variables}
+use Rattle.go_typings.specs.Declarations.{alias, constants, declarations, declared, Declaration, definition, Form, function, method, variables}
 use Rattle.go_typings.specs.Receivers.{base, DeclaredMethod, is_named, is_pointer_form, is_selectable, method_by, methods_from, receiver_form, selector}
 use Rattle.go_typings.specs.Sources.{PackageSource}
 use Rattle.go_new_scopes.proofs.Lookups.{put_told}

@@ -1,5 +1,5 @@
 -- What files import, where imports were added in turn.
-use Rattle.std.proofs.Common.{◌≡◌, ◌≢◌, ◌+◌, ◌<◌, nat_eq, ℕ, zero, suc, Bool, true, false, ◌||◌, cond, List, [], ◌∷◌, Option, None, Some, refl, sym, ap, ◌∙◌, subst, arith}
+use Rattle.std.proofs.Common.{◌≡◌, ◌+◌, ◌<◌, nat_eq, ℕ, zero, suc, Bool, true, false, ◌||◌, cond, List, [], ◌∷◌, Option, None, Some, refl, sym, ap, ◌∙◌, subst, arith}
 use mathlib.Core.Bool.{true≢false}
 use Rattle.std.specs.Prelude.{if◌then◌else◌, is_some, slice_get}
 use Rattle.std.specs.BTreeMap.{insert_entry}
@@ -12,10 +12,9 @@ use Rattle.std.specs.Str.{bytes_eq}
 use Rattle.std.specs.declared.cmp.Ordering.{Ordering}
 use Rattle.std.specs.declared.cmp.Ordering.TheVariants.{Less, Equal, Greater}
 use Rattle.std.proofs.lemmas.Bool.{eqb-true, eq-eqb}
-use Rattle.std.proofs.lemmas.Bool.Decides.{nat_tests}
 use Rattle.std.proofs.lemmas.Map.Lookups.{exact_unsigned}
 use Rattle.go_base.specs.Keys.{first_with}
-use Rattle.go_rules.specs.Names.{Named, value_at, with_value}
+use Rattle.go_rules.specs.Names.{value_at, with_value}
 use Rattle.go_rules.specs.Scopes.{imports_in}
 use Rattle.go_typings.specs.Declarations.{is_init}
 use Rattle.go_typings.specs.PackageEnvironments.{path_in}

@@ -1,6 +1,5 @@
 -- Which names mean types, where the types of declarations were declared in turn.
-use Rattle.std.proofs.Common.{◌≡◌, ℕ, suc, Bool, true, false, ◌||◌, ◌&&◌, cond, List, [], ◌∷◌, Option, None, Some, refl, sym, ap, ◌∙◌, subst}
-use mathlib.Core.Bool.{true≢false}
+use Rattle.std.proofs.Common.{◌≡◌, ℕ, suc, Bool, true, false, ◌||◌, ◌&&◌, List, [], ◌∷◌, Option, None, Some, refl, sym, ap, ◌∙◌}
 use Rattle.std.specs.Prelude.{if◌then◌else◌, is_some}
 use Rattle.std.specs.Cmp.Lexicographic.{bytes_decides}
 use Rattle.std.specs.Option.{option_or}
@@ -11,7 +10,7 @@ use Rattle.go_declared.specs.declared.names.NamePlace.{NamePlace}
 use Rattle.go_rules.specs.Names.{Named, value_at, with_value}
 use Rattle.go_rules.specs.declared.seen.Seen.{Seen}
 use Rattle.go_typings.specs.Declarations.{alias, constants, declared, Declaration, Declared, definition, Form, function, method, variables}
-use Rattle.go_typings.specs.PackageEnvironments.{as_object, Entries, entity_at}
+use Rattle.go_typings.specs.PackageEnvironments.{as_object, entity_at}
 use Rattle.go_new_scopes.proofs.Lookups.{none_or, or_none, or_or, put_told, some_or}
 use Rattle.go_new_scopes.proofs.OwnDeclarations.{is_definition, names_type, own_by, own_first, own_from}
 use Rattle.go_new_scopes.specs.inner.OwnTypes.{type_object, with_declarations, with_form, with_type}
