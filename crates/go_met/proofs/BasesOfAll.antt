@@ -1,5 +1,5 @@
 -- What is told of receivers, once all declarations were gone over.
-use Rattle.std.proofs.Common.{◌≡◌, ◌≢◌, ◌+◌, ◌<◌, ◌≤◌, ℕ, zero, suc, Bool, true, false, List, [], ◌∷◌, length, map, replicate, get_or, Option, None, Some, refl, sym, ap, ◌∙◌, subst, ◌⊎◌, inl, inr, arith}
+use Rattle.std.proofs.Common.{◌≡◌, ◌+◌, ◌<◌, ℕ, zero, suc, true, List, [], ◌∷◌, length, replicate, get_or, Option, None, Some, refl, sym, ap, ◌∙◌, subst, ◌⊎◌, inl, inr, arith}
 use mathlib.Core.Bool.{true≢false}
 use Rattle.std.specs.Prelude.{is_some, slice_get}
 use Rattle.std.proofs.lemmas.Bool.{eq-eqb}
@@ -11,23 +11,23 @@ use Rattle.go_declarations.specs.Listings.{declaration_of, declarations_of}
 use Rattle.go_declarations.specs.declared.listing.Declaration.{Declaration as Borrowed}
 use Rattle.go_declared.proofs.BaseTypes.{base_defined}
 use Rattle.go_declared.proofs.Declared.{as_long}
-use Rattle.go_declared.proofs.Stands.{stands}
+use Rattle.go_declared.proofs.Stands.{borrowed_at, stands}
 use Rattle.go_declared.specs.MethodTables.{AreMethods, method_name, name_by, name_in}
 use Rattle.go_declared.specs.NameTables.{AreDeclared, is_first, is_in, place_of}
 use Rattle.go_declared.specs.declared.methods.MethodRow.{MethodRow}
 use Rattle.go_declared.specs.declared.names.NamePlace.{NamePlace}
-use Rattle.go_rules.specs.Names.{Named, items_at, value_at}
+use Rattle.go_rules.specs.Names.{Named, items_at}
 use Rattle.go_selectors.specs.Answers.{Decides}
 use Rattle.go_syntax.specs.declared.declaration.Func.{Func}
 use Rattle.go_syntax.specs.declared.declaration.TypeSpec.{TypeSpec}
 use Rattle.go_syntax.specs.declared.types.ParameterDecl.{ParameterDecl}
 use Rattle.go_typings.proofs.Cells.{none_some, some_once}
-use Rattle.go_typings.specs.Declarations.{alias, constants, declarations, declared, Declaration, definition, Form, function, method, variables}
+use Rattle.go_typings.specs.Declarations.{alias, constants, declarations, Declaration, definition, Form, function, method, variables}
 use Rattle.go_typings.specs.Receivers.{base}
 use Rattle.go_typings.specs.Sources.{PackageSource}
 use Rattle.go_met.proofs.MethodRows.{declares_row, only_decided, row_declares}
 use Rattle.go_met.specs.inner.SharedNames.{row_names, StandsTwice}
-use Rattle.go_met.specs.inner.ToldBases.{AreTold, HasNumber, IsAlone, IsBase, IsOfType, TellBases, TellsForm, TellsType, told_at}
+use Rattle.go_met.specs.inner.ToldBases.{AreTold, HasNumber, IsAlone, IsOfType, TellBases, TellsForm, TellsType, told_at}
 
 -- ---- one declaration
 
@@ -139,3 +139,24 @@ pub bases_told : (ds : List Declaration) (names : Named NamePlace) (methods : Na
 bases_told ds names methods told are rows all u h =
     subst (λ (xs : List Declaration). (n : ℕ) (d : Declaration) → slice_get xs n ≡ Some d → TellsBase u n d.form (told_at told n)) h
     (told_base u names methods (subst (λ (xs : List Declaration). AreDeclared xs names) (sym h) are) (subst (λ (xs : List Declaration). AreMethods xs methods) (sym h) rows) told (subst (λ (xs : List Declaration). AreTold xs names methods (length xs) told) (sym h) all))
+
+-- ---- in turn
+
+get_borrowed : (xs : List Borrowed) (n : ℕ) (x : Borrowed) → slice_get xs n ≡ Some x → slice_get (declarations_of xs) n ≡ Some (declaration_of x)
+get_borrowed [] n x e = none_some {A = Borrowed} None x refl e
+get_borrowed (y ∷ xs) zero x e = ap (λ (z : Borrowed). Some (declaration_of z)) (some_once y x e)
+get_borrowed (y ∷ xs) (suc n) x e = get_borrowed xs n x e
+
+pub borrowed_there : (xs : List Borrowed) (i : ℕ) (x : Borrowed) → i < length xs → slice_get (declarations_of xs) i ≡ Some (declaration_of (get_or xs i x))
+borrowed_there xs i x h = get_borrowed xs i (get_or xs i x) (borrowed_at xs i x h)
+
+module _ (xs : List Borrowed) (names : Named NamePlace) (methods : Named (List MethodRow)) where
+  pub bases_first : (told : List (Option Base)) → told ≡ replicate (length xs) None → AreTold (declarations_of xs) names methods 0 told
+  bases_first told e = told_first (declarations_of xs) names methods told (length xs) e (sym (as_long xs))
+
+  pub bases_next : (i : ℕ) (x : Borrowed) (old new : List (Option Base)) → i < length xs → AreTold (declarations_of xs) names methods i old → TellsForm (declarations_of xs) names methods i (form_of (get_or xs i x).form) old new
+      → AreTold (declarations_of xs) names methods (i + 1) new
+  bases_next i x old new h are t = told_more (declarations_of xs) names methods i (declaration_of (get_or xs i x)) old new (borrowed_there xs i x h) are t
+
+  pub bases_past : (i : ℕ) (told : List (Option Base)) → i ≡ length xs → AreDeclared (declarations_of xs) names → AreMethods (declarations_of xs) methods → AreTold (declarations_of xs) names methods i told → TellBases (declarations_of xs) told
+  bases_past i told e are rows all = bases_told (declarations_of xs) names methods told are rows (subst (λ (k : ℕ). AreTold (declarations_of xs) names methods k told) (e ∙ sym (as_long xs)) all)

@@ -1,5 +1,5 @@
 -- The rows in front of a place, and one more.
-use Rattle.std.proofs.Common.{◌≡◌, ◌+◌, ◌<◌, ℕ, zero, suc, List, [], ◌∷◌, ◌++◌, length, map, take, get_or, refl, sym, ap, ◌∙◌, inl, inr, ◌⊎◌, arith}
+use Rattle.std.proofs.Common.{◌≡◌, ◌+◌, ◌<◌, ℕ, List, [], ◌∷◌, ◌++◌, length, take, get_or, ap, ◌∙◌, inl, inr, ◌⊎◌}
 use Rattle.std.proofs.lemmas.List.{map-append, take_more}
 use Rattle.go_base.specs.Lists.{Has}
 use Rattle.go_base.proofs.Members.{has_split}
@@ -25,9 +25,5 @@ has_last xs y x h = elim (has_split xs (y ∷ []) x h) [ inl k ↦ inl k | inr k
     one (inl e) = e
     one (inr k) = absurd k
 
-module _ {A : Type 0} (xs : List A) (i : ℕ) (x : A) (h : i < length xs) (is : x ≡ get_or xs i x) where
-  pub front_more : take (i + 1) xs ≡ take i xs ++ x ∷ []
-  front_more = take_more xs i x h ∙ ap (λ (z : A). take i xs ++ z ∷ []) (sym is)
-
-pub names_more : (ds : List Declaration) (rows : List MethodRow) (i : ℕ) (r : MethodRow) → i < length rows → r ≡ get_or rows i r → row_names ds (take (i + 1) rows) ≡ row_names ds (take i rows) ++ method_name ds r.number ∷ []
-names_more ds rows i r h is = ap (row_names ds) (front_more rows i r h is) ∙ map-append (λ (x : MethodRow). method_name ds x.number) (take i rows) (r ∷ [])
+pub names_more : (ds : List Declaration) (rows : List MethodRow) (i : ℕ) (r : MethodRow) → i < length rows → row_names ds (take (i + 1) rows) ≡ row_names ds (take i rows) ++ method_name ds (get_or rows i r).number ∷ []
+names_more ds rows i r h = ap (row_names ds) (take_more rows i r h) ∙ map-append (λ (x : MethodRow). method_name ds x.number) (take i rows) (get_or rows i r ∷ [])

@@ -1,13 +1,11 @@
 -- The flags of the declarations that meet what they are asked, answer by answer.
-use Rattle.std.proofs.Common.{◌≡◌, ◌≢◌, ◌↔◌, ◌+◌, ◌<◌, ℕ, zero, suc, Bool, true, false, List, [], ◌∷◌, ◌++◌, length, map, get_or, Option, None, Some, refl, sym, ap, ◌∙◌, subst, ◌⊎◌, inl, inr, arith}
-use mathlib.Core.Bool.{true≢false}
+use Rattle.std.proofs.Common.{◌≡◌, ◌↔◌, ◌+◌, ◌<◌, ℕ, zero, suc, Bool, true, false, List, [], ◌∷◌, ◌++◌, length, get_or, Option, Some, refl, sym, ap, ◌∙◌, subst, ◌⊎◌, inl, inr, arith}
 use Rattle.std.specs.Prelude.{slice_get}
 use Rattle.go_declaration_asks.specs.Bases.{TellsBase}
 use Rattle.go_declaration_asks.specs.declared.base.Base.{Base}
 use Rattle.go_declarations.specs.Forms.{form_of}
 use Rattle.go_declarations.specs.Listings.{declaration_of, declarations_of}
 use Rattle.go_declarations.specs.declared.listing.Declaration.{Declaration as Borrowed}
-use Rattle.go_declared.proofs.Stands.{borrowed_at}
 use Rattle.go_graphs.proofs.Flagging.{flagged_within}
 use Rattle.go_graphs.specs.Flags.{AreFlagsOf, is_flagged}
 use Rattle.go_package_scopes.specs.KeptScopes.{IsMoved}
@@ -15,11 +13,12 @@ use Rattle.go_package_scopes.specs.PackageScopes.{at_declaration, IsScopeOf}
 use Rattle.go_rules.specs.Scopes.{env_of, Scopes}
 use Rattle.go_selectors.specs.Answers.{Decides}
 use Rattle.go_soundness.specs.LostDeclarations.{MeetsAsks}
-use Rattle.go_typings.proofs.Cells.{none_some, some_once}
+use Rattle.go_typings.proofs.Cells.{some_once}
 use Rattle.go_typings.specs.DeclarationAsks.{Asks}
 use Rattle.go_typings.specs.Declarations.{Declaration, declarations, Form}
 use Rattle.go_typings.specs.PackageEnvironments.{Entries, environment}
 use Rattle.go_typings.specs.Sources.{PackageSource, Setting}
+use Rattle.go_met.proofs.BasesOfAll.{borrowed_there}
 use Rattle.go_met.specs.inner.MetAsks.{AreMetThere, IsMetThere}
 use Rattle.go_met.specs.inner.ToldBases.{TellBases, told_at}
 
@@ -27,17 +26,12 @@ use Rattle.go_met.specs.inner.ToldBases.{TellBases, told_at}
 pub moved_on : (a b c : Scopes) → IsMoved a b → IsMoved b c → IsMoved a c
 moved_on a b c f g = g ∙ ap (λ (s : Scopes). record s { file = c.file; iota = c.iota }) f
 
-get_borrowed : (xs : List Borrowed) (n : ℕ) (x : Borrowed) → slice_get xs n ≡ Some x → slice_get (declarations_of xs) n ≡ Some (declaration_of x)
-get_borrowed [] n x e = none_some {A = Borrowed} None x refl e
-get_borrowed (y ∷ xs) zero x e = ap (λ (z : Borrowed). Some (declaration_of z)) (some_once y x e)
-get_borrowed (y ∷ xs) (suc n) x e = get_borrowed xs n x e
-
 -- a declaration is answered for where it stands
 pub met_there : (c e : Scopes) (name : List ℕ) (xs : List Borrowed) (told : List (Option Base)) (i : ℕ) (x : Borrowed) (answer : Bool) → TellBases (declarations_of xs) told → i < length xs → x ≡ get_or xs i x → IsMoved c e
     → ((u : PackageSource) (number : ℕ) → u.name ≡ name → u.path ≡ e.path → TellsBase u number (form_of x.form) (told_at told i) → Decides (Asks (env_of (at_declaration e (declaration_of x))) u number (form_of x.form)) answer)
     → IsMetThere c name (declarations_of xs) i answer
 met_there c e name xs told i x answer tells h is moved decides u listed named pathed d at =
-    let here : slice_get (declarations_of xs) i ≡ Some (declaration_of x) = get_borrowed xs i x (borrowed_at xs i x h ∙ ap (λ (z : Borrowed). Some z) (sym is)) in
+    let here : slice_get (declarations_of xs) i ≡ Some (declaration_of x) = borrowed_there xs i x h ∙ ap (λ (z : Borrowed). Some (declaration_of z)) (sym is) in
     let same : declaration_of x ≡ d = some_once (declaration_of x) d (sym here ∙ at) in
     subst (λ (z : Declaration). Decides (Asks (env_of (at_declaration c z)) u i z.form) answer) same
     (subst (λ (s : Scopes). Decides (Asks (env_of s) u i (form_of x.form)) answer) (ap (λ (s : Scopes). at_declaration s (declaration_of x)) moved)

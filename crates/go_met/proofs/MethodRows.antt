@@ -1,13 +1,12 @@
 -- The methods of a type as its rows tell them: where they are declared, and which of them share a name.
-use Rattle.std.proofs.Common.{◌≡◌, ◌≢◌, ◌+◌, ◌<◌, ◌≤◌, ℕ, zero, suc, Bool, true, false, List, [], ◌∷◌, ◌++◌, length, map, Option, None, Some, refl, sym, ap, ◌∙◌, subst, ◌⊎◌, inl, inr, arith}
+use Rattle.std.proofs.Common.{◌≡◌, ◌≢◌, ◌+◌, ◌≤◌, ℕ, zero, suc, Bool, true, false, List, [], ◌∷◌, ◌++◌, map, Option, None, Some, refl, sym, ap, ◌∙◌, subst, ◌⊎◌, inl, inr, arith}
 use mathlib.Core.Bool.{true≢false}
 use Rattle.std.specs.Prelude.{filter, if◌then◌else◌, nat_eq, not, slice_get}
 use Rattle.std.specs.Cmp.Lexicographic.{bytes_decides}
-use Rattle.std.specs.Str.{bytes_eq}
 use Rattle.std.proofs.lemmas.Bool.{eqb-true, eq-eqb}
 use Rattle.go_base.specs.Lists.{Has, Once}
 use Rattle.go_base.proofs.Members.{has_split}
-use Rattle.go_declared.specs.MethodTables.{AreMethods, method_name, method_of, name_by, name_in}
+use Rattle.go_declared.specs.MethodTables.{AreMethods, method_name, method_of}
 use Rattle.go_declared.specs.declared.methods.MethodRow.{MethodRow}
 use Rattle.go_rules.specs.Expressions.{is_blank}
 use Rattle.go_rules.specs.Names.{Named, items_at}
@@ -232,7 +231,13 @@ module _ (u : PackageSource) (t : Named (List MethodRow)) (are : AreMethods (dec
   declares_row n d e w =
       let m = is_there u type 0 n (declarations u) d e w in
       let k = of_mapped (method_of u) rows m.0 (subst (λ (ms : List DeclaredMethod). Has ms m.0) (sym (are u refl type)) m.2) in
-      (k.0, k.1, ap (λ (x : DeclaredMethod). x.number) k.2 ∙ m.1)
+      (k.0, k.1, same (method_of u k.0) m.0 k.2 m.1)
+    where
+      none : (k : ℕ) → 0 + k ≡ k
+      none k = omega arith
+
+      same : (x y : DeclaredMethod) → x ≡ y → y.number ≡ 0 + n → x.number ≡ n
+      same x y e f = ap (λ (z : DeclaredMethod). z.number) e ∙ f ∙ none n
 
   abbrev IsShared : List ℕ → Type 0
   IsShared name = StandsTwice (row_names (declarations u) rows) name

@@ -1,9 +1,23 @@
 -- The names that stand twice, name by name.
-use Rattle.std.proofs.Common.{◌≡◌, ◌↔◌, ◌⊎◌, ℕ, List, [], ◌∷◌, ◌++◌, refl, sym, subst, inl, inr}
+use Rattle.std.proofs.Common.{◌≡◌, ◌↔◌, ◌⊎◌, ◌<◌, ◌+◌, ◌∙◌, ℕ, Bool, true, false, List, [], ◌∷◌, ◌++◌, get_or, length, take, sym, subst, inl, inr}
+use mathlib.Core.Bool.{true≢false}
+use Rattle.std.specs.BTreeMap.{is_at}
+use Rattle.std.specs.List.{list_any}
 use Rattle.go_base.specs.Growing.{Grows}
 use Rattle.go_base.specs.Lists.{Has}
-use Rattle.go_met.proofs.Fronts.{has_last, has_left, has_right}
-use Rattle.go_met.specs.inner.SharedNames.{StandsTwice}
+use Rattle.go_declared.specs.MethodTables.{method_name}
+use Rattle.go_declared.specs.declared.methods.MethodRow.{MethodRow}
+use Rattle.go_imports.proofs.GrowingSets.{order}
+use Rattle.go_imports.proofs.TextKeys.{has_key, key_has}
+use Rattle.go_selectors.specs.Answers.{Decides}
+use Rattle.go_typings.specs.Declarations.{Declaration}
+use Rattle.go_met.proofs.Fronts.{has_last, has_left, has_right, names_more}
+use Rattle.go_met.specs.inner.SharedNames.{row_names, StandsTwice}
+
+-- a set tells whether it has a name
+pub has_decided : (ks : List (List ℕ)) (k : List ℕ) (b : Bool) → b ≡ list_any (is_at (order k)) ks → Decides (Has ks k) b
+has_decided ks k true e = key_has ks k (sym e)
+has_decided ks k false e = λ h. true≢false (sym (has_key ks k h) ∙ sym e)
 
 -- ---- one name more
 
@@ -41,3 +55,9 @@ noted_more ns seen shared after then' n is a b = record {
 
     shared_of : (k : List ℕ) → Has then' k → StandsTwice (ns ++ n ∷ []) k
     shared_of k h = elim (b.sound k h) [ inl f ↦ twice_left ns n k ((is.twice k).0 f) | inr f ↦ twice_last ns n k f.0 ((is.all k).0 f.1) ]
+
+pub noted_next : (ds : List Declaration) (rows : List MethodRow) (i : ℕ) (r : MethodRow) (n : List ℕ) (seen shared after then' : List (List ℕ)) → i < length rows → n ≡ method_name ds (get_or rows i r).number
+    → AreNoted (row_names ds (take i rows)) seen shared → Grows (λ k. n ≡ k) seen after → Grows (λ k. (n ≡ k) × Has seen k) shared then' → AreNoted (row_names ds (take (i + 1) rows)) after then'
+noted_next ds rows i r n seen shared after then' h e a f g =
+    subst (λ (ns : List (List ℕ)). AreNoted ns after then') (sym (names_more ds rows i r h))
+    (subst (λ (m : List ℕ). AreNoted (row_names ds (take i rows) ++ m ∷ []) after then') e (noted_more (row_names ds (take i rows)) seen shared after then' n a f g))

@@ -1,18 +1,17 @@
 -- What is told of receivers, row by row and type by type.
 use Rattle.std.proofs.Common.{◌≡◌, ◌≢◌, ◌↔◌, ◌+◌, ◌<◌, ◌≤◌, ℕ, zero, suc, Bool, true, false, List, [], ◌∷◌, ◌++◌, length, set, take, get_or, Option, None, Some, refl, sym, ap, ◌∙◌, subst, ◌⊎◌, inl, inr, arith, get_or-set_same, get_or-set_other}
 use mathlib.Core.Bool.{true≢false}
-use Rattle.std.specs.Prelude.{is_some, nat_eq, slice_get}
-use Rattle.std.proofs.lemmas.List.{length-set}
+use Rattle.std.specs.Prelude.{is_some, nat_eq}
+use Rattle.std.proofs.lemmas.List.{length-set, take_more}
 use Rattle.std.proofs.lemmas.Bool.{eqb-true, eq-eqb}
 use Rattle.go_base.proofs.Lists.{take_past}
-use Rattle.go_base.specs.Lists.{Has}
 use Rattle.go_declaration_asks.specs.declared.base.Base.{Base}
 use Rattle.go_declared.specs.MethodTables.{method_name}
 use Rattle.go_declared.specs.declared.methods.MethodRow.{MethodRow}
 use Rattle.go_selectors.specs.Answers.{Decides}
 use Rattle.go_typings.proofs.Cells.{none_some, some_once}
 use Rattle.go_typings.specs.Declarations.{Declaration}
-use Rattle.go_met.proofs.Fronts.{front_more, has_last, has_left, has_right}
+use Rattle.go_met.proofs.Fronts.{has_last, has_left, has_right}
 use Rattle.go_met.specs.inner.ToldBases.{HasNumber, IsAlone, IsOfType, TellsRows, told_at}
 
 same_or_not : (m n : ℕ) → (m ≡ n) ⊎ (m ≢ n)
@@ -45,7 +44,7 @@ some_within : (told : List (Option Base)) (n : ℕ) → is_some (told_at told n)
 some_within told n e = by (told_at told n) refl
   where
     by : (o : Option Base) → told_at told n ≡ o → n < length told
-    by None f = absurd (true≢false (sym (ap is_some f) ∙ e))
+    by None f = absurd (true≢false (sym e ∙ ap is_some f))
     by (Some b) f = told_within told n b f
 
 told_still : (told : List (Option Base)) (k n : ℕ) (c : Base) → is_some (told_at told n) ≡ true → is_some (told_at (set told k (Some c)) n) ≡ true
@@ -94,11 +93,11 @@ module _ (ds : List Declaration) (IsShared : List ℕ → Type 0) (type : List �
       ]
 
   -- the same for rows in front of a place
-  pub told_next : (rows : List MethodRow) (i : ℕ) (r : MethodRow) (old mid new : List (Option Base)) (b : Base) → i < length rows → r ≡ get_or rows i r → TellsRows ds IsShared type (take i rows) old mid
-      → b.name.now ≡ type → Decides (IsAlone IsShared (method_name ds r.number)) b.is_only → new ≡ set mid r.number (Some b) → TellsRows ds IsShared type (take (i + 1) rows) old new
-  told_next rows i r old mid new b h is t e d made =
-      subst (λ (rs : List MethodRow). TellsRows ds IsShared type rs old new) (sym (front_more rows i r h is))
-      (subst (TellsRows ds IsShared type (take i rows ++ r ∷ []) old) (sym made) (row_told (take i rows) r old mid b t e d))
+  pub told_next : (rows : List MethodRow) (i : ℕ) (r : MethodRow) (old mid new : List (Option Base)) (n : List ℕ) (b : Base) → i < length rows → TellsRows ds IsShared type (take i rows) old mid → b.name.now ≡ type
+      → n ≡ method_name ds (get_or rows i r).number → Decides (IsAlone IsShared n) b.is_only → new ≡ set mid (get_or rows i r).number (Some b) → TellsRows ds IsShared type (take (i + 1) rows) old new
+  told_next rows i r old mid new n b h t e f d made =
+      subst (λ (rs : List MethodRow). TellsRows ds IsShared type rs old new) (sym (take_more rows i r h))
+      (subst (TellsRows ds IsShared type (take i rows ++ get_or rows i r ∷ []) old) (sym made) (row_told (take i rows) (get_or rows i r) old mid b t e (subst (λ (k : List ℕ). Decides (IsAlone IsShared k) b.is_only) f d)))
 
   pub told_whole : (rows : List MethodRow) (i : ℕ) (old new : List (Option Base)) → length rows ≤ i → TellsRows ds IsShared type (take i rows) old new → TellsRows ds IsShared type rows old new
   told_whole rows i old new h t = subst (λ (rs : List MethodRow). TellsRows ds IsShared type rs old new) (take_past i rows h) t

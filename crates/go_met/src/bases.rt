@@ -9,7 +9,7 @@ ghost use Rattle.go_met.specs.inner.ToldBases.{IsAlone, TellBases, TellsForm, Te
 ghost use Rattle.go_rules.specs.Expressions.{is_blank};
 ghost use Rattle.go_selectors.specs.Answers.{Decides};
 
-use crate::shared_names::shared_names;
+use crate::shared_names::{has_name, shared_names};
 use go_base::memory::NoMemory;
 use go_base::text::Text;
 use go_declaration_asks::base::Base;
@@ -34,11 +34,11 @@ fn is_alone(alloc: Global, shared: &BTreeSet<Text>, name: &[u8]) -> Result<bool,
         return Ok(true);
     }
     let name = Text::of(alloc, name)?;
-    Ok(!shared.contains(&name))
+    Ok(!has_name(shared, &name))
 }
 
 fn tell<'a>(told: &mut Vec<Option<Base<'a>>>, number: usize, base: Base<'a>)
-    ensures { told.new.items ≡ set told.old.items number (Some base) }
+    ensures { told.new.items ≡ set told.old.items number (Some base.entry) }
 {
     if number < told.len() {
         told[number] = Some(base);

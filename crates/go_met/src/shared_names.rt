@@ -4,6 +4,7 @@ ghost use Rattle.go_base.specs.Growing.{Grows};
 ghost use Rattle.go_base.specs.Lists.{Has};
 ghost use Rattle.go_declarations.specs.Listings.{declarations_of};
 ghost use Rattle.go_met.specs.inner.SharedNames.{row_names, StandsTwice};
+ghost use Rattle.go_selectors.specs.Answers.{Decides};
 
 use go_base::memory::NoMemory;
 use go_base::text::Text;
@@ -11,6 +12,20 @@ use go_declarations::listing::Declaration;
 use go_declared::methods::{MethodRow, method_name};
 use std::alloc::Global;
 use std::collections::BTreeSet;
+
+/// Whether a name is among others.
+pub(crate) fn has_name(names: &BTreeSet<Text>, name: &Text) -> bool
+    ensures { Decides (Has names.now.keys name.now) result }
+{
+    names.contains(name)
+}
+
+fn add_name(names: &mut BTreeSet<Text>, name: Text) -> Result<(), NoMemory>
+    ensures { OnOk result (Grows (λ k. name ≡ k) names.old.keys names.new.keys) }
+{
+    names.insert(name)?;
+    Ok(())
+}
 
 // Notes a name, and that it is shared where it was noted before.
 fn note(
@@ -23,12 +38,10 @@ fn note(
     ensures shared { OnOk result (Grows (λ k. (name.now ≡ k) × Has seen.old.keys k) shared.old.keys shared.new.keys) }
 {
     let name = Text::of(alloc, name)?;
-    if seen.contains(&name) {
-        shared.insert(name)?;
-        return Ok(());
+    if has_name(seen, &name) {
+        return add_name(shared, name);
     }
-    seen.insert(name)?;
-    Ok(())
+    add_name(seen, name)
 }
 
 /// The names that two or more of these rows have.
