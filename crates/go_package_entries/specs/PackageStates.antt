@@ -8,7 +8,6 @@ use Rattle.go_declared.specs.NamesakeTables.{AreNamesakes}
 use Rattle.go_had_entries.specs.HadEntries.{entries_at}
 use Rattle.go_package_entries.specs.declared.giver.PackageEntries.{PackageEntries}
 use Rattle.go_package_scopes.specs.KeptScopes.{Keeps}
-use Rattle.go_rules.specs.Scopes.{Scopes}
 use Rattle.go_sources.specs.UnitSources.{source_of}
 use Rattle.go_typings.specs.Declarations.{declarations}
 use Rattle.go_typings.specs.PackageEnvironments.{Entries}

@@ -8,7 +8,7 @@ ghost use Rattle.go_package_scopes.specs.KeptScopes.{Keeps};
 ghost use Rattle.go_settling.specs.Settling.{no_entries};
 ghost use Rattle.go_soundness.specs.Settled.{AreAll};
 ghost use Rattle.go_sources.specs.UnitSources.{source_of};
-ghost use Rattle.go_typings.specs.Declarations.{declarations};
+ghost use Rattle.go_typings.specs.Declarations.{declarations as declared_in};
 ghost use Rattle.go_package_entries.specs.PackageStates.{IsKept, entries_in, setting_in, source_in};
 ghost use Rattle.go_package_entries.specs.Settings.{setting_of};
 
@@ -36,13 +36,13 @@ fn nothing_of<'w, 'a>(
     methods: &'a DeclaredMethods,
 ) -> Result<PackageEntries<'w, 'a>, NoMemory>
     requires kept { Keeps (setting_of env) (source_of unit.now) no_entries env }
-    requires listed { declarations (source_of unit.now) ≡ declarations_of declarations.now }
+    requires listed { declared_in (source_of unit.now) ≡ declarations_of declarations.now }
     requires names { AreDeclared (declarations_of declarations.now) names.now }
     requires methods { AreMethods (declarations_of declarations.now) methods.now }
     requires pathed { unit.now.path ≢ [] }
     ensures kept { IfOk result IsKept }
     ensures none { IfOk result (λ p. entries_in p ≡ no_entries) }
-    ensures setting { IfOk result (λ p. setting_in p ≡ setting_of env) }
+    ensures setting { IfOk result (λ p. setting_in p ≡ setting_of env.entry) }
     ensures source { IfOk result (λ p. source_in p ≡ source_of unit.now) }
 {
     let namesakes = Namesakes::of(alloc, declarations, names)?;
@@ -75,13 +75,13 @@ pub fn entries<'w, 'a>(
     hints: &[u32],
 ) -> Result<PackageEntries<'w, 'a>, NoMemory>
     requires kept { Keeps (setting_of env) (source_of unit.now) no_entries env }
-    requires listed { declarations (source_of unit.now) ≡ declarations_of declarations.now }
+    requires listed { declared_in (source_of unit.now) ≡ declarations_of declarations.now }
     requires names { AreDeclared (declarations_of declarations.now) names.now }
     requires methods { AreMethods (declarations_of declarations.now) methods.now }
     requires pathed { unit.now.path ≢ [] }
-    ensures all { IfOk result (λ p. AreAll (setting_of env) (source_of unit.now) (entries_at p.had)) }
-    ensures kept { IfOk result (λ p. Keeps (setting_of env) (source_of unit.now) (entries_at p.had) p.env) }
-    ensures setting { IfOk result (λ p. setting_of p.env ≡ setting_of env) }
+    ensures all { IfOk result (λ p. AreAll (setting_of env.entry) (source_of unit.now) (entries_at p.had)) }
+    ensures kept { IfOk result (λ p. Keeps (setting_of env.entry) (source_of unit.now) (entries_at p.had) p.env) }
+    ensures setting { IfOk result (λ p. setting_of p.env ≡ setting_of env.entry) }
     ensures source { IfOk result (λ p. source_of p.unit.now ≡ source_of unit.now) }
 {
     nothing_had();
