@@ -64,7 +64,7 @@ module _ (s : Setting) (u : PackageSource) (a : Entries) (c : Scopes) (n : ℕ) 
   pub type_kept : (t : Named NamePlace) (ms : Named (List MethodRow)) (tk : Named (Named (List MethodRow))) → AreDeclared (declarations u) t → AreMethods (declarations u) ms → AreNamesakes (declarations u) tk
       → (spec : TypeSpec) → d.form ≡ definition spec → (x : Term)
       → Keeps s u (with_entry a n (underlying x))
-          (with_type c (is_of (value_at t spec.name.text) n) spec.name.text x (shown_of (with_entry a n (underlying x)) (declarations u) c.path tk spec.name.text (items_at ms spec.name.text)))
+      (with_type c (is_of (value_at t spec.name.text) n) spec.name.text x (shown_of (with_entry a n (underlying x)) (declarations u) c.path tk spec.name.text (items_at ms spec.name.text)))
   type_kept t ms tk are rows namesakes spec form x = by (is_of (value_at t spec.name.text) n) refl
     where
       later : Entries

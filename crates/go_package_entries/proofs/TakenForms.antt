@@ -48,7 +48,7 @@ module _ (s : Setting) (u : PackageSource) (c : Scopes) (t : Tables) (g : Grown)
       subst (λ (b : Entries). Keeps s u b (with_type c (is_of (value_at t.names.now spec.name.text) g.number) spec.name.text x (shown_of b (declarations_of t.declarations.now) c.path t.namesakes spec.name.text (items_at t.methods.now spec.name.text))))
       (later (underlying x) is)
       (subst (λ ds. Keeps s u (with_entry (entries_at g.had.now) g.number (underlying x))
-          (with_type c (is_of (value_at t.names.now spec.name.text) g.number) spec.name.text x (shown_of (with_entry (entries_at g.had.now) g.number (underlying x)) ds c.path t.namesakes spec.name.text (items_at t.methods.now spec.name.text))))
+      (with_type c (is_of (value_at t.names.now spec.name.text) g.number) spec.name.text x (shown_of (with_entry (entries_at g.had.now) g.number (underlying x)) ds c.path t.namesakes spec.name.text (items_at t.methods.now spec.name.text))))
       listed
       (type_kept s u (entries_at g.had.now) c g.number d keeps fresh at t.names.now t.methods.now t.namesakes declared methods namesakes spec e x))
   by (method receiver f) (signed x) e is h =

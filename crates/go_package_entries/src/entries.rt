@@ -1,5 +1,5 @@
 //! All entries that the declarations of a package have.
-ghost use Rattle.std.specs.Prelude.{◌≡◌, ◌≢◌, [], IfOk};
+ghost use Rattle.std.specs.Prelude.{◌≡◌, ◌≢◌, [], length, IfOk};
 ghost use Rattle.go_declarations.specs.Listings.{declarations_of};
 ghost use Rattle.go_declared.specs.MethodTables.{AreMethods};
 ghost use Rattle.go_declared.specs.NameTables.{AreDeclared};
@@ -9,7 +9,7 @@ ghost use Rattle.go_settling.specs.Settling.{no_entries};
 ghost use Rattle.go_soundness.specs.Settled.{AreAll};
 ghost use Rattle.go_sources.specs.UnitSources.{source_of};
 ghost use Rattle.go_typings.specs.Declarations.{declarations as declared_in};
-ghost use Rattle.go_package_entries.specs.PackageStates.{IsKept, entries_in, setting_in, source_in};
+ghost use Rattle.go_package_entries.specs.PackageStates.{IsKept, entries_in, had_in, scopes_in, setting_in, source_in};
 ghost use Rattle.go_package_entries.specs.Settings.{setting_of};
 
 use crate::giver::PackageEntries;
@@ -79,10 +79,11 @@ pub fn entries<'w, 'a>(
     requires names { AreDeclared (declarations_of declarations.now) names.now }
     requires methods { AreMethods (declarations_of declarations.now) methods.now }
     requires pathed { unit.now.path ≢ [] }
-    ensures all { IfOk result (λ p. AreAll (setting_of env.entry) (source_of unit.now) (entries_at p.had)) }
-    ensures kept { IfOk result (λ p. Keeps (setting_of env.entry) (source_of unit.now) (entries_at p.had) p.env) }
-    ensures setting { IfOk result (λ p. setting_of p.env ≡ setting_of env.entry) }
-    ensures source { IfOk result (λ p. source_of p.unit.now ≡ source_of unit.now) }
+    ensures all { IfOk result (λ p. AreAll (setting_of env.entry) (source_of unit.now) (entries_at (had_in p))) }
+    ensures count { IfOk result (λ p. length (had_in p) ≡ length declarations.now) }
+    ensures kept { IfOk result (λ p. Keeps (setting_of env.entry) (source_of unit.now) (entries_at (had_in p)) (scopes_in p)) }
+    ensures setting { IfOk result (λ p. setting_in p ≡ setting_of env.entry) }
+    ensures source { IfOk result (λ p. source_in p ≡ source_of unit.now) }
 {
     nothing_had();
     let mut entries = nothing_of(alloc, env, unit, declarations, names, methods)?;

@@ -1,6 +1,6 @@
 //! The declarations of a package, each with its entry once it is settled.
 ghost use Rattle.std.specs.Prelude.{◌≡◌};
-ghost use Rattle.go_package_entries.specs.PackageStates.{IsKept, entries_in, setting_in, source_in};
+ghost use Rattle.go_package_entries.specs.PackageStates.{IsKept, entries_in, had_in, scopes_in, setting_in, source_in};
 
 use crate::giving::give;
 use crate::grown::Grown;
@@ -38,8 +38,8 @@ impl Drop for PackageEntries<'_, '_> {
 impl<'w> PackageEntries<'w, '_> {
     /// The scopes, and the entries that are had.
     pub fn into_parts(self) -> (Env<'w>, HadEntries)
-        ensures env { result.0 ≡ self.entry.env }
-        ensures had { result.1 ≡ self.entry.had }
+        ensures scopes { result.0 ≡ scopes_in self.entry }
+        ensures had { result.1 ≡ had_in self.entry }
     {
         let PackageEntries {
             alloc: _,
@@ -79,9 +79,13 @@ impl Giver for PackageEntries<'_, '_> {
                     number,
                     entry: &entry,
                 };
-                if let Err(error) =
-                    take(&mut self.env, self.alloc, &self.tables, grown, &declaration)
-                {
+                if let Err(error) = take(
+                    &mut self.env,
+                    self.alloc,
+                    &self.tables,
+                    grown,
+                    &declaration,
+                ) {
                     return Err(error);
                 }
                 self.had.put(number, entry);

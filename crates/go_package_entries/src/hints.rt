@@ -162,13 +162,7 @@ pub fn hints(
     let mut rows = Vec::new(alloc);
     let methods = declarations.len();
     for declaration in declarations {
-        rows.push(row_of(
-            alloc,
-            declarations,
-            names,
-            methods,
-            declaration.form,
-        )?)?;
+        rows.push(row_of(alloc, declarations, names, methods, declaration.form)?)?;
     }
     rows.push(methods_row(alloc, declarations)?)?;
     depth_first(alloc, &rows)

@@ -44,12 +44,7 @@ fn object_at<'b>(
 }
 
 // Gives a name that has no meaning this one.
-fn declare(
-    env: &mut Env<'_>,
-    alloc: Global,
-    name: &Text,
-    object: &Entity,
-) -> Result<(), NoMemory>
+fn declare(env: &mut Env<'_>, alloc: Global, name: &Text, object: &Entity) -> Result<(), NoMemory>
     requires { env.old.opened ≡ [] }
     ensures ok { OnOk result (env.new ≡ record env.old { declared = with_new env.old.declared name.now (as_object (Some object.now)) }) }
     ensures same { setting_of env.new ≡ setting_of env.old }
@@ -127,9 +122,7 @@ pub(crate) fn take_objects(
         Form::Variables(spec) => {
             declare_all(env, alloc, names, number, objects, spec.names.items())
         }
-        Form::Alias(spec) => {
-            declare_at(env, alloc, names, number, objects, 0, &spec.name.text)
-        }
+        Form::Alias(spec) => { declare_at(env, alloc, names, number, objects, 0, &spec.name.text) }
         Form::Definition(spec) => {
             declare_at(env, alloc, names, number, objects, 0, &spec.name.text)
         }

@@ -13,6 +13,6 @@ returns-clause-given c =
     let ds = declarations_of c.args.tables.now.declarations.now in
     let d = declaration_of c.args.declaration.now in
     let moved : c.set_iota.new.self ≡ at_declaration c.args.env.now d =
-        c.set_iota.ensures ∙ ap (λ i. record c.turn_to.new.self { iota = i }) c.iota.ensures ∙ ap (λ (s : Scopes). record s { iota = iota_of d.form }) c.turn_to.ensures in
+    c.set_iota.ensures ∙ ap (λ i. record c.turn_to.new.self { iota = i }) c.iota.ensures ∙ ap (λ (s : Scopes). record s { iota = iota_of d.form }) c.turn_to.ensures in
     subst (λ (s : Scopes). Tells (λ x. Gives (env_of s) ds d.form (entry_of x)) c.entry.result) moved
     (c.entry.ensures ds (c.is_qualified_form-qualified.ensures (env_of c.set_iota.new.self)))

@@ -21,11 +21,13 @@ pub returns-in-Err-Untyped-clause-attempts : goal.returns-in-Err-Untyped-clause-
 returns-in-Err-Untyped-clause-attempts c =
     let p = c.args.self.now in
     let held = c.requires.held in
-    let d = get_or c.args.self.now.tables.declarations.now c.args.number c.index-self-number.result in
-    (refl, stuck (setting_in p) (source_in p) (entries_in p) p.env held.keeps held.pathed c.args.number (declaration_of d)
-    (declared_at p.tables.declarations.now _ c.args.number c.index-self-number.result held.listed c.requires.below)
-    (subst (λ (ds : List Declaration). (y : Had) → Gives (env_of (at_declaration p.env (declaration_of d))) ds (declaration_of d).form (entry_of y) → ⊥) (sym held.listed)
-    (given_nothing _ c.give.result c.in-Err-Untyped.field-0 c.in-Err-Untyped.is c.in-Err-Untyped.field-0-is c.give.ensures.given)))
+    let d = get_or c.args.self.now.tables.declarations.now c.args.number c.index-self-number.result in (
+      refl,
+      stuck (setting_in p) (source_in p) (entries_in p) p.env held.keeps held.pathed c.args.number (declaration_of d)
+          (declared_at p.tables.declarations.now _ c.args.number c.index-self-number.result held.listed c.requires.below)
+          (subst (λ (ds : List Declaration). (y : Had) → Gives (env_of (at_declaration p.env (declaration_of d))) ds (declaration_of d).form (entry_of y) → ⊥) (sym held.listed)
+          (given_nothing _ c.give.result c.in-Err-Untyped.field-0 c.in-Err-Untyped.is c.in-Err-Untyped.field-0-is c.give.ensures.given)),
+    )
 
 pub returns-in_default-clause-held : goal.returns-in_default-clause-held
 returns-in_default-clause-held c =
@@ -35,12 +37,12 @@ returns-in_default-clause-held c =
     let given = c.in-Ok.ensures.given in
     let same : setting_of c.take.new.env ≡ setting_in p = c.in_default.ensures.same ∙ ap setting_of c.give.ensures.moved in
     let kept = c.in_default.ensures.kept (setting_in p) (source_in p) held.listed
-        (subst (λ (ds : List Declaration). AreMethods ds p.tables.methods.now) (sym held.listed) held.methods)
-        (subst (λ (ds : List Declaration). AreNamesakes ds p.tables.namesakes) (sym held.listed) held.namesakes)
-        (subst (Keeps (setting_in p) (source_in p) (entries_in p)) (sym c.give.ensures.moved) (kept_there (setting_in p) (source_in p) (entries_in p) p.env held.keeps (declaration_of d)))
-        (not_found c.get.result c.is_some.result (entries_in p c.args.number) c.is_some.ensures c.if-is_some.false c.get.ensures)
-        (declared_at p.tables.declarations.now _ c.args.number c.index-self-number.result held.listed c.requires.below)
-        (fits given) in
+    (subst (λ (ds : List Declaration). AreMethods ds p.tables.methods.now) (sym held.listed) held.methods)
+    (subst (λ (ds : List Declaration). AreNamesakes ds p.tables.namesakes) (sym held.listed) held.namesakes)
+    (subst (Keeps (setting_in p) (source_in p) (entries_in p)) (sym c.give.ensures.moved) (kept_there (setting_in p) (source_in p) (entries_in p) p.env held.keeps (declaration_of d)))
+    (not_found c.get.result c.is_some.result (entries_in p c.args.number) c.is_some.ensures c.if-is_some.false c.get.ensures)
+    (declared_at p.tables.declarations.now _ c.args.number c.index-self-number.result held.listed c.requires.below)
+    (fits given) in
     record {
       keeps = subst (λ (s : Setting). Keeps s (source_in p) (entries_at c.put.new.self) c.take.new.env) (sym same)
           (subst (λ (b : Entries). Keeps (setting_in p) (source_in p) b c.take.new.env) (sym c.put.ensures.put) kept);
