@@ -16,7 +16,7 @@ use Rattle.go_model.specs.declared.files.tree.TreeFile.{TreeFile}
 use Rattle.go_model.specs.files.Trees.{is_element, begins_element, are_elements, IsFolderPath, IsModulePath, IsTree, IsTreeFile}
 use Rattle.go_model.specs.types.Terms.{client_path}
 use Rattle.go_reading.specs.FilesByName.{by_name}
-use Rattle.go_reading.specs.TreeFolders.{Counts, IsTreeFolder, ReadsFolder, files_at, files_of, import_path}
+use Rattle.go_reading.specs.TreeFolders.{IsTreeFolder, ReadsFolder, files_at, files_of, import_path}
 use Rattle.go_reading.specs.TreeUnits.{AreUnitsOfTrees}
 use Rattle.go_units.proofs.WalkedFiles.{slot_within, walked_rows}
 use Rattle.go_units.specs.Folders.{no_folder}
