@@ -22,7 +22,7 @@ use Rattle.go_declared.proofs.Declared.{as_long}
 
 -- ---- rows
 
-row_at : (t : Named (List MethodRow)) (name q : List ℕ) (row : MethodRow) (b : Bool) → bytes_eq q name ≡ b → items_at (with_row t name row) q ≡ (if b then items_at t q ++ row ∷ [] else items_at t q)
+pub row_at : (t : Named (List MethodRow)) (name q : List ℕ) (row : MethodRow) (b : Bool) → bytes_eq q name ≡ b → items_at (with_row t name row) q ≡ (if b then items_at t q ++ row ∷ [] else items_at t q)
 row_at t name q row true e =
     ap (λ o. unwrap_or o []) (put_is q name (items_at t name ++ row ∷ []) t ∙ ap (λ c. cond c (Some (items_at t name ++ row ∷ [])) (value_at t q)) e)
     ∙ ap (λ n. items_at t n ++ row ∷ []) (sym ((bytes_decides q name).0 e))
@@ -33,7 +33,7 @@ module _ (u : PackageSource) (q : List ℕ) where
   abbrev told : Named (List MethodRow) → List DeclaredMethod
   told t = map (method_of u) (items_at t q)
 
-  turned : (a b : List ℕ) (c : Bool) → bytes_eq a b ≡ c → bytes_eq b a ≡ c
+  pub turned : (a b : List ℕ) (c : Bool) → bytes_eq a b ≡ c → bytes_eq b a ≡ c
   turned a b true e = (bytes_decides b a).1 (sym ((bytes_decides a b).0 e))
   turned a b false e = other (bytes_eq b a) refl
     where

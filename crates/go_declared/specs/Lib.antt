@@ -1,4 +1,5 @@
 pub mod MethodTables
 pub mod NameTables
+pub mod NamesakeTables
 pub mod ReceiverNames
 pub mod inner

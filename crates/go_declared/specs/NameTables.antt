@@ -1,6 +1,8 @@
 -- Tables that tell where a package declares a name.
 -- Public source: Go specification, "Declarations and scope" and "Uniqueness of identifiers".
-use Rattle.std.specs.Prelude.{◌≡◌, ℕ, List, Option, None, Some}
+use Rattle.std.specs.Prelude.{◌≡◌, ℕ, Bool, false, nat_eq, List, map, Option, None, Some}
+use Rattle.std.specs.Map.{keys_of}
+use denote.Ref.{Bor}
 use Rattle.go_rules.specs.Names.{Named, value_at}
 use Rattle.go_declarations.specs.Forms.{form_of}
 use Rattle.go_declarations.specs.declared.form.Form.{Form as Borrowed}
@@ -15,6 +17,23 @@ place_of (Some d) = Some (record { number = d.number; place = d.place })
 -- the table tells where each name is declared
 abbrev pub AreDeclared : List Declaration → Named NamePlace → Type 0
 AreDeclared ds names = (name : List ℕ) → value_at names name ≡ place_of (declared ds name)
+
+-- the place is in the declaration of this number
+abbrev pub is_in : ℕ → Option NamePlace → Bool
+is_in number None = false
+is_in number (Some p) = nat_eq p.number number
+
+-- the table tells that the declaration of this number is the first that declares the name
+abbrev pub is_first : Named NamePlace → ℕ → List ℕ → Bool
+is_first names number name = is_in number (value_at names name)
+
+-- the names of a table, in its order
+abbrev pub names_in : {A : Type 0} → Named A → List (List ℕ)
+names_in t = keys_of t
+
+-- names that are borrowed
+abbrev pub texts_of : List (Bor (List ℕ)) → List (List ℕ)
+texts_of names = map (λ n. n.now) names
 
 -- ---- the forms of declarations
 

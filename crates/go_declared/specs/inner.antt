@@ -1,3 +1,4 @@
 pub mod Adding
 pub mod AddingMethods
 pub mod FormsAt
+pub mod AddingNamesakes

@@ -2,19 +2,20 @@
 ghost use Rattle.std.specs.Prelude.{◌≡◌};
 ghost use Rattle.go_base.specs.Keys.{item_of};
 ghost use Rattle.go_declarations.specs.Listings.{declarations_of};
-ghost use Rattle.go_typings.specs.Receivers.{after_aliases, base, base_in, named_definition, own_aliased};
+ghost use Rattle.go_typings.specs.DeclarationRules.{is_qualified};
+ghost use Rattle.go_typings.specs.Receivers.{after_aliases, base, base_in, name_form as form_by, named_definition, own_aliased, written_name as name_by};
 ghost use Rattle.go_typings.specs.Declarations.{declared};
 ghost use Rattle.go_declared.specs.NameTables.{AreDeclared, declared_form, found_form};
 ghost use Rattle.go_declared.specs.inner.FormsAt.{FormAt};
 ghost use Rattle.go_declared.specs.ReceiverNames.{form_of, text_of};
 
 use crate::names::DeclaredNames;
-use crate::receivers::{WrittenName, aliased_by, definition_name, name_form};
+use crate::receivers::{WrittenName, aliased_by, definition_name, name_form, written_name};
 use go_base::text::Text;
 use go_declarations::form::Form;
 use go_declarations::listing::Declaration;
 use go_syntax::name::QualifiedName;
-use go_syntax::types::ParameterDecl;
+use go_syntax::types::{ParameterDecl, Type};
 
 fn form_at<'a>(declarations: &[Declaration<'a>], number: usize) -> Option<Form<'a>>
     ensures { FormAt declarations.now number result }
@@ -125,4 +126,15 @@ pub fn base<'a>(
     ensures { text_of result ≡ base (declarations_of declarations.now) receiver.now }
 {
     base_of(declarations, names, name_form(&receiver.type_))
+}
+
+/// Whether a type is written as a name that after the aliases of the package is one of another package.
+pub fn is_qualified(declarations: &[Declaration<'_>], names: &DeclaredNames, type_: &Type) -> bool
+    requires { AreDeclared (declarations_of declarations.now) names.now }
+    ensures { result ≡ is_qualified (declarations_of declarations.now) (name_by (form_by type_.now)) }
+{
+    match written_name(name_form(type_)) {
+        None => false,
+        Some(name) => after_aliases(declarations, names, name).qualifier.is_some(),
+    }
 }

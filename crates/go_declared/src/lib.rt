@@ -4,4 +4,5 @@
 pub mod bases;
 pub mod methods;
 pub mod names;
+pub mod namesakes;
 pub mod receivers;

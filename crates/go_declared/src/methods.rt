@@ -2,7 +2,7 @@
 ghost use Rattle.std.specs.Prelude.{◌≡◌, [], IfOk, OnOk};
 ghost use Rattle.go_declarations.specs.Listings.{declarations_of};
 ghost use Rattle.go_rules.specs.Names.{items_at, with_value};
-ghost use Rattle.go_declared.specs.MethodTables.{AreMethods};
+ghost use Rattle.go_declared.specs.MethodTables.{AreMethods, method_name, name_by};
 ghost use Rattle.go_declared.specs.NameTables.{AreDeclared};
 ghost use Rattle.go_declarations.specs.Forms.{form_of};
 ghost use Rattle.go_typings.specs.Receivers.{base, is_pointer_form, receiver_form};
@@ -54,8 +54,27 @@ impl Model for DeclaredMethods {
     ghost view = { λ n. by_text n.entries.entries };
 }
 
+fn name_by<'a>(form: Form<'a>) -> &'a [u8]
+    ensures { result.now ≡ name_by (form_of form.entry) }
+{
+    match form {
+        Form::Method(_, func) => func.name.text.bytes(),
+        _ => &[],
+    }
+}
+
+/// The name of the method that the declaration of a number declares; no byte where it declares none.
+pub fn method_name<'a>(declarations: &[Declaration<'a>], number: usize) -> &'a [u8]
+    ensures { result.now ≡ method_name (declarations_of declarations.now) number }
+{
+    match declarations.get(number) {
+        None => &[],
+        Some(declaration) => name_by(declaration.form),
+    }
+}
+
 impl DeclaredMethods {
-    fn new(alloc: Global) -> DeclaredMethods
+    pub(crate) fn new(alloc: Global) -> DeclaredMethods
         ensures { result ≡ [] }
     {
         DeclaredMethods {
@@ -81,7 +100,12 @@ impl DeclaredMethods {
         Ok(())
     }
 
-    fn push(&mut self, alloc: Global, name: &Text, row: MethodRow) -> Result<(), NoMemory>
+    pub(crate) fn push(
+        &mut self,
+        alloc: Global,
+        name: &Text,
+        row: MethodRow,
+    ) -> Result<(), NoMemory>
         ensures { OnOk result (self.new ≡ with_row self.old name.now row) }
     {
         if let Some(rows) = self.entries.get_mut(name.bytes()) {

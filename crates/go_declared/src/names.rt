@@ -1,13 +1,16 @@
 //! Where names are declared.
 ghost use Rattle.std.specs.Prelude.{◌≡◌, ◌||◌, [], IfOk, OnOk, is_some};
+ghost use Rattle.go_base.specs.Lists.{Ascending};
 ghost use Rattle.go_declarations.specs.Forms.{form_of};
 ghost use Rattle.go_declarations.specs.Listings.{declarations_of};
 ghost use Rattle.go_rules.specs.Names.{value_at, with_value};
+ghost use Rattle.go_rules.specs.inner.Entries.{by_text};
 ghost use Rattle.go_typings.specs.Declarations.{is_init, names_of};
 ghost use Rattle.go_rules.specs.Expressions.{is_blank};
-ghost use Rattle.go_declared.specs.NameTables.{AreDeclared};
+ghost use Rattle.go_declared.specs.NameTables.{AreDeclared, is_first, names_in, texts_of};
 ghost use Rattle.go_declared.specs.inner.Adding.{with_first, with_names};
 
+use go_base::list::List;
 use go_base::memory::NoMemory;
 use go_base::text::Text;
 use go_declarations::form::Form;
@@ -57,6 +60,21 @@ fn is_left_out(name: &[u8]) -> bool
     name == b"_".as_slice() || name == b"init".as_slice()
 }
 
+// The keys of an ordered map.
+fn keys_of(
+    alloc: Global,
+    entries: &BTreeMap<Vec<u8>, NamePlace>,
+) -> Result<List<&[u8]>, NoMemory>
+    ensures names { IfOk result (λ keys. texts_of keys ≡ names_in (by_text entries.now.entries)) }
+    ensures ordered { OnOk result (Ascending (names_in (by_text entries.now.entries))) }
+{
+    let mut keys = List::new(alloc);
+    for key in entries.keys() {
+        keys.push(key.as_slice())?;
+    }
+    Ok(keys)
+}
+
 impl DeclaredNames {
     fn new(alloc: Global) -> DeclaredNames
         ensures { result ≡ [] }
@@ -71,6 +89,24 @@ impl DeclaredNames {
         ensures { result ≡ value_at self.now name.now }
     {
         self.entries.get(name).copied()
+    }
+
+    /// Whether the declaration of this number is the first that declares a name.
+    pub fn is_first(&self, number: usize, name: &[u8]) -> bool
+        ensures { result ≡ is_first self.now number name.now }
+    {
+        match self.get(name) {
+            None => false,
+            Some(place) => place.number == number,
+        }
+    }
+
+    /// The names in the order of bytes, each once.
+    pub fn in_order(&self, alloc: Global) -> Result<List<&[u8]>, NoMemory>
+        ensures names { IfOk result (λ names. texts_of names ≡ names_in self.now) }
+        ensures ordered { OnOk result (Ascending (names_in self.now)) }
+    {
+        keys_of(alloc, &self.entries)
     }
 
     fn has(&self, name: &[u8]) -> bool

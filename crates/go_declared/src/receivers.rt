@@ -79,7 +79,7 @@ pub fn is_pointer(receiver: &ParameterDecl) -> bool
     }
 }
 
-fn written_name<'a>(form: Option<WrittenName<'a>>) -> Option<&'a QualifiedName>
+pub(crate) fn written_name<'a>(form: Option<WrittenName<'a>>) -> Option<&'a QualifiedName>
     ensures { item_of result ≡ written_name (form_of form.entry) }
 {
     match form {

@@ -1,0 +1,6 @@
+pub mod FieldKeySets
+pub mod FoundNumbers
+pub mod GraphRows
+pub mod Mapped
+pub mod NamedNumbers
+pub mod TypeMethods

@@ -1,0 +1,5 @@
+pub mod FieldKeys
+pub mod FoundNumbers
+pub mod MethodNumbers
+pub mod NamedNumbers
+pub mod Rows

@@ -1,0 +1,4 @@
+pub mod Announced
+pub mod AwaitedMethods
+pub mod FileImports
+pub mod OwnTypes

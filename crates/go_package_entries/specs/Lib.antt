@@ -1,0 +1,3 @@
+pub mod PackageStates
+pub mod Settings
+pub mod inner

@@ -1,0 +1,3 @@
+pub mod GivenObjects
+pub mod ShownMethods
+pub mod TakenEntries

@@ -1,0 +1,93 @@
+//! All entries that the declarations of a package have.
+ghost use Rattle.std.specs.Prelude.{◌≡◌, ◌≢◌, [], IfOk};
+ghost use Rattle.go_declarations.specs.Listings.{declarations_of};
+ghost use Rattle.go_declared.specs.MethodTables.{AreMethods};
+ghost use Rattle.go_declared.specs.NameTables.{AreDeclared};
+ghost use Rattle.go_had_entries.specs.HadEntries.{entries_at};
+ghost use Rattle.go_package_scopes.specs.KeptScopes.{Keeps};
+ghost use Rattle.go_settling.specs.Settling.{no_entries};
+ghost use Rattle.go_soundness.specs.Settled.{AreAll};
+ghost use Rattle.go_sources.specs.UnitSources.{source_of};
+ghost use Rattle.go_typings.specs.Declarations.{declarations};
+ghost use Rattle.go_package_entries.specs.PackageStates.{IsKept, entries_in, setting_in, source_in};
+ghost use Rattle.go_package_entries.specs.Settings.{setting_of};
+
+use crate::giver::PackageEntries;
+use crate::tables::Tables;
+use go_base::memory::NoMemory;
+use go_declarations::listing::Declaration;
+use go_declared::methods::DeclaredMethods;
+use go_declared::names::DeclaredNames;
+use go_declared::namesakes::Namesakes;
+use go_had_entries::had::HadEntries;
+use go_rules::env::Env;
+use go_settling::laws::nothing_had;
+use go_settling::settle::settle_all;
+use go_units::unit::Unit;
+use std::alloc::Global;
+
+// The package, of which nothing is had.
+fn nothing_of<'w, 'a>(
+    alloc: Global,
+    env: Env<'w>,
+    unit: &'a Unit,
+    declarations: &'a [Declaration<'a>],
+    names: &'a DeclaredNames,
+    methods: &'a DeclaredMethods,
+) -> Result<PackageEntries<'w, 'a>, NoMemory>
+    requires kept { Keeps (setting_of env) (source_of unit.now) no_entries env }
+    requires listed { declarations (source_of unit.now) ≡ declarations_of declarations.now }
+    requires names { AreDeclared (declarations_of declarations.now) names.now }
+    requires methods { AreMethods (declarations_of declarations.now) methods.now }
+    requires pathed { unit.now.path ≢ [] }
+    ensures kept { IfOk result IsKept }
+    ensures none { IfOk result (λ p. entries_in p ≡ no_entries) }
+    ensures setting { IfOk result (λ p. setting_in p ≡ setting_of env) }
+    ensures source { IfOk result (λ p. source_in p ≡ source_of unit.now) }
+{
+    let namesakes = Namesakes::of(alloc, declarations, names)?;
+    let had = HadEntries::new(alloc, declarations.len())?;
+    Ok(PackageEntries {
+        alloc,
+        env,
+        unit,
+        tables: Tables {
+            declarations,
+            names,
+            methods,
+            namesakes,
+        },
+        had,
+    })
+}
+
+/// All entries that the declarations of a package have, and the scopes that keep them, over scopes of the package that know what
+/// it declares and keep none of it.
+///
+/// Those that are hinted are tried first, in order, which makes it fast; what is had doesn't depend on them.
+pub fn entries<'w, 'a>(
+    alloc: Global,
+    env: Env<'w>,
+    unit: &'a Unit,
+    declarations: &'a [Declaration<'a>],
+    names: &'a DeclaredNames,
+    methods: &'a DeclaredMethods,
+    hints: &[u32],
+) -> Result<PackageEntries<'w, 'a>, NoMemory>
+    requires kept { Keeps (setting_of env) (source_of unit.now) no_entries env }
+    requires listed { declarations (source_of unit.now) ≡ declarations_of declarations.now }
+    requires names { AreDeclared (declarations_of declarations.now) names.now }
+    requires methods { AreMethods (declarations_of declarations.now) methods.now }
+    requires pathed { unit.now.path ≢ [] }
+    ensures all { IfOk result (λ p. AreAll (setting_of env) (source_of unit.now) (entries_at p.had)) }
+    ensures kept { IfOk result (λ p. Keeps (setting_of env) (source_of unit.now) (entries_at p.had) p.env) }
+    ensures setting { IfOk result (λ p. setting_of p.env ≡ setting_of env) }
+    ensures source { IfOk result (λ p. source_of p.unit.now ≡ source_of unit.now) }
+{
+    nothing_had();
+    let mut entries = nothing_of(alloc, env, unit, declarations, names, methods)?;
+    if let Err(error) = settle_all(&mut entries, hints) {
+        return Err(error);
+    }
+    Ok(entries)
+}

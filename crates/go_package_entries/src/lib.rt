@@ -1,0 +1,12 @@
+//! The entries of the declarations of a package, settled one by one.
+#![tactic(auto)]
+
+pub mod entries;
+pub mod giver;
+mod giving;
+mod grown;
+mod methods;
+mod objects;
+pub mod tables;
+mod takings;
+mod types;

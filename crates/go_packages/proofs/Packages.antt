@@ -1,0 +1,62 @@
+-- The package of entries that are a typing.
+use Rattle.std.proofs.Common.{◌≡◌, ℕ, Bool, true, false, cond, List, [], ◌∷◌, map, Option, Some, None, refl, sym, ap, ◌∙◌, subst, inl, inr}
+use Rattle.std.specs.List.{IsDistinct}
+use Rattle.std.specs.Map.{lookup}
+use Rattle.std.specs.Cmp.Lexicographic.{bytes_decides}
+use Rattle.std.specs.Str.{bytes_eq}
+use Rattle.go_base.specs.Keys.{first_with}
+use Rattle.go_base.specs.Lists.{Ascending, Has}
+use Rattle.go_declared.proofs.Stands.{not_declared}
+use Rattle.go_declared.specs.NameTables.{AreDeclared, names_in}
+use Rattle.go_declared.specs.declared.names.NamePlace.{NamePlace}
+use Rattle.go_model.specs.declared.types.package.Defined.{Defined}
+use Rattle.go_model.specs.declared.types.package.Object.{Object}
+use Rattle.go_model.specs.declared.types.package.Package.{Package}
+use Rattle.go_model.specs.worlds.Worlds.{object_name}
+use Rattle.go_rules.specs.Names.{Named, value_at}
+use Rattle.go_rules.specs.Scopes.{entity_of}
+use Rattle.go_typings.specs.Declarations.{declarations, declared, Declaration}
+use Rattle.go_typings.specs.PackageEnvironments.{Entries, defined_at, entity_at, own_defined, own_entity}
+use Rattle.go_typings.specs.Sources.{PackageSource, Setting}
+use Rattle.go_typings.specs.TypedPackages.{IsOrdered, IsPackageOf}
+use Rattle.go_typings.specs.Typings.{IsTyping}
+use Rattle.go_packages.specs.inner.DefinedTypes.{AreDefined, IsSorted}
+use Rattle.go_packages.specs.inner.NamedObjects.{denoted, objects_named}
+use Rattle.go_packages.proofs.NamedDefined.{defined_ascend, defined_found}
+use Rattle.go_packages.proofs.NamedObjects.{object_found, objects_ascend}
+use Rattle.go_packages.proofs.OnceNamed.{had_once}
+use Rattle.go_packages.proofs.OwnDefined.{own_parts}
+use Rattle.go_packages.proofs.SelectorOrder.{in_order, is_same, same_members}
+
+absent : {A : Type 0} (t : Named A) (name : List ℕ) → (Has (names_in t) name → ⊥) → value_at t name ≡ None
+absent [] name h = refl
+absent (e ∷ t) name h = ap (λ b. cond b (Some e.1) (lookup (bytes_eq name) t)) (by (bytes_eq name e.0) refl) ∙ absent t name (λ k. h (inr k))
+  where
+    by : (b : Bool) → bytes_eq name e.0 ≡ b → b ≡ false
+    by true i = absurd (h (inl (sym ((bytes_decides name e.0).0 i))))
+    by false i = refl
+
+-- in a typing a type whose methods were sorted has them in order
+ordered : (s : Setting) (u : PackageSource) (a : Entries) → IsTyping s u a → (name : List ℕ) (had d : Defined) → own_defined u a name ≡ Some had → IsSorted had d → IsOrdered d had
+ordered s u a t name had d e k = record {
+  name = k.name;
+  underlying = k.underlying;
+  ordered = in_order had.methods d.methods k.methods (subst (IsDistinct is_same) (sym (own_parts u a name had e).1) (had_once u name s a t));
+  same = same_members had.methods d.methods k.methods;
+}
+
+module _ (s : Setting) (u : PackageSource) (a : Entries) (t : IsTyping s u a) (names : Named NamePlace) (declares : AreDeclared (declarations u) names) (rising : Ascending (names_in names)) where
+  undeclared : (name : List ℕ) → (Has (names_in names) name → ⊥) → declared (declarations u) name ≡ None
+  undeclared name h = not_declared (declarations u) names name declares (absent names name h)
+
+  pub package_of : (os : List Object) (ds : List Defined) → os ≡ objects_named (denoted u.path a (declarations u)) (names_in names) → AreDefined (own_defined u a) (names_in names) ds
+      → IsPackageOf u a (record { path = u.path; name = u.name; from_std = u.from_std; objects = os; defined = ds })
+  package_of os ds e k = record {
+    path = refl;
+    name = refl;
+    from_std = refl;
+    objects_ordered = subst (λ (xs : List Object). Ascending (map object_name xs)) (sym e) (objects_ascend (own_entity u a) (names_in names) rising);
+    objects = λ name. ap (λ (xs : List Object). entity_of (first_with object_name xs name)) e ∙ object_found (own_entity u a) name (names_in names) (λ h. ap (entity_at u.path a) (undeclared name h));
+    defined_ordered = defined_ascend (own_defined u a) (λ n d i. (own_parts u a n d i).0) (names_in names) ds k rising;
+    defined = λ name. defined_found (own_defined u a) (λ n d i. (own_parts u a n d i).0) name (ordered s u a t name) (names_in names) ds k (λ h. ap (defined_at u a name) (undeclared name h));
+  }

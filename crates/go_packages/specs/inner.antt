@@ -1,0 +1,4 @@
+pub mod FoundNames
+pub mod NamedObjects
+pub mod HadMethods
+pub mod DefinedTypes
