@@ -1,0 +1,4 @@
+pub mod MoreLists
+pub mod SameStdWorlds
+pub mod StdWorlds
+pub mod TypedNames
