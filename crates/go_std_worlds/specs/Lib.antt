@@ -1,1 +1,2 @@
 pub mod StdSources
+pub mod TwoModules
