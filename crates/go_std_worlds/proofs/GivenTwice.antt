@@ -1,9 +1,9 @@
 -- What the items of a list give under two relations that agree, and what two lists of used imports that are made alike hold.
-use Rattle.std.proofs.Common.{◌≡◌, ℕ, Option, Some, None, List, [], ◌∷◌, ◌++◌, refl, sym, ap, ◌∙◌, subst, inl, inr}
+use Rattle.std.proofs.Common.{◌≡◌, ℕ, Option, List, [], ◌∷◌, ◌++◌, refl, sym, ◌∙◌, subst, inl, inr}
 use Rattle.go_base.specs.Lists.{Has}
 use Rattle.go_imports.proofs.Members.{has_last, has_left}
 use Rattle.go_imports.specs.Gives.{Gives, none, next, optional}
-use Rattle.go_imports.specs.UsedImports.{AreUsed, none as no_use, used, unused, IsNamed, IsUse, named_as}
+use Rattle.go_imports.specs.UsedImports.{AreUsed, none as no_use, used, unused, IsNamed, named_as}
 use Rattle.go_imports.specs.declared.used_imports.Import.{Import}
 use Rattle.go_imports.specs.declared.used_imports.NamedImport.{NamedImport}
 use Rattle.go_typings.proofs.Cells.{none_some, some_once}

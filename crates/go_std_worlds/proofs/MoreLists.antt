@@ -1,5 +1,5 @@
 -- What a list finds by a key, before and after an item with a new key is placed in it.
-use Rattle.std.proofs.Common.{◌≡◌, ◌⊎◌, ℕ, Bool, true, false, List, [], ◌∷◌, Option, Some, None, map, refl, sym, ap, ◌∙◌, subst, inl, inr, if◌then◌else◌}
+use Rattle.std.proofs.Common.{◌≡◌, ◌⊎◌, ℕ, Bool, true, false, List, [], ◌∷◌, Some, map, refl, sym, ap, ◌∙◌, subst, inl, inr, if◌then◌else◌}
 use Rattle.std.specs.Str.{bytes_eq}
 use Rattle.std.proofs.lemmas.Slice.Eq.{bytes_eq-Decides}
 use Rattle.go_base.proofs.Ordered.{first_key}
@@ -7,7 +7,7 @@ use Rattle.go_base.specs.Keys.{first_with, placed}
 use Rattle.go_base.specs.Lists.{Has, Passes}
 use Rattle.go_model.proofs.MoreWorlds.{first_placed}
 use Rattle.go_typed_packages.proofs.Lists.{own_placed}
-use Rattle.go_typings.proofs.Cells.{either, none_some, some_once}
+use Rattle.go_typings.proofs.Cells.{either, some_once}
 use Rattle.go_typings.proofs.ReachedRegion.{first_has}
 
 pub passes_two : {A : Type 0} (p q r : A → Bool) → ((x : A) → p x ≡ true → q x ≡ true → r x ≡ true) → (xs : List A) → Passes p xs → Passes q xs → Passes r xs
@@ -38,9 +38,9 @@ module _ {A : Type 0} (key : A → List ℕ) where
     pub found_after : (k : List ℕ) (x : A) → first_with key (placed key y xs) k ≡ Some x → ((key y ≡ k) × (y ≡ x)) ⊎ (first_with key xs k ≡ Some x)
     found_after k x e = elim (either (bytes_eq (key y) k)) [
       | inl s ↦ (
-            let same = (bytes_eq-Decides (key y) k).0 s in
-            inl (same, some_once y x (sym (own_placed key y xs new) ∙ ap (first_with key (placed key y xs)) same ∙ e))
-            )
+          let same = (bytes_eq-Decides (key y) k).0 s in
+          inl (same, some_once y x (sym (own_placed key y xs new) ∙ ap (first_with key (placed key y xs)) same ∙ e))
+          )
       | inr n ↦ inr (sym (first_placed key y xs k n) ∙ e)
     ]
 

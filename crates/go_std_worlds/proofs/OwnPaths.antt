@@ -1,11 +1,11 @@
 -- Units in canonical order have paths of their own.
-use Rattle.std.proofs.Common.{◌≡◌, ℕ, List, [], ◌∷◌, ◌++◌, map, refl, sym, ap, ◌∙◌, subst, inl, inr}
+use Rattle.std.proofs.Common.{◌≡◌, ℕ, List, [], ◌∷◌, ◌++◌, map, refl, sym, ap, subst, inl, inr}
 use Rattle.std.proofs.Math.Logic.{∥∥₁_elim}
 use Rattle.go_base.specs.Lists.{Has, Once}
 use Rattle.go_imports.proofs.Members.{has_back}
 use Rattle.go_reading.proofs.ListFacts.{map_more, mapped_from}
 use Rattle.go_sources.specs.UnitSources.{source_of}
-use Rattle.go_units.specs.UnitOrders.{AreInOrder, InOrder, none, next}
+use Rattle.go_units.specs.UnitOrders.{InOrder, none, next}
 use Rattle.go_units.specs.declared.unit.«Unit».{«Unit» as PackageUnit}
 use Rattle.go_units.specs.declared.unit_list.Units.{Units}
 use Rattle.go_std_worlds.specs.StdSources.{HaveOwnPaths, source_path}

@@ -1,5 +1,5 @@
 -- Two folders with the same files give the same files to their packages, where imports name the same packages.
-use Rattle.std.proofs.Common.{◌≡◌, ℕ, Bool, true, Option, Some, None, List, [], refl, sym, ap, ◌∙◌, subst, inl, inr}
+use Rattle.std.proofs.Common.{◌≡◌, ℕ, Bool, Option, Some, None, List, [], refl, sym, ◌∙◌, subst, inl, inr}
 use Rattle.go_base.specs.Growing.{Grows}
 use Rattle.go_base.specs.Lists.{Has}
 use Rattle.go_imports.specs.UsedImports.{AreUsed, IsQualifierIn}

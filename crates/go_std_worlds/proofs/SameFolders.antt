@@ -1,5 +1,5 @@
 -- Two modules over one tree of the standard library have the same folders of it.
-use Rattle.std.proofs.Common.{◌≡◌, ◌<◌, ℕ, Bool, true, false, Option, None, List, length, refl, sym, ap, ◌∙◌, subst, inl, inr}
+use Rattle.std.proofs.Common.{◌≡◌, ◌<◌, ℕ, Bool, true, false, Option, List, length, refl, sym, ap, ◌∙◌, subst, inl, inr}
 use mathlib.Core.Bool.{true≢false}
 use Rattle.go_base.specs.Lists.{Has}
 use Rattle.go_imports.proofs.Members.{has_at, has_place}
@@ -7,7 +7,7 @@ use Rattle.go_model.specs.declared.files.platform.Platform.{Platform}
 use Rattle.go_model.specs.declared.files.tree.Tree.{Tree}
 use Rattle.go_model.specs.declared.files.tree.TreeFile.{TreeFile}
 use Rattle.go_reading.specs.FolderReadings.{IsPackageName}
-use Rattle.go_reading.specs.TreeFolders.{AreTreeFolders, Counts, IsTreeFolder, files_at}
+use Rattle.go_reading.specs.TreeFolders.{AreTreeFolders, IsTreeFolder, files_at}
 use Rattle.go_units.proofs.FolderLookups.{at_once}
 use Rattle.go_units.specs.Folders.{IsImportedName, IsSought, NamesFolder, folder_of, no_folder}
 use Rattle.go_units.specs.Reached.{is_std}

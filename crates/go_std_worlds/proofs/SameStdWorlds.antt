@@ -1,8 +1,7 @@
 -- In the worlds of two lists the packages of the standard library are the same that are written the same.
-use Rattle.std.proofs.Common.{◌≡◌, ℕ, Bool, true, false, ◌&&◌, ◌||◌, List, [], ◌∷◌, Some, refl, sym, ap, ◌∙◌, subst, inl, inr}
+use Rattle.std.proofs.Common.{◌≡◌, ℕ, Bool, true, false, ◌&&◌, ◌||◌, List, ◌∷◌, Some, refl, sym, ap, ◌∙◌, subst, inl, inr}
 use Rattle.go_base.specs.Keys.{first_with}
 use Rattle.go_base.specs.Lists.{Has, Passes}
-use Rattle.go_model.specs.declared.types.names.TypeName.{TypeName}
 use Rattle.go_model.specs.declared.types.package.Package.{Package}
 use Rattle.go_model.specs.types.Terms.{is_error}
 use Rattle.go_model.specs.worlds.PackageTypes.{package_names}
@@ -11,13 +10,13 @@ use Rattle.go_rules.proofs.OneKind.{no_truth}
 use Rattle.go_typings.proofs.Cells.{none_some}
 use Rattle.go_typings.proofs.OnePackage.{one_package}
 use Rattle.go_typings.proofs.SameTypings.{typed_same}
-use Rattle.go_typings.specs.PackageWorlds.{AreTyped, Become, become_none, become_more, IsWorldOf, Outcome, typed, refused, blocked, is_public, is_typed, no_packages, over}
+use Rattle.go_typings.specs.PackageWorlds.{AreTyped, Become, become_none, become_more, IsWorldOf, Outcome, typed, refused, blocked, is_public, is_typed, over}
 use Rattle.go_typings.specs.ReachedPackages.{ReachesSame, is_reached}
 use Rattle.go_typings.specs.Sources.{PackageSource}
 use Rattle.go_typings.specs.TypedPackages.{IsTypedAs}
 use Rattle.go_std_worlds.proofs.MoreLists.{found_after, passes_two}
 use Rattle.go_std_worlds.proofs.StdWorlds.{AreNew, Keeps, all_new, is_std, keeps_all, keeps_next, keeps_none, new_rest, std_found, std_in, std_reached}
-use Rattle.go_std_worlds.specs.StdSources.{AreApart, HaveSameStd}
+use Rattle.go_std_worlds.specs.StdSources.{KeepStdApart, HaveSameStd}
 
 both : (a b : Bool) → a ≡ true → b ≡ true → (a && b) ≡ true
 both a b e f = ap (λ z. z && b) e ∙ f
@@ -34,7 +33,7 @@ or_both : (a b c : Bool) → (a || b) ≡ true → (a || c) ≡ true → (a || (
 or_both true b c e f = refl
 or_both false b c e f = both b c e f
 
-module _ (bits : ℕ) (us vs : List PackageSource) (apart : AreApart us) (other : AreApart vs) (same : HaveSameStd us vs) (v : Packages) (kept : Keeps bits vs v) where
+module _ (bits : ℕ) (us vs : List PackageSource) (apart : KeepStdApart us) (other : KeepStdApart vs) (same : HaveSameStd us vs) (v : Packages) (kept : Keeps bits vs v) where
   -- the packages of the standard library that stand in both are the same
   abbrev Agrees : Packages → Type 0
   Agrees w = (path : List ℕ) (p q : Package) → first_with path_of w.packages path ≡ Some p → first_with path_of v.packages path ≡ Some q → p.from_std ≡ true → p ≡ q
@@ -78,9 +77,9 @@ module _ (bits : ℕ) (us vs : List PackageSource) (apart : AreApart us) (other 
   agrees_next : (w : Packages) (u : PackageSource) (rest : List PackageSource) (p : Package) → Keeps bits us w → AreNew bits us apart w (u ∷ rest) → AreTyped w u → IsTypedAs (over bits w) u p → Agrees w → Agrees (with_package w p (is_public u))
   agrees_next w u rest p k n t y g path a b e f std = elim (found_after path_of p w.packages (λ i. n.free u (inl refl) (subst (Has _) y.«package».path i)) path a e) [
     | inl own ↦ (
-          let here : u.from_std ≡ true = sym y.«package».from_std ∙ ap (λ (z : Package). z.from_std) own.1 ∙ std in
-          sym own.1 ∙ typed_once w k g u (n.among u (inl refl)) t here p b y (subst (λ (z : List ℕ). first_with path_of v.packages z ≡ Some b) (sym (sym y.«package».path ∙ own.0)) f)
-          )
+        let here : u.from_std ≡ true = sym y.«package».from_std ∙ ap (λ (z : Package). z.from_std) own.1 ∙ std in
+        sym own.1 ∙ typed_once w k g u (n.among u (inl refl)) t here p b y (subst (λ (z : List ℕ). first_with path_of v.packages z ≡ Some b) (sym (sym y.«package».path ∙ own.0)) f)
+        )
     | inr old ↦ g path a b old f std
   ]
 
@@ -91,13 +90,13 @@ module _ (bits : ℕ) (us vs : List PackageSource) (apart : AreApart us) (other 
   agree (become_more {x = refused q} a r) o n k g = absurd (no_truth (sym o.0))
   agree (become_more {x = blocked} a r) o n k g = absurd (no_truth (sym o.0))
 
-pub same_std : (bits : ℕ) (us vs : List PackageSource) (w v : Packages) → AreApart us → AreApart vs → HaveSameStd us vs → IsWorldOf bits us w → IsWorldOf bits vs v
+pub same_std : (bits : ℕ) (us vs : List PackageSource) (w v : Packages) → KeepStdApart us → KeepStdApart vs → HaveSameStd us vs → IsWorldOf bits us w → IsWorldOf bits vs v
     → (path : List ℕ) (p q : Package) → first_with path_of w.packages path ≡ Some p → first_with path_of v.packages path ≡ Some q → p.from_std ≡ true → p ≡ q
 same_std bits us vs w v a b same k l =
     let kept = keeps_all bits vs b l.become l.all_typed (all_new bits vs b) (keeps_none bits vs b) in
     agree bits us vs a b same v kept k.become k.all_typed (all_new bits us a) (keeps_none bits us a) (λ path p q e f std. none_some _ p refl e)
 
 -- a package of a world is of the standard library where it is so as it is written
-pub written_side : (bits : ℕ) (us : List PackageSource) (w : Packages) → AreApart us → IsWorldOf bits us w → (path : List ℕ) (p : Package) → first_with path_of w.packages path ≡ Some p
+pub written_side : (bits : ℕ) (us : List PackageSource) (w : Packages) → KeepStdApart us → IsWorldOf bits us w → (path : List ℕ) (p : Package) → first_with path_of w.packages path ≡ Some p
     → (u : PackageSource) × Has us u × (u.path ≡ path) × (p.from_std ≡ u.from_std)
 written_side bits us w a k path p e = let q = (keeps_all bits us a k.become k.all_typed (all_new bits us a) (keeps_none bits us a)).written path p e in (q.source, q.among, q.place, q.side)

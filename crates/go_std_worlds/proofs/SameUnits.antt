@@ -1,5 +1,5 @@
 -- A unit of the standard library that two modules reach is the same as it is written.
-use Rattle.std.proofs.Common.{◌≡◌, ◌<◌, ℕ, zero, suc, Bool, true, false, Option, Some, None, List, [], ◌∷◌, map, length, get_or, nat_lt, refl, sym, ap, ◌∙◌, subst, inl, inr, arith}
+use Rattle.std.proofs.Common.{◌≡◌, ◌<◌, ℕ, Bool, true, false, Option, Some, None, List, [], ◌∷◌, map, length, refl, sym, ap, ◌∙◌, subst, inl, inr, arith}
 use mathlib.Core.Bool.{true≢false}
 use Rattle.go_base.specs.Lists.{Has}
 use Rattle.go_imports.specs.Gives.{Gives}
@@ -17,7 +17,7 @@ use Rattle.go_units.specs.Folders.{AsksFor, IsFound, MayBeFound, folder_of}
 use Rattle.go_units.specs.PackageUses.{ArePackageFiles}
 use Rattle.go_units.specs.Reached.{AllAreRead, ReadFolders, is_std, slot}
 use Rattle.go_units.specs.UnitFacts.{UnitFilesAreNamed}
-use Rattle.go_units.specs.UnitsOfModules.{GivesUnitFile, GivesUse, HoldsPackage, IsUnitOf, holds_files, packages_in}
+use Rattle.go_units.specs.UnitsOfModules.{GivesUnitFile, GivesUse, IsUnitOf, holds_files, packages_in}
 use Rattle.go_units.specs.declared.folder.Folder.{Folder}
 use Rattle.go_units.specs.declared.package_uses.PackageFile.{PackageFile}
 use Rattle.go_units.specs.declared.reader.Reading.{Reading}
@@ -28,7 +28,7 @@ use Rattle.go_units.specs.declared.unit.UsedImport.{UsedImport}
 use Rattle.go_typings.proofs.Cells.{maybe}
 use Rattle.go_std_worlds.proofs.GivenTwice.{gives_same}
 use Rattle.go_std_worlds.proofs.SameFiles.{files_same}
-use Rattle.go_std_worlds.proofs.SameFolders.{IsThere, folder_there, named_same, named_std, names_there, std_files}
+use Rattle.go_std_worlds.proofs.SameFolders.{folder_there, named_same, named_std, names_there, std_files}
 
 -- a module's folders, and those that are read
 pub record Run (p : Platform) (barred : List (List ℕ)) (std_tree tree : Tree) : Type 0 where
@@ -59,7 +59,7 @@ module _ (p : Platform) (barred : List (List ℕ)) (std_tree : Tree) (one : (fil
         let l = walked_read tb.module b.folders (ReadsFolder p barred tb std_tree b.folders) b.all.walked m others f in
         let std_too : is_std b.folders m ≡ true = ap (λ (x : Folder). x.from_std) same ∙ std in
         let texts : files_at p barred tb std_tree (folder_of b.folders m).from_std (folder_of b.folders m).path ≡ files_at p barred ta std_tree (folder_of a.folders n).from_std (folder_of a.folders n).path =
-            ap (λ (x : Folder). files_at p barred tb std_tree x.from_std x.path) same ∙ std_files p barred std_tree tb ta (folder_of a.folders n).from_std (folder_of a.folders n).path std in
+        ap (λ (x : Folder). files_at p barred tb std_tree x.from_std x.path) same ∙ std_files p barred std_tree tb ta (folder_of a.folders n).from_std (folder_of a.folders n).path std in
         let sources : k.0 ≡ l.0 = same_sources k.0 l.0 (one _ (reading.Files k.0) (reading.Files l.0) k.1 (subst (λ (fs : List TreeFile). IsReading p fs (reading.Files l.0)) texts l.1)) in
         let here : ArePackageFiles ta.module a.folders true l.0 files = subst (λ (q : Bool × List SourceFile). ArePackageFiles ta.module a.folders q.0 q.1 files) (λ i. (std i, sources i)) k.2.given in
         let there : ArePackageFiles tb.module b.folders true l.0 others = subst (λ (s : Bool). ArePackageFiles tb.module b.folders s l.0 others) std_too l.2.given in
@@ -77,16 +77,19 @@ module _ (p : Platform) (barred : List (List ℕ)) (std_tree : Tree) (one : (fil
           let permitted : MayBeFound (folder_of b.folders i) = record { safe = λ e. k.permitted.safe (sym (ap (λ (z : Folder). z.path) same) ∙ e); library = λ e. k.permitted.library (sym (ap (λ (z : Folder). z.package_name) same) ∙ e) } in
           let was = held (slot a.slots j) (sym (flag_is a.slots j) ∙ k.holds) in
           elim (maybe (slot b.slots i)) [
-            | inl g ↦ (i, record {
-                  names = q.1;
-                  permitted = permitted;
-                  known = λ e. k.known (sym (ap (λ (z : Folder). z.package_name) same) ∙ e);
-                  holds = flag_is b.slots i ∙ ap holds_files (g.1 ∙ ap Some (sym (read_same j i was.0 g.0 same (named_std ta.module a.folders x.path j k.names) was.1 g.1)) ∙ sym was.1) ∙ sym (flag_is a.slots j) ∙ k.holds;
-                })
+            | inl g ↦ (
+              i,
+              record {
+                names = q.1;
+                permitted = permitted;
+                known = λ e. k.known (sym (ap (λ (z : Folder). z.package_name) same) ∙ e);
+                holds = flag_is b.slots i ∙ ap holds_files (g.1 ∙ ap Some (sym (read_same j i was.0 g.0 same (named_std ta.module a.folders x.path j k.names) was.1 g.1)) ∙ sym was.1) ∙ sym (flag_is a.slots j) ∙ k.holds;
+              },
+            )
             | inr none ↦ absurd (b.all.all i (record {
-                within = q.1.within;
-                why = inr (m, members, read, (f, h, (x, u, subst (λ (s : Bool). AsksFor tb.module b.folders s x.path i) (sym std) (record { names = q.1; side = side; permitted = permitted }))));
-              }) none)
+              within = q.1.within;
+              why = inr (m, members, read, (f, h, (x, u, subst (λ (s : Bool). AsksFor tb.module b.folders s x.path i) (sym std) (record { names = q.1; side = side; permitted = permitted }))));
+            }) none)
           ]
 
   module _ (ta tb : Tree) (a : Run p barred std_tree ta) (b : Run p barred std_tree tb) (n m : ℕ) (same : folder_of b.folders m ≡ folder_of a.folders n) (std : is_std a.folders n ≡ true) where
@@ -102,8 +105,8 @@ module _ (p : Platform) (barred : List (List ℕ)) (std_tree : Tree) (one : (fil
           let path : i.path ≡ j.path = k.path ∙ sym l.path in
           let place : i.place ≡ j.place = k.place ∙ sym l.place in
           let found : i.found ≡ j.found = same_answer i.found j.found
-              (λ e. (let q = k.is_found.0 e in l.is_found.1 (found_there ta tb a b m members std_too there f x q.0 h u q.1)))
-              (λ e. (let q = l.is_found.0 e in k.is_found.1 (found_there tb ta b a n members std here f x q.0 h u q.1))) in
+          (λ e. (let q = k.is_found.0 e in l.is_found.1 (found_there ta tb a b m members std_too there f x q.0 h u q.1)))
+          (λ e. (let q = l.is_found.0 e in k.is_found.1 (found_there tb ta b a n members std here f x q.0 h u q.1))) in
           λ t. Some (record { name = name t; path = path t; found = found t; place = place t })
 
       file_same : (f : PackageFile) (r s : Option UnitFile) → Has members f → GivesUnitFile ta.module a.folders (packages_in a.slots) true f r → GivesUnitFile tb.module b.folders (packages_in b.slots) true f s → r ≡ s

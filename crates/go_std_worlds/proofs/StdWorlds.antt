@@ -1,9 +1,9 @@
 -- What the packages of the standard library keep while packages are typed one after another.
-use Rattle.std.proofs.Common.{◌≡◌, ◌⊎◌, ℕ, Bool, true, false, ◌||◌, List, [], ◌∷◌, Option, Some, None, map, refl, sym, ap, ◌∙◌, subst, inl, inr}
+use Rattle.std.proofs.Common.{◌≡◌, ◌⊎◌, ℕ, Bool, true, false, ◌||◌, List, ◌∷◌, Option, Some, None, map, refl, sym, ap, ◌∙◌, subst, inl, inr}
 use Rattle.std.specs.Str.{bytes_eq}
 use Rattle.std.proofs.lemmas.Slice.Eq.{bytes_eq-Decides}
-use Rattle.go_base.specs.Keys.{first_with, placed}
-use Rattle.go_base.specs.Lists.{Has, Once, Passes}
+use Rattle.go_base.specs.Keys.{first_with}
+use Rattle.go_base.specs.Lists.{Has, Passes}
 use Rattle.go_model.proofs.MoreWorlds.{keys_kept}
 use Rattle.go_model.specs.declared.types.names.TypeName.{TypeName}
 use Rattle.go_model.specs.declared.types.package.Package.{Package}
@@ -17,11 +17,11 @@ use Rattle.go_typings.proofs.ReachedRegion.{or_second, region, weaker}
 use Rattle.go_typings.proofs.SameTypings.{typed_same}
 use Rattle.go_typings.specs.PackageWorlds.{AreTyped, Become, become_none, become_more, Outcome, typed, refused, blocked, is_public, is_typed, no_packages, over}
 use Rattle.go_typings.specs.ReachedPackages.{AreReached, ReachesSame, is_reached}
-use Rattle.go_typings.specs.Sources.{PackageSource, Setting}
+use Rattle.go_typings.specs.Sources.{PackageSource}
 use Rattle.go_typings.specs.TypedPackages.{IsTypedAs}
 use Rattle.go_std_worlds.proofs.MoreLists.{found_after, found_still, has_key, key_finds, mapped}
 use Rattle.go_std_worlds.proofs.TypedNames.{typed_names}
-use Rattle.go_std_worlds.specs.StdSources.{AreApart, HaveOwnPaths, source_path}
+use Rattle.go_std_worlds.specs.StdSources.{KeepStdApart, HaveOwnPaths, source_path}
 
 -- ---- the packages of the standard library in a world
 
@@ -72,7 +72,7 @@ or_more : (a b c : Bool) → (b ≡ true → c ≡ true) → (a || b) ≡ true �
 or_more true b c h e = refl
 or_more false b c h e = h e
 
-module _ (bits : ℕ) (all : List PackageSource) (apart : AreApart all) where
+module _ (bits : ℕ) (all : List PackageSource) (apart : KeepStdApart all) where
   -- a package of the standard library reaches packages of it alone
   pub std_reached : (w : Packages) (u : PackageSource) → Keeps bits all w → Has all u → u.from_std ≡ true → AreTyped w u → AreReached w u (std_in w)
   std_reached w u k h std t = record {
@@ -105,19 +105,19 @@ module _ (bits : ℕ) (all : List PackageSource) (apart : AreApart all) where
     own_std : p.from_std ≡ true → (n : TypeName) → (region u (std_in w)).types n ≡ true → is_reached (std_in x) n ≡ true
     own_std std n i = elim (either (bytes_eq u.path n.path)) [
       | inl e ↦ (
-            let same : n.path ≡ p.path = sym (y.«package».path ∙ (bytes_eq-Decides u.path n.path).0 e) in
-            or_right (is_error n) (std_in x n.path) (ap is_std (ap (first_with path_of x.packages) same ∙ own_placed path_of p w.packages new) ∙ std)
-            )
+          let same : n.path ≡ p.path = sym (y.«package».path ∙ (bytes_eq-Decides u.path n.path).0 e) in
+          or_right (is_error n) (std_in x n.path) (ap is_std (ap (first_with path_of x.packages) same ∙ own_placed path_of p w.packages new) ∙ std)
+          )
       | inr e ↦ or_more (is_error n) (std_in w n.path) (std_in x n.path) (std_still n.path) (or_second (bytes_eq u.path n.path) (is_reached (std_in w) n) e i)
     ]
 
     closed_more : IsStdClosed x
     closed_more path q e std = elim (after path q e) [
       | inl own ↦ (
-            let from_std : p.from_std ≡ true = ap (λ (z : Package). z.from_std) own.1 ∙ std in
-            let names = typed_names (over bits w) u (std_in w) p (std_reached w u k h (sym y.«package».from_std ∙ from_std) t) y in
-            subst (λ (z : Package). Passes (is_reached (std_in x)) (package_names z)) own.1 (weaker (region u (std_in w)).types (is_reached (std_in x)) (own_std from_std) (package_names p) names)
-            )
+          let from_std : p.from_std ≡ true = ap (λ (z : Package). z.from_std) own.1 ∙ std in
+          let names = typed_names (over bits w) u (std_in w) p (std_reached w u k h (sym y.«package».from_std ∙ from_std) t) y in
+          subst (λ (z : Package). Passes (is_reached (std_in x)) (package_names z)) own.1 (weaker (region u (std_in w)).types (is_reached (std_in x)) (own_std from_std) (package_names p) names)
+          )
       | inr old ↦ weaker (is_reached (std_in w)) (is_reached (std_in x)) (λ n. or_more (is_error n) (std_in w n.path) (std_in x n.path) (std_still n.path)) (package_names q) (k.closed path q old std)
     ]
 

@@ -1,6 +1,5 @@
 -- The units of two modules over one tree of the standard library, and their worlds.
 use Rattle.std.proofs.Common.{◌≡◌, ◌<◌, ℕ, zero, suc, Bool, true, false, Some, Ok, List, [], ◌∷◌, map, length, refl, sym, ap, ◌∙◌, subst, inl, inr, arith}
-use mathlib.Core.Bool.{true≢false}
 use Rattle.std.specs.Prelude.{slice_get}
 use Rattle.go_base.specs.Keys.{first_with}
 use Rattle.go_base.specs.Lists.{Has}
@@ -25,7 +24,6 @@ use Rattle.go_units.proofs.WalkedFiles.{slot_within, walked_rows}
 use Rattle.go_units.specs.Folders.{NamesFolder, folder_of, no_folder}
 use Rattle.go_units.specs.Reached.{is_std}
 use Rattle.go_units.specs.UnitsOfModules.{GivesUnitFile, GivesUse, IsUnitOf, packages_in}
-use Rattle.go_units.specs.declared.folder.Folder.{Folder}
 use Rattle.go_units.specs.declared.reader.Reading.{Reading}
 use Rattle.go_units.specs.declared.unit.«Unit».{«Unit» as PackageUnit}
 use Rattle.go_units.specs.declared.unit.UnitFile.{UnitFile}
@@ -35,7 +33,7 @@ use Rattle.go_std_worlds.proofs.OwnPaths.{own_paths}
 use Rattle.go_std_worlds.proofs.SameFolders.{named_std}
 use Rattle.go_std_worlds.proofs.SameStdWorlds.{same_std, written_side}
 use Rattle.go_std_worlds.proofs.SameUnits.{Run, source_same}
-use Rattle.go_std_worlds.specs.StdSources.{AreApart, HaveSameStd}
+use Rattle.go_std_worlds.specs.StdSources.{KeepStdApart, HaveSameStd}
 use Rattle.go_std_worlds.specs.TwoModules.{AreOfTwoModules, sources_of}
 
 -- an import of a unit as it is written is one of a file of it
@@ -89,7 +87,7 @@ module _ (p : Platform) (barred : List (List ℕ)) (std_tree tree : Tree) (units
       let same : b.0 ≡ m = at_once run.folders x.0.path m b.0 run.are.ordered (named.within, named.same) (unit_within v b.0 b.1, sym b.1.path ∙ path ∙ sym (ap (λ (z : Import). z.path) q.4) ∙ x.2.path) in
       b.1.side ∙ ap (is_std run.folders) same ∙ named_std tree.module run.folders x.0.path m named
 
-  pub apart : AreApart (sources_of units)
+  pub apart : KeepStdApart (sources_of units)
   apart = record {
     own_paths = own_paths units;
     std_imports = λ u v file i h l std has found path. (
@@ -97,7 +95,7 @@ module _ (p : Platform) (barred : List (List ℕ)) (std_tree tree : Tree) (units
         let b = mapped_from source_of units.packages v l in
         sym (ap (λ (z : PackageSource). z.from_std) b.2)
         ∙ std_import a.0 b.0 file i a.1 b.1 (ap (λ (z : PackageSource). z.from_std) a.2 ∙ std)
-            (subst (λ (z : PackageSource). Has (imports_in (slice_get z.files file)) i) (sym a.2) has) found (ap (λ (z : PackageSource). z.path) b.2 ∙ path)
+        (subst (λ (z : PackageSource). Has (imports_in (slice_get z.files file)) i) (sym a.2) has) found (ap (λ (z : PackageSource). z.path) b.2 ∙ path)
         );
   }
 

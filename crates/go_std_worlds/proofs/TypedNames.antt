@@ -1,10 +1,8 @@
 -- The names in the types of a typed package are its own, or of packages that it reaches.
-use Rattle.std.proofs.Common.{◌≡◌, ℕ, zero, suc, Bool, true, false, ◌||◌, List, [], ◌∷◌, Option, Some, None, refl, sym, ap, ◌∙◌, subst, inl}
+use Rattle.std.proofs.Common.{◌≡◌, ℕ, zero, suc, Bool, true, false, ◌||◌, List, [], ◌∷◌, Option, Some, None, refl, sym, ap, ◌∙◌, subst}
 use Rattle.std.specs.Prelude.{slice_get}
 use Rattle.go_base.specs.Gathered.{gather}
-use Rattle.go_base.specs.Keys.{first_with}
 use Rattle.go_base.specs.Lists.{Each, Has, Passes}
-use Rattle.go_model.specs.declared.types.names.TypeName.{TypeName}
 use Rattle.go_model.specs.declared.types.package.ConstTerm.TheVariants as constant
 use Rattle.go_model.specs.declared.types.package.Defined.{Defined}
 use Rattle.go_model.specs.declared.types.package.Entity.{Entity}
@@ -30,7 +28,7 @@ use Rattle.go_typings.proofs.ReachedRegion.{EntriesIn, own_path, region}
 use Rattle.go_typings.proofs.SameImports.{entries_in}
 use Rattle.go_typings.specs.Assignments.{all_of}
 use Rattle.go_typings.specs.Declarations.{Form, constants, variables, alias, definition, function, method, Declared, declarations, declared}
-use Rattle.go_typings.specs.PackageEnvironments.{Entries, Entry, objects, underlying, signed, entity_at, entity_by, had, object_of, own_defined, own_type}
+use Rattle.go_typings.specs.PackageEnvironments.{Entries, objects, underlying, signed, entity_at, entity_by, had, object_of, own_type}
 use Rattle.go_typings.specs.ReachedPackages.{AreReached, is_reached}
 use Rattle.go_typings.specs.Receivers.{methods}
 use Rattle.go_typings.specs.Sources.{PackageSource, Setting}

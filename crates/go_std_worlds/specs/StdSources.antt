@@ -16,8 +16,8 @@ abbrev pub StdImportsStd : List PackageSource → Type 0
 StdImportsStd us = (u v : PackageSource) (file : ℕ) (i : Import) → Has us u → Has us v → u.from_std ≡ true
     → Has (imports_of u file) i → i.is_found ≡ true → v.path ≡ i.path → v.from_std ≡ true
 
--- packages by themselves, and with the standard library
-pub record AreApart (us : List PackageSource) : Type 0 where
+-- packages with paths of their own, among which the standard library imports itself alone
+pub record KeepStdApart (us : List PackageSource) : Type 0 where
   pub own_paths : HaveOwnPaths us
   pub std_imports : StdImportsStd us
 

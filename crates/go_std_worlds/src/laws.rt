@@ -12,7 +12,7 @@ ghost use Rattle.go_model.specs.worlds.PackageTypes.{package_names};
 ghost use Rattle.go_model.specs.worlds.Worlds.{Packages, path_of};
 ghost use Rattle.go_reading.specs.TreeUnits.{AreUnitsOfTrees};
 ghost use Rattle.go_sources.specs.UnitSources.{source_of};
-ghost use Rattle.go_std_worlds.specs.StdSources.{AreApart, HaveSameStd};
+ghost use Rattle.go_std_worlds.specs.StdSources.{KeepStdApart, HaveSameStd};
 ghost use Rattle.go_std_worlds.specs.TwoModules.{AreOfTwoModules, sources_of};
 ghost use Rattle.go_typings.specs.PackageWorlds.{IsWorldOf};
 ghost use Rattle.go_typings.specs.ReachedPackages.{AreReached, is_reached};
@@ -32,7 +32,7 @@ pub fn typed_names()
 /// In the worlds of two lists of packages those of the standard library that stand in both are the same, where all that have
 /// their paths in both lists are written the same.
 pub fn shared_std()
-    ensures { (bits : ℕ) (us vs : List PackageSource) (w v : Packages) → AreApart us → AreApart vs → HaveSameStd us vs
+    ensures { (bits : ℕ) (us vs : List PackageSource) (w v : Packages) → KeepStdApart us → KeepStdApart vs → HaveSameStd us vs
         → IsWorldOf bits us w → IsWorldOf bits vs v → (path : List ℕ) (p q : Package) → first_with path_of w.packages path ≡ Some p
         → first_with path_of v.packages path ≡ Some q → p.from_std ≡ true → p ≡ q }
 {}
@@ -41,7 +41,7 @@ pub fn shared_std()
 /// path or one below, and each unit of the module has the module's path or one below.
 pub fn std_units()
     ensures apart { (p : Platform) (barred : List (List ℕ)) (std_tree tree : Tree) (units : Units)
-        → AreUnitsOfTrees p barred tree std_tree (Ok units) → AreApart (sources_of units) }
+        → AreUnitsOfTrees p barred tree std_tree (Ok units) → KeepStdApart (sources_of units) }
     ensures std { (p : Platform) (barred : List (List ℕ)) (std_tree tree : Tree) (units : Units) (u : PackageUnit) (root : List ℕ)
         → AreUnitsOfTrees p barred tree std_tree (Ok units) → Has units.packages u → u.from_std ≡ true → Has barred root
         → IsUnder u.path root → ⊥ }
