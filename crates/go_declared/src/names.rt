@@ -61,10 +61,7 @@ fn is_left_out(name: &[u8]) -> bool
 }
 
 // The keys of an ordered map.
-fn keys_of(
-    alloc: Global,
-    entries: &BTreeMap<Vec<u8>, NamePlace>,
-) -> Result<List<&[u8]>, NoMemory>
+fn keys_of(alloc: Global, entries: &BTreeMap<Vec<u8>, NamePlace>) -> Result<List<&[u8]>, NoMemory>
     ensures names { IfOk result (λ keys. texts_of keys ≡ names_in (by_text entries.now.entries)) }
     ensures ordered { OnOk result (Ascending (names_in (by_text entries.now.entries))) }
 {

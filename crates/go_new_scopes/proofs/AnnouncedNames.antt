@@ -1,18 +1,17 @@
 -- Which names are announced, where those of declarations were announced in turn.
-use Rattle.std.proofs.Common.{◌≡◌, ℕ, suc, Bool, true, false, ◌||◌, ◌&&◌, cond, List, [], ◌∷◌, Option, None, Some, refl, sym, ap, ◌∙◌}
-use mathlib.Core.Bool.{true≢false}
+use Rattle.std.proofs.Common.{◌≡◌, ℕ, suc, Bool, true, false, ◌||◌, ◌&&◌, List, [], ◌∷◌, Option, None, Some, refl, sym, ap, ◌∙◌}
 use Rattle.std.specs.Prelude.{if◌then◌else◌, is_some}
 use Rattle.std.specs.Cmp.Lexicographic.{bytes_decides}
 use Rattle.std.specs.Option.{option_or}
 use Rattle.std.specs.Str.{bytes_eq}
 use Rattle.go_declared.specs.NameTables.{AreDeclared, place_of}
 use Rattle.go_declared.specs.declared.names.NamePlace.{NamePlace}
-use Rattle.go_rules.proofs.NamedEntries.{put_is}
 use Rattle.go_rules.specs.Asks.{texts}
 use Rattle.go_rules.specs.Expressions.{is_blank}
 use Rattle.go_rules.specs.Names.{Named, value_at, with_value}
 use Rattle.go_syntax.specs.declared.name.Name.{Name}
 use Rattle.go_typings.specs.Declarations.{declared, declared_by, declared_from, Declaration, Declared, Form, is_init, names_of, place_from}
+use Rattle.go_new_scopes.proofs.Lookups.{put_told}
 use Rattle.go_new_scopes.specs.inner.Announced.{Known, with_declarations, with_name, with_names}
 
 or_false : (b : Bool) → b ≡ (b || false)
@@ -41,14 +40,6 @@ and_itself : (b : Bool) → (b && b) ≡ b
 and_itself true = refl
 and_itself false = refl
 
-turned : (a b : List ℕ) (c : Bool) → bytes_eq a b ≡ c → bytes_eq b a ≡ c
-turned a b true e = (bytes_decides b a).1 (sym ((bytes_decides a b).0 e))
-turned a b false e = other (bytes_eq b a) refl
-  where
-    other : (d : Bool) → bytes_eq b a ≡ d → d ≡ false
-    other true h = absurd (true≢false (sym ((bytes_decides a b).1 (sym ((bytes_decides b a).0 h))) ∙ e))
-    other false h = refl
-
 module _ (names : Named NamePlace) (q : List ℕ) where
   abbrev has : Known → Bool
   has t = is_some (value_at t q)
@@ -58,9 +49,9 @@ module _ (names : Named NamePlace) (q : List ℕ) where
 
   name_by : (t : Known) (n : List ℕ) (p e : Bool) → is_some (value_at names n) ≡ p → bytes_eq n q ≡ e → has (if p then with_value t n tt else t) ≡ (has t || (e && is_told))
   name_by t n true true hp he =
-      ap is_some (put_is q n tt t ∙ ap (λ b. cond b (Some tt) (value_at t q)) (turned n q true he))
+      ap is_some (put_told t n tt q true he)
       ∙ or_true (has t) ∙ ap (λ b. has t || b) (sym hp ∙ ap (λ k. is_some (value_at names k)) ((bytes_decides n q).0 he))
-  name_by t n true false hp he = ap is_some (put_is q n tt t ∙ ap (λ b. cond b (Some tt) (value_at t q)) (turned n q false he)) ∙ or_false (has t)
+  name_by t n true false hp he = ap is_some (put_told t n tt q false he) ∙ or_false (has t)
   name_by t n false true hp he = or_false (has t) ∙ ap (λ b. has t || b) (sym hp ∙ ap (λ k. is_some (value_at names k)) ((bytes_decides n q).0 he))
   name_by t n false false hp he = or_false (has t)
 

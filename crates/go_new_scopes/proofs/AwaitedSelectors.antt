@@ -1,5 +1,5 @@
 -- Which methods are awaited, where those of the types of declarations were awaited in turn.
-use Rattle.std.proofs.Common.{◌≡◌, ◌+◌, ◌<◌, ℕ, suc, Bool, true, false, ◌||◌, ◌&&◌, cond, List, [], ◌∷◌, ◌++◌, map, Option, None, Some, refl, sym, ap, ◌∙◌, subst, arith, append_assoc, append-nil}
+use Rattle.std.proofs.Common.{◌≡◌, ℕ, suc, Bool, true, false, ◌||◌, ◌&&◌, List, [], ◌∷◌, ◌++◌, map, Option, None, Some, refl, sym, ap, ◌∙◌, arith, append_assoc, append-nil}
 use mathlib.Core.Bool.{true≢false}
 use Rattle.std.specs.Prelude.{filter, if◌then◌else◌, not}
 use Rattle.std.specs.Cmp.Lexicographic.{bytes_decides}
@@ -14,23 +14,15 @@ use Rattle.go_declared.specs.declared.methods.MethodRow.{MethodRow}
 use Rattle.go_declared.specs.declared.names.NamePlace.{NamePlace}
 use Rattle.go_model.specs.declared.types.names.Sel.{Sel}
 use Rattle.go_package_scopes.specs.KeptScopes.{selector_of, selectors}
-use Rattle.go_rules.proofs.NamedEntries.{put_is}
 use Rattle.go_rules.specs.Expressions.{is_blank}
 use Rattle.go_rules.specs.Names.{Named, items_at, value_at, with_value}
 use Rattle.go_syntax.specs.declared.types.ParameterDecl.{ParameterDecl}
-use Rattle.go_typings.specs.Declarations.{alias, constants, declarations, declared, Declaration, Declared, definition, Form, function, method, variables}
+use Rattle.go_typings.specs.Declarations.{alias, constants, declarations, declared, Declaration, definition, Form, function, method, variables}
 use Rattle.go_typings.specs.Receivers.{base, DeclaredMethod, is_named, is_pointer_form, is_selectable, method_by, methods_from, receiver_form, selector}
 use Rattle.go_typings.specs.Sources.{PackageSource}
+use Rattle.go_new_scopes.proofs.Lookups.{put_told}
 use Rattle.go_new_scopes.proofs.OwnDeclarations.{is_definition, names_type, own_by, own_first, own_from, own_past}
 use Rattle.go_new_scopes.specs.inner.AwaitedMethods.{with_declarations, with_form, with_method, with_rows}
-
-turned : (a b : List ℕ) (c : Bool) → bytes_eq a b ≡ c → bytes_eq b a ≡ c
-turned a b true e = (bytes_decides b a).1 (sym ((bytes_decides a b).0 e))
-turned a b false e = other (bytes_eq b a) refl
-  where
-    other : (d : Bool) → bytes_eq b a ≡ d → d ≡ false
-    other true h = absurd (true≢false (sym ((bytes_decides a b).1 (sym ((bytes_decides b a).0 h))) ∙ e))
-    other false h = refl
 
 -- ---- a type that isn't declared has no methods
 
@@ -85,10 +77,10 @@ module _ (ds : List Declaration) (path : List ℕ) (q : List ℕ) where
 
   put_at : (t : Named (List Sel)) (type : List ℕ) (ss : List Sel) (e : Bool) → bytes_eq type q ≡ e → items_at (with_value t type (items_at t type ++ ss)) q ≡ items_at t q ++ if_own e ss
   put_at t type ss true he =
-      ap (λ o. unwrap_or o []) (put_is q type (items_at t type ++ ss) t ∙ ap (λ b. cond b (Some (items_at t type ++ ss)) (value_at t q)) (turned type q true he))
+      ap (λ o. unwrap_or o []) (put_told t type (items_at t type ++ ss) q true he)
       ∙ ap (λ (k : List ℕ). items_at t k ++ ss) ((bytes_decides type q).0 he)
   put_at t type ss false he =
-      ap (λ o. unwrap_or o []) (put_is q type (items_at t type ++ ss) t ∙ ap (λ b. cond b (Some (items_at t type ++ ss)) (value_at t q)) (turned type q false he))
+      ap (λ o. unwrap_or o []) (put_told t type (items_at t type ++ ss) q false he)
       ∙ sym (append-nil (items_at t q))
 
   method_by_name : (t : Named (List Sel)) (type name : List ℕ) (b e : Bool) → is_blank name ≡ b → bytes_eq type q ≡ e

@@ -1,5 +1,5 @@
 -- What files import, where imports were added in turn.
-use Rattle.std.proofs.Common.{◌≡◌, ◌≢◌, ◌+◌, ◌<◌, nat_eq, ℕ, zero, suc, Bool, true, false, ◌||◌, cond, List, [], ◌∷◌, Option, None, Some, refl, sym, ap, ◌∙◌, subst, arith}
+use Rattle.std.proofs.Common.{◌≡◌, ◌+◌, ◌<◌, nat_eq, ℕ, zero, suc, Bool, true, false, ◌||◌, cond, List, [], ◌∷◌, Option, None, Some, refl, sym, ap, ◌∙◌, subst, arith}
 use mathlib.Core.Bool.{true≢false}
 use Rattle.std.specs.Prelude.{if◌then◌else◌, is_some, slice_get}
 use Rattle.std.specs.BTreeMap.{insert_entry}
@@ -12,15 +12,14 @@ use Rattle.std.specs.Str.{bytes_eq}
 use Rattle.std.specs.declared.cmp.Ordering.{Ordering}
 use Rattle.std.specs.declared.cmp.Ordering.TheVariants.{Less, Equal, Greater}
 use Rattle.std.proofs.lemmas.Bool.{eqb-true, eq-eqb}
-use Rattle.std.proofs.lemmas.Bool.Decides.{nat_tests}
 use Rattle.std.proofs.lemmas.Map.Lookups.{exact_unsigned}
 use Rattle.go_base.specs.Keys.{first_with}
-use Rattle.go_rules.proofs.NamedEntries.{put_is}
-use Rattle.go_rules.specs.Names.{Named, value_at, with_value}
+use Rattle.go_rules.specs.Names.{value_at, with_value}
 use Rattle.go_rules.specs.Scopes.{imports_in}
 use Rattle.go_typings.specs.Declarations.{is_init}
 use Rattle.go_typings.specs.PackageEnvironments.{path_in}
 use Rattle.go_typings.specs.Sources.{Import, SourceFile, import_name, imports_in as imports_of_file}
+use Rattle.go_new_scopes.proofs.Lookups.{none_or, or_none, or_or, put_told, some_or}
 use Rattle.go_new_scopes.specs.inner.FileImports.{Imports, imports_at, is_passed, with_files, with_import, with_imports}
 
 -- ---- look-ups by a number
@@ -52,14 +51,6 @@ module _ {A : Type 0} (q k : ℕ) (v : A) where
 
 -- ---- imports of a name
 
-or_none : {A : Type 0} (o : Option A) → o ≡ option_or o None
-or_none None = refl
-or_none (Some x) = refl
-
-or_or : {A : Type 0} (a b c : Option A) → option_or (option_or a b) c ≡ option_or a (option_or b c)
-or_or None b c = refl
-or_or (Some x) b c = refl
-
 module _ (q : ℕ) (name : List ℕ) where
   -- what the file imports under the name
   abbrev at : Imports → Option (List ℕ)
@@ -74,33 +65,12 @@ module _ (q : ℕ) (name : List ℕ) where
   abbrev put : ℕ → Imports → Import → Imports
   put file t i = insert_entry nat_cmp t file (with_value (imports_at t file) i.name i.path)
 
-  put_at : (file : ℕ) (t : Imports) (i : Import) (c e : Bool) → nat_eq q file ≡ c → bytes_eq name i.name ≡ e → at (put file t i) ≡ (if c then (if e then Some i.path else at t) else at t)
+  put_at : (file : ℕ) (t : Imports) (i : Import) (c e : Bool) → nat_eq q file ≡ c → bytes_eq i.name name ≡ e → at (put file t i) ≡ (if c then (if e then Some i.path else at t) else at t)
   put_at file t i true e h g =
       ap (λ o. value_at (imports_in o) name) (number_put q file (with_value (imports_at t file) i.name i.path) t ∙ ap (λ b. cond b (Some (with_value (imports_at t file) i.name i.path)) (lookup (nat_eq q) t)) h)
-      ∙ put_is name i.name i.path (imports_at t file)
-      ∙ ap (λ b. cond b (Some i.path) (value_at (imports_at t file) name)) g
+      ∙ put_told (imports_at t file) i.name i.path name e g
       ∙ ap (λ (k : ℕ). if e then Some i.path else value_at (imports_at t k) name) (sym (eqb-true q file h))
   put_at file t i false e h g = ap (λ o. value_at (imports_in o) name) (number_put q file (with_value (imports_at t file) i.name i.path) t ∙ ap (λ b. cond b (Some (with_value (imports_at t file) i.name i.path)) (lookup (nat_eq q) t)) h)
-
-  turned : (a b : List ℕ) (c : Bool) → bytes_eq a b ≡ c → bytes_eq b a ≡ c
-  turned a b true e = (bytes_decides b a).1 (sym ((bytes_decides a b).0 e))
-  turned a b false e = other (bytes_eq b a) refl
-    where
-      other : (d : Bool) → bytes_eq b a ≡ d → d ≡ false
-      other true h = absurd (true≢false (sym ((bytes_decides a b).1 (sym ((bytes_decides b a).0 h))) ∙ e))
-      other false h = refl
-
-  or_right : (a b : Bool) → b ≡ true → (a || b) ≡ true
-  or_right true b e = refl
-  or_right false b e = e
-
-  some_or : {A : Type 0} (o p : Option A) → is_some o ≡ true → o ≡ option_or o p
-  some_or None p e = absurd (true≢false (sym e))
-  some_or (Some x) p e = refl
-
-  none_or : {A : Type 0} (o p : Option A) → is_some o ≡ false → p ≡ option_or o p
-  none_or None p e = refl
-  none_or (Some x) p e = absurd (true≢false e)
 
   split_or : (a b : Bool) → (a || b) ≡ false → (a ≡ false) × (b ≡ false)
   split_or true b e = absurd (true≢false e)
@@ -127,10 +97,10 @@ module _ (q : ℕ) (name : List ℕ) where
     import_by true true e true hp hc he hn = or_none (at t)
     import_by true true false false hp hc he hn = or_none (at t)
     import_by true true true false hp hc he hn = some_or (at t) (Some i.path) (sym (there hc he) ∙ sym (ap (λ b. b || is_there) (same_init he ∙ hn)) ∙ hp)
-    import_by false false e n hp hc he hn = put_at file t i false (bytes_eq name i.name) hc refl ∙ or_none (at t)
-    import_by false true false n hp hc he hn = put_at file t i true false hc (turned i.name name false he) ∙ or_none (at t) ∙ ap (option_or (at t)) (sym (no_import n))
+    import_by false false e n hp hc he hn = put_at file t i false e hc he ∙ or_none (at t)
+    import_by false true false n hp hc he hn = put_at file t i true false hc he ∙ or_none (at t) ∙ ap (option_or (at t)) (sym (no_import n))
     import_by false true true true hp hc he hn = absurd (true≢false (sym hn ∙ sym (same_init he) ∙ (split_or (is_init i.name) is_there hp).0))
-    import_by false true true false hp hc he hn = put_at file t i true true hc (turned i.name name true he) ∙ none_or (at t) (Some i.path) (sym (there hc he) ∙ (split_or (is_init i.name) is_there hp).1)
+    import_by false true true false hp hc he hn = put_at file t i true true hc he ∙ none_or (at t) (Some i.path) (sym (there hc he) ∙ (split_or (is_init i.name) is_there hp).1)
 
     pub import_told : at (with_import file t i) ≡ option_or (at t) (if nat_eq q file then found (i ∷ []) else None)
     import_told = import_by (is_passed t file i.name) (nat_eq q file) (bytes_eq i.name name) (is_init name) refl refl refl refl

@@ -1,10 +1,9 @@
 -- The scopes that are made keep what is had of a package with no entry.
-use Rattle.std.proofs.Common.{◌≡◌, ℕ, Bool, List, [], map, Option, None, Some, refl, sym, ap, ◌∙◌, subst}
+use Rattle.std.proofs.Common.{◌≡◌, ℕ, List, [], Option, None, Some, refl, sym, ap, ◌∙◌, subst}
 use Rattle.go_declared.specs.MethodTables.{AreMethods}
 use Rattle.go_declared.specs.NameTables.{AreDeclared}
 use Rattle.go_declared.specs.declared.methods.MethodRow.{MethodRow}
 use Rattle.go_declared.specs.declared.names.NamePlace.{NamePlace}
-use Rattle.go_model.specs.worlds.Worlds.{Packages}
 use Rattle.go_package_scopes.specs.KeptScopes.{Keeps, Shows}
 use Rattle.go_rules.specs.Names.{Named}
 use Rattle.go_rules.specs.Scopes.{new_scopes, Scopes}

@@ -1,6 +1,5 @@
 -- Which names mean types, where the types of declarations were declared in turn.
-use Rattle.std.proofs.Common.{◌≡◌, ℕ, suc, Bool, true, false, ◌||◌, ◌&&◌, cond, List, [], ◌∷◌, Option, None, Some, refl, sym, ap, ◌∙◌, subst}
-use mathlib.Core.Bool.{true≢false}
+use Rattle.std.proofs.Common.{◌≡◌, ℕ, suc, Bool, true, false, ◌||◌, ◌&&◌, List, [], ◌∷◌, Option, None, Some, refl, sym, ap, ◌∙◌}
 use Rattle.std.specs.Prelude.{if◌then◌else◌, is_some}
 use Rattle.std.specs.Cmp.Lexicographic.{bytes_decides}
 use Rattle.std.specs.Option.{option_or}
@@ -8,50 +7,26 @@ use Rattle.std.specs.Str.{bytes_eq}
 use Rattle.go_declared.proofs.BaseTypes.{own_name}
 use Rattle.go_declared.specs.NameTables.{AreDeclared, is_first}
 use Rattle.go_declared.specs.declared.names.NamePlace.{NamePlace}
-use Rattle.go_rules.proofs.NamedEntries.{put_is}
 use Rattle.go_rules.specs.Names.{Named, value_at, with_value}
 use Rattle.go_rules.specs.declared.seen.Seen.{Seen}
 use Rattle.go_typings.specs.Declarations.{alias, constants, declared, Declaration, Declared, definition, Form, function, method, variables}
-use Rattle.go_typings.specs.PackageEnvironments.{as_object, Entries, entity_at}
+use Rattle.go_typings.specs.PackageEnvironments.{as_object, entity_at}
+use Rattle.go_new_scopes.proofs.Lookups.{none_or, or_none, or_or, put_told, some_or}
 use Rattle.go_new_scopes.proofs.OwnDeclarations.{is_definition, names_type, own_by, own_first, own_from}
 use Rattle.go_new_scopes.specs.inner.OwnTypes.{type_object, with_declarations, with_form, with_type}
-
-or_none : {A : Type 0} (o : Option A) → o ≡ option_or o None
-or_none None = refl
-or_none (Some x) = refl
-
-or_or : {A : Type 0} (a b c : Option A) → option_or (option_or a b) c ≡ option_or a (option_or b c)
-or_or None b c = refl
-or_or (Some x) b c = refl
-
-turned : (a b : List ℕ) (c : Bool) → bytes_eq a b ≡ c → bytes_eq b a ≡ c
-turned a b true e = (bytes_decides b a).1 (sym ((bytes_decides a b).0 e))
-turned a b false e = other (bytes_eq b a) refl
-  where
-    other : (d : Bool) → bytes_eq b a ≡ d → d ≡ false
-    other true h = absurd (true≢false (sym ((bytes_decides a b).1 (sym ((bytes_decides b a).0 h))) ∙ e))
-    other false h = refl
 
 module _ (path : List ℕ) (names : Named NamePlace) (q : List ℕ) where
   abbrev object_if : Bool → Option Seen
   object_if b = if b then Some (type_object path q) else None
 
-  some_or : (o : Option Seen) (p : Option Seen) → is_some o ≡ true → o ≡ option_or o p
-  some_or None p e = absurd (true≢false (sym e))
-  some_or (Some x) p e = refl
-
-  none_or : (o : Option Seen) (p : Option Seen) → is_some o ≡ false → p ≡ option_or o p
-  none_or None p e = refl
-  none_or (Some x) p e = absurd (true≢false e)
-
   type_by : (t : Named Seen) (n : List ℕ) (p e : Bool) → is_some (value_at t n) ≡ p → bytes_eq n q ≡ e → value_at (if p then t else with_value t n (type_object path n)) q ≡ option_or (value_at t q) (object_if e)
   type_by t n true true hp he = some_or (value_at t q) (object_if true) (ap (λ k. is_some (value_at t k)) (sym ((bytes_decides n q).0 he)) ∙ hp)
   type_by t n true false hp he = or_none (value_at t q)
   type_by t n false true hp he =
-      put_is q n (type_object path n) t ∙ ap (λ b. cond b (Some (type_object path n)) (value_at t q)) (turned n q true he)
+      put_told t n (type_object path n) q true he
       ∙ ap (λ (k : List ℕ). Some (type_object path k)) ((bytes_decides n q).0 he)
       ∙ none_or (value_at t q) (object_if true) (ap (λ k. is_some (value_at t k)) (sym ((bytes_decides n q).0 he)) ∙ hp)
-  type_by t n false false hp he = put_is q n (type_object path n) t ∙ ap (λ b. cond b (Some (type_object path n)) (value_at t q)) (turned n q false he) ∙ or_none (value_at t q)
+  type_by t n false false hp he = put_told t n (type_object path n) q false he ∙ or_none (value_at t q)
 
   type_told : (t : Named Seen) (n : List ℕ) → value_at (with_type path t n) q ≡ option_or (value_at t q) (object_if (bytes_eq n q))
   type_told t n = type_by t n (is_some (value_at t n)) (bytes_eq n q) refl refl

@@ -1,10 +1,11 @@
 -- What the declarations of a package and what is had of them tell.
 -- Own: words of the contracts.
-use Rattle.std.specs.Prelude.{◌≡◌, ◌≢◌, [], length}
+use Rattle.std.specs.Prelude.{◌≡◌, ◌≢◌, List, [], Option, length}
 use Rattle.go_declarations.specs.Listings.{declarations_of}
 use Rattle.go_declared.specs.MethodTables.{AreMethods}
 use Rattle.go_declared.specs.NameTables.{AreDeclared}
 use Rattle.go_declared.specs.NamesakeTables.{AreNamesakes}
+use Rattle.go_entries.specs.declared.entry.Entry.{Entry}
 use Rattle.go_had_entries.specs.HadEntries.{entries_at}
 use Rattle.go_package_entries.specs.declared.giver.PackageEntries.{PackageEntries}
 use Rattle.go_package_scopes.specs.KeptScopes.{Keeps}
@@ -23,7 +24,14 @@ setting_in p = setting_of p.env
 abbrev pub source_in : PackageEntries → PackageSource
 source_in p = source_of p.unit.now
 
--- the entries that are had
+-- its scopes
+abbrev pub scopes_in : PackageEntries → Scopes
+scopes_in p = p.env
+
+-- by the numbers of its declarations the entries that are had
+abbrev pub had_in : PackageEntries → List (Option Entry)
+had_in p = p.had
+
 abbrev pub entries_in : PackageEntries → Entries
 entries_in p = entries_at p.had
 

@@ -1,5 +1,5 @@
 //! All entries that the declarations of a package have.
-ghost use Rattle.std.specs.Prelude.{◌≡◌, ◌≢◌, [], IfOk};
+ghost use Rattle.std.specs.Prelude.{◌≡◌, ◌≢◌, [], length, IfOk};
 ghost use Rattle.go_declarations.specs.Listings.{declarations_of};
 ghost use Rattle.go_declared.specs.MethodTables.{AreMethods};
 ghost use Rattle.go_declared.specs.NameTables.{AreDeclared};
@@ -8,8 +8,8 @@ ghost use Rattle.go_package_scopes.specs.KeptScopes.{Keeps};
 ghost use Rattle.go_settling.specs.Settling.{no_entries};
 ghost use Rattle.go_soundness.specs.Settled.{AreAll};
 ghost use Rattle.go_sources.specs.UnitSources.{source_of};
-ghost use Rattle.go_typings.specs.Declarations.{declarations};
-ghost use Rattle.go_package_entries.specs.PackageStates.{IsKept, entries_in, setting_in, source_in};
+ghost use Rattle.go_typings.specs.Declarations.{declarations as declared_in};
+ghost use Rattle.go_package_entries.specs.PackageStates.{IsKept, entries_in, had_in, scopes_in, setting_in, source_in};
 ghost use Rattle.go_package_entries.specs.Settings.{setting_of};
 
 use crate::giver::PackageEntries;
@@ -36,13 +36,13 @@ fn nothing_of<'w, 'a>(
     methods: &'a DeclaredMethods,
 ) -> Result<PackageEntries<'w, 'a>, NoMemory>
     requires kept { Keeps (setting_of env) (source_of unit.now) no_entries env }
-    requires listed { declarations (source_of unit.now) ≡ declarations_of declarations.now }
+    requires listed { declared_in (source_of unit.now) ≡ declarations_of declarations.now }
     requires names { AreDeclared (declarations_of declarations.now) names.now }
     requires methods { AreMethods (declarations_of declarations.now) methods.now }
     requires pathed { unit.now.path ≢ [] }
     ensures kept { IfOk result IsKept }
     ensures none { IfOk result (λ p. entries_in p ≡ no_entries) }
-    ensures setting { IfOk result (λ p. setting_in p ≡ setting_of env) }
+    ensures setting { IfOk result (λ p. setting_in p ≡ setting_of env.entry) }
     ensures source { IfOk result (λ p. source_in p ≡ source_of unit.now) }
 {
     let namesakes = Namesakes::of(alloc, declarations, names)?;
@@ -75,14 +75,15 @@ pub fn entries<'w, 'a>(
     hints: &[u32],
 ) -> Result<PackageEntries<'w, 'a>, NoMemory>
     requires kept { Keeps (setting_of env) (source_of unit.now) no_entries env }
-    requires listed { declarations (source_of unit.now) ≡ declarations_of declarations.now }
+    requires listed { declared_in (source_of unit.now) ≡ declarations_of declarations.now }
     requires names { AreDeclared (declarations_of declarations.now) names.now }
     requires methods { AreMethods (declarations_of declarations.now) methods.now }
     requires pathed { unit.now.path ≢ [] }
-    ensures all { IfOk result (λ p. AreAll (setting_of env) (source_of unit.now) (entries_at p.had)) }
-    ensures kept { IfOk result (λ p. Keeps (setting_of env) (source_of unit.now) (entries_at p.had) p.env) }
-    ensures setting { IfOk result (λ p. setting_of p.env ≡ setting_of env) }
-    ensures source { IfOk result (λ p. source_of p.unit.now ≡ source_of unit.now) }
+    ensures all { IfOk result (λ p. AreAll (setting_of env.entry) (source_of unit.now) (entries_at (had_in p))) }
+    ensures count { IfOk result (λ p. length (had_in p) ≡ length declarations.now) }
+    ensures kept { IfOk result (λ p. Keeps (setting_of env.entry) (source_of unit.now) (entries_at (had_in p)) (scopes_in p)) }
+    ensures setting { IfOk result (λ p. setting_in p ≡ setting_of env.entry) }
+    ensures source { IfOk result (λ p. source_in p ≡ source_of unit.now) }
 {
     nothing_had();
     let mut entries = nothing_of(alloc, env, unit, declarations, names, methods)?;

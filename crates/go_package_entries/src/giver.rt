@@ -1,6 +1,6 @@
 //! The declarations of a package, each with its entry once it is settled.
-ghost use Rattle.std.specs.Prelude.{◌≡◌, ◌×◌};
-ghost use Rattle.go_package_entries.specs.PackageStates.{IsKept, entries_in, setting_in, source_in};
+ghost use Rattle.std.specs.Prelude.{◌≡◌};
+ghost use Rattle.go_package_entries.specs.PackageStates.{IsKept, entries_in, had_in, scopes_in, setting_in, source_in};
 
 use crate::giving::give;
 use crate::grown::Grown;
@@ -8,7 +8,6 @@ use crate::tables::Tables;
 use crate::takings::take;
 use go_base::memory::NoMemory;
 use go_had_entries::had::HadEntries;
-use go_package_scopes::laws::{kept_scopes, same_environment};
 use go_rules::env::Env;
 use go_settling::giver::Giver;
 use go_type_terms::error::ExprError;
@@ -39,8 +38,8 @@ impl Drop for PackageEntries<'_, '_> {
 impl<'w> PackageEntries<'w, '_> {
     /// The scopes, and the entries that are had.
     pub fn into_parts(self) -> (Env<'w>, HadEntries)
-        ensures env { result.0 ≡ self.env }
-        ensures had { result.1 ≡ self.had }
+        ensures scopes { result.0 ≡ scopes_in self.entry }
+        ensures had { result.1 ≡ had_in self.entry }
     {
         let PackageEntries {
             alloc: _,
@@ -67,14 +66,11 @@ impl Giver for PackageEntries<'_, '_> {
     }
 
     fn settle(&mut self, number: usize) -> Result<bool, NoMemory> {
-        same_environment();
-        kept_scopes();
         if self.had.get(number).is_some() {
             return Ok(false);
         }
         let declaration = self.tables.declarations[number];
-        let given = give(&mut self.env, self.alloc, &self.tables, &declaration);
-        match given {
+        match give(&mut self.env, self.alloc, &self.tables, &declaration) {
             Err(ExprError::Untyped) => Ok(false),
             Err(ExprError::NoMemory) => Err(NoMemory),
             Ok(entry) => {
@@ -83,9 +79,13 @@ impl Giver for PackageEntries<'_, '_> {
                     number,
                     entry: &entry,
                 };
-                if let Err(error) =
-                    take(&mut self.env, self.alloc, &self.tables, grown, &declaration)
-                {
+                if let Err(error) = take(
+                    &mut self.env,
+                    self.alloc,
+                    &self.tables,
+                    grown,
+                    &declaration,
+                ) {
                     return Err(error);
                 }
                 self.had.put(number, entry);

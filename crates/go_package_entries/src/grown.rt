@@ -30,7 +30,7 @@ fn signature_of(entry: Option<&Entry>) -> Option<&Signature>
 
 /// The signature of the declaration of a number, where it has one.
 pub(crate) fn signature_at<'b>(grown: Grown<'b>, number: usize) -> Option<&'b Signature>
-    ensures { item_of result ≡ signature_of (entries_of grown number) }
+    ensures { item_of result ≡ signature_of (entries_of grown.entry number) }
 {
     if number == grown.number {
         return signature_of(Some(grown.entry));
@@ -40,7 +40,7 @@ pub(crate) fn signature_at<'b>(grown: Grown<'b>, number: usize) -> Option<&'b Si
 
 /// Whether each of these methods is had.
 pub(crate) fn are_had(grown: Grown<'_>, rows: &[MethodRow]) -> bool
-    ensures { result ≡ are_had (entries_of grown) rows.now }
+    ensures { result ≡ are_had (entries_of grown.entry) rows.now }
 {
     for row in rows {
         if signature_at(grown, row.number).is_none() {

@@ -5,6 +5,7 @@ pub mod entries;
 pub mod giver;
 mod giving;
 mod grown;
+pub mod hints;
 mod methods;
 mod objects;
 pub mod tables;

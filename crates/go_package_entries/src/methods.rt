@@ -57,7 +57,7 @@ fn push_had(
     name: &[u8],
     row: MethodRow,
 ) -> Result<(), NoMemory>
-    ensures { OnOk result (shown.new ≡ shown.old ++ had_row (entries_of grown) env.now.path name.now row) }
+    ensures { OnOk result (shown.new ≡ shown.old ++ had_row (entries_of grown.entry) env.now.path name.now row) }
 {
     match signature_at(grown, row.number) {
         None => Ok(()),
@@ -75,7 +75,7 @@ fn push_shown(
     all: &[MethodRow],
     row: MethodRow,
 ) -> Result<(), NoMemory>
-    ensures { OnOk result (shown.new ≡ shown.old ++ shown_row (entries_of grown) env.now.path name.now all.now row) }
+    ensures { OnOk result (shown.new ≡ shown.old ++ shown_row (entries_of grown.entry) env.now.path name.now all.now row) }
 {
     if is_blank(name) || !are_had(grown, all) {
         return Ok(());
@@ -93,7 +93,7 @@ fn push_row(
     type_name: &[u8],
     row: MethodRow,
 ) -> Result<(), NoMemory>
-    ensures { OnOk result (shown.new ≡ shown.old ++ shown_row (entries_of grown) env.now.path (method_name (declarations_of tables.now.declarations.now) row.number) (rows_at tables.now.namesakes type_name.now (method_name (declarations_of tables.now.declarations.now) row.number)) row) }
+    ensures { OnOk result (shown.new ≡ shown.old ++ shown_row (entries_of grown.entry) env.now.path (method_name (declarations_of tables.now.declarations.now) row.number) (rows_at tables.now.namesakes type_name.now (method_name (declarations_of tables.now.declarations.now) row.number)) row) }
 {
     let name = method_name(tables.declarations, row.number);
     let all = tables.namesakes.of_name(type_name, name);
@@ -108,7 +108,7 @@ pub(crate) fn shown_methods(
     grown: Grown<'_>,
     type_name: &[u8],
 ) -> Result<List<MethodOf>, NoMemory>
-    ensures { IfOk result (λ ms. ms ≡ shown_of (entries_of grown) (declarations_of tables.now.declarations.now) env.now.path tables.now.namesakes type_name.now (items_at tables.now.methods.now type_name.now)) }
+    ensures { IfOk result (λ ms. ms ≡ shown_of (entries_of grown.entry) (declarations_of tables.now.declarations.now) env.now.path tables.now.namesakes type_name.now (items_at tables.now.methods.now type_name.now)) }
 {
     let mut shown = List::new(alloc);
     for row in tables.methods.of_type(type_name) {
@@ -126,7 +126,7 @@ fn add_row(
     name: &[u8],
     row: MethodRow,
 ) -> Result<(), NoMemory>
-    ensures ok { OnOk result (env.new ≡ with_each env.old type_name.now (had_row (entries_of grown) env.old.path name.now row)) }
+    ensures ok { OnOk result (env.new ≡ with_each env.old type_name.now (had_row (entries_of grown.entry) env.old.path name.now row)) }
     ensures same { setting_of env.new ≡ setting_of env.old }
 {
     match signature_at(grown, row.number) {
@@ -147,7 +147,7 @@ fn add_rows(
     name: &[u8],
     rows: &[MethodRow],
 ) -> Result<(), NoMemory>
-    ensures ok { OnOk result (env.new ≡ with_each env.old type_name.now (gather (had_row (entries_of grown) env.old.path name.now) rows.now)) }
+    ensures ok { OnOk result (env.new ≡ with_each env.old type_name.now (gather (had_row (entries_of grown.entry) env.old.path name.now) rows.now)) }
     ensures same { setting_of env.new ≡ setting_of env.old }
 {
     for row in rows {
@@ -165,7 +165,7 @@ fn add_shown(
     type_name: &[u8],
     name: &[u8],
 ) -> Result<(), NoMemory>
-    ensures ok { OnOk result (env.new ≡ with_shown (entries_of grown) tables.now.namesakes (Some type_name.now) name.now env.old) }
+    ensures ok { OnOk result (env.new ≡ with_shown (entries_of grown.entry) tables.now.namesakes (Some type_name.now) name.now env.old) }
     ensures same { setting_of env.new ≡ setting_of env.old }
 {
     if is_blank(name) {
@@ -188,7 +188,7 @@ pub(crate) fn take_method(
     func: &Func,
 ) -> Result<(), NoMemory>
     requires { AreDeclared (declarations_of tables.now.declarations.now) tables.now.names.now }
-    ensures ok { OnOk result (env.new ≡ with_shown (entries_of grown) tables.now.namesakes (base (declarations_of tables.now.declarations.now) receiver.now) func.now.name.text env.old) }
+    ensures ok { OnOk result (env.new ≡ with_shown (entries_of grown.entry) tables.now.namesakes (base (declarations_of tables.now.declarations.now) receiver.now) func.now.name.text env.old) }
     ensures same { setting_of env.new ≡ setting_of env.old }
 {
     match base(tables.declarations, tables.names, receiver) {

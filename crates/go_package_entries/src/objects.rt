@@ -1,5 +1,5 @@
 //! Objects of declarations, taken into the scope of their package.
-ghost use Rattle.std.specs.Prelude.{◌≡◌, [], OnOk};
+ghost use Rattle.std.specs.Prelude.{◌≡◌, [], OnOk, Some};
 ghost use Rattle.go_base.specs.Keys.{item_of};
 ghost use Rattle.go_declarations.specs.Forms.{form_of};
 ghost use Rattle.go_rules.specs.Names.{value_at};
@@ -19,7 +19,7 @@ use go_syntax::name::Name;
 use std::alloc::Global;
 
 fn is_at(found: Option<NamePlace>, number: usize, place: usize) -> bool
-    ensures { result ≡ is_at found.entry number place }
+    ensures { result ≡ is_at found number place }
 {
     match found {
         None => false,
@@ -44,14 +44,9 @@ fn object_at<'b>(
 }
 
 // Gives a name that has no meaning this one.
-fn declare(
-    env: &mut Env<'_>,
-    alloc: Global,
-    name: &Text,
-    object: &Entity,
-) -> Result<(), NoMemory>
+fn declare(env: &mut Env<'_>, alloc: Global, name: &Text, object: &Entity) -> Result<(), NoMemory>
     requires { env.old.opened ≡ [] }
-    ensures ok { OnOk result (env.new ≡ record env.old { declared = with_new env.old.declared name.now (as_object (item_of (Some object))) }) }
+    ensures ok { OnOk result (env.new ≡ record env.old { declared = with_new env.old.declared name.now (as_object (Some object.now)) }) }
     ensures same { setting_of env.new ≡ setting_of env.old }
 {
     let name = Text::of(alloc, name.bytes())?;
@@ -127,9 +122,7 @@ pub(crate) fn take_objects(
         Form::Variables(spec) => {
             declare_all(env, alloc, names, number, objects, spec.names.items())
         }
-        Form::Alias(spec) => {
-            declare_at(env, alloc, names, number, objects, 0, &spec.name.text)
-        }
+        Form::Alias(spec) => { declare_at(env, alloc, names, number, objects, 0, &spec.name.text) }
         Form::Definition(spec) => {
             declare_at(env, alloc, names, number, objects, 0, &spec.name.text)
         }

@@ -25,7 +25,6 @@ use go_declarations::form::Form;
 use go_declarations::listing::Declaration;
 use go_entries::entry::Entry;
 use go_model::types::term::Term;
-use go_package_scopes::laws::{kept_method, kept_objects, kept_type};
 use go_rules::env::Env;
 use std::alloc::Global;
 
@@ -38,7 +37,7 @@ fn take_underlying(
     form: &Form<'_>,
     term: &Term,
 ) -> Result<(), NoMemory>
-    ensures ok { OnOk result (env.new ≡ with_taken tables.now grown (form_of form.now) (underlying term.now) env.old) }
+    ensures ok { OnOk result (env.new ≡ with_taken tables.now grown.entry (form_of form.now) (underlying term.now) env.old) }
     ensures same { setting_of env.new ≡ setting_of env.old }
 {
     match form {
@@ -56,7 +55,7 @@ fn take_signed(
     form: &Form<'_>,
 ) -> Result<(), NoMemory>
     requires { AreDeclared (declarations_of tables.now.declarations.now) tables.now.names.now }
-    ensures ok { (g : Signature) → OnOk result (env.new ≡ with_taken tables.now grown (form_of form.now) (signed g) env.old) }
+    ensures ok { (g : Signature) → OnOk result (env.new ≡ with_taken tables.now grown.entry (form_of form.now) (signed g) env.old) }
     ensures same { setting_of env.new ≡ setting_of env.old }
 {
     match form {
@@ -75,7 +74,7 @@ fn take_entry(
 ) -> Result<(), NoMemory>
     requires names { AreDeclared (declarations_of tables.now.declarations.now) tables.now.names.now }
     requires opened { env.old.opened ≡ [] }
-    ensures ok { OnOk result (env.new ≡ with_taken tables.now grown (form_of form.now) (entry_of grown.entry.now) env.old) }
+    ensures ok { OnOk result (env.new ≡ with_taken tables.now grown.entry (form_of form.now) (entry_of grown.entry.entry.now) env.old) }
     ensures same { setting_of env.new ≡ setting_of env.old }
 {
     match grown.entry {
@@ -104,13 +103,10 @@ pub(crate) fn take(
     requires opened { env.old.opened ≡ [] }
     ensures kept { OnOk result ((s : Setting) (u : PackageSource)
         → declarations u ≡ declarations_of tables.now.declarations.now → AreMethods (declarations u) tables.now.methods.now → AreNamesakes (declarations u) tables.now.namesakes
-        → Keeps s u (entries_at grown.had.now) env.old → entries_at grown.had.now grown.number ≡ None
-        → slice_get (declarations u) grown.number ≡ Some (declaration_of declaration.now) → Fits (form_of declaration.now.form) (entry_of grown.entry.now)
-        → Keeps s u (entries_of grown) env.new) }
+        → Keeps s u (entries_at grown.entry.had.now) env.old → entries_at grown.entry.had.now grown.entry.number ≡ None
+        → slice_get (declarations u) grown.entry.number ≡ Some (declaration_of declaration.now) → Fits (form_of declaration.now.form) (entry_of grown.entry.entry.now)
+        → Keeps s u (entries_of grown.entry) env.new) }
     ensures same { setting_of env.new ≡ setting_of env.old }
 {
-    kept_objects();
-    kept_type();
-    kept_method();
     take_entry(env, alloc, tables, grown, &declaration.form)
 }

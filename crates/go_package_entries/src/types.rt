@@ -18,7 +18,7 @@ use go_rules::env::Env;
 use std::alloc::Global;
 
 fn is_of(found: Option<NamePlace>, number: usize) -> bool
-    ensures { result ≡ is_of found.entry number }
+    ensures { result ≡ is_of found number }
 {
     match found {
         None => false,
@@ -35,7 +35,7 @@ fn defined(
     name: &Text,
     underlying: &Term,
 ) -> Result<Defined, NoMemory>
-    ensures { IfOk result (λ d. d ≡ record { name = name.now; underlying = underlying.now; methods = shown_of (entries_of grown) (declarations_of tables.now.declarations.now) env.now.path tables.now.namesakes name.now (items_at tables.now.methods.now name.now) }) }
+    ensures { IfOk result (λ d. d ≡ record { name = name.now; underlying = underlying.now; methods = shown_of (entries_of grown.entry) (declarations_of tables.now.declarations.now) env.now.path tables.now.namesakes name.now (items_at tables.now.methods.now name.now) }) }
 {
     Ok(Defined {
         name: Text::of(alloc, name.bytes())?,
@@ -53,7 +53,7 @@ pub(crate) fn take_type(
     name: &Text,
     underlying: &Term,
 ) -> Result<(), NoMemory>
-    ensures ok { OnOk result (env.new ≡ with_type env.old (is_of (value_at tables.now.names.now name.now) grown.number) name.now underlying.now (shown_of (entries_of grown) (declarations_of tables.now.declarations.now) env.old.path tables.now.namesakes name.now (items_at tables.now.methods.now name.now))) }
+    ensures ok { OnOk result (env.new ≡ with_type env.old (is_of (value_at tables.now.names.now name.now) grown.entry.number) name.now underlying.now (shown_of (entries_of grown.entry) (declarations_of tables.now.declarations.now) env.old.path tables.now.namesakes name.now (items_at tables.now.methods.now name.now))) }
     ensures same { setting_of env.new ≡ setting_of env.old }
 {
     if !is_of(tables.names.get(name.bytes()), grown.number) {

@@ -1,15 +1,43 @@
 -- The defined types of names in order are found by the names.
-use Rattle.std.proofs.Common.{◌≡◌, ℕ, Bool, true, false, List, [], ◌∷◌, map, Option, Some, None, refl, sym, ap, ◌∙◌, subst, inl, inr}
+use Rattle.std.proofs.Common.{◌≡◌, ◌+◌, ◌<◌, ◌≤◌, ℕ, Bool, true, false, List, [], ◌∷◌, ◌++◌, append_assoc, append-nil, add-one, drop, drop-cons, get_or, length, map, Option, Some, None, refl, sym, ap, ◌∙◌, subst, inl, inr}
 use mathlib.Core.Bool.{true≢false}
 use Rattle.std.specs.Prelude.{if◌then◌else◌}
 use Rattle.std.specs.Cmp.Lexicographic.{bytes_decides}
 use Rattle.std.specs.Str.{bytes_eq}
+use denote.Ref.{Bor}
+use Rattle.go_base.proofs.Lists.{drop_past}
 use Rattle.go_base.specs.Keys.{first_with}
 use Rattle.go_base.specs.Lists.{Ascending, Before, Each, Has}
+use Rattle.go_declared.specs.NameTables.{texts_of}
 use Rattle.go_model.specs.declared.types.package.Defined.{Defined}
 use Rattle.go_model.specs.worlds.Worlds.{name_of}
 use Rattle.go_typings.specs.TypedPackages.{AreOrdered, IsOrdered}
-use Rattle.go_packages.specs.inner.DefinedTypes.{AreDefined, IsSorted, defined_none, defined_without, defined_more}
+use Rattle.go_packages.specs.inner.DefinedTypes.{Adds, AreDefined, IsSorted, defined_none, defined_without, defined_more}
+
+-- ---- in turn
+
+module _ (own : List ℕ → Option Defined) where
+  abbrev Goes : List (List ℕ) → List (List ℕ) → List Defined → Type 0
+  Goes all rest ds = (more : List Defined) → AreDefined own rest more → AreDefined own all (ds ++ more)
+
+  -- one name more
+  next_name : (all rest : List (List ℕ)) (n : List ℕ) (old new : List Defined) (o : Option Defined) → own n ≡ o → Adds o old new → Goes all (n ∷ rest) old → Goes all rest new
+  next_name all rest n old new None e a before more k = subst (λ (ds : List Defined). AreDefined own all (ds ++ more)) (sym a) (before more (defined_without e k))
+  next_name all rest n old new (Some had) e (d, s, a) before more k =
+      subst (AreDefined own all) (sym (ap (λ ds. ds ++ more) a ∙ append_assoc old (d ∷ []) more)) (before (d ∷ more) (defined_more e s k))
+
+  pub defined_next : (listed : List (Bor (List ℕ))) (at : ℕ) (d : Bor (List ℕ)) (old new : List Defined) → at < length listed → Adds (own (get_or listed at d).now) old new
+      → Goes (texts_of listed) (texts_of (drop at listed)) old → Goes (texts_of listed) (texts_of (drop (at + 1) listed)) new
+  defined_next listed at d old new within a before =
+      let x = get_or listed at d in
+      let split : drop at listed ≡ x ∷ drop (at + 1) listed = drop-cons listed at d within ∙ ap (λ k. x ∷ drop k listed) (sym (add-one at)) in
+      next_name (texts_of listed) (texts_of (drop (at + 1) listed)) x.now old new (own x.now) refl a (subst (λ (xs : List (Bor (List ℕ))). Goes (texts_of listed) (texts_of xs) old) split before)
+
+  pub defined_whole : (listed : List (Bor (List ℕ))) (at : ℕ) (ds : List Defined) → length listed ≤ at → Goes (texts_of listed) (texts_of (drop at listed)) ds → AreDefined own (texts_of listed) ds
+  defined_whole listed at ds within before =
+      subst (AreDefined own (texts_of listed)) (append-nil ds) (before [] (subst (λ (xs : List (Bor (List ℕ))). AreDefined own (texts_of xs) []) (sym (drop_past at listed within)) defined_none))
+
+-- ---- all
 
 module _ (own : List ℕ → Option Defined) (named : (n : List ℕ) (d : Defined) → own n ≡ Some d → d.name ≡ n) where
   -- ---- order

@@ -1,5 +1,5 @@
 -- In a typing no two methods of a type that a selector can find have one selector.
-use Rattle.std.proofs.Common.{◌≡◌, ◌≤◌, ◌<◌, ◌+◌, ℕ, zero, suc, Bool, true, false, not, ◌⊎◌, cond, List, [], ◌∷◌, ◌++◌, Option, Some, None, length, refl, sym, ap, ◌∙◌, subst, inl, inr, arith}
+use Rattle.std.proofs.Common.{◌≡◌, ◌≤◌, ◌+◌, ℕ, suc, Bool, true, false, not, cond, List, [], ◌∷◌, ◌++◌, Option, Some, None, length, refl, sym, ap, ◌∙◌, subst, inl, inr, arith}
 use mathlib.Core.Bool.{true≢false}
 use Rattle.std.specs.Prelude.{filter, if◌then◌else◌, slice_get}
 use Rattle.std.specs.Cmp.Lexicographic.{bytes_decides}
@@ -83,9 +83,10 @@ rises_filtered k (m ∷ ms) h = by (is_selectable m) (rises_filtered (suc m.numb
 
 apart : (k : ℕ) (ms : List DeclaredMethod) → Rises k ms → ((m n : DeclaredMethod) → Has ms m → Has ms n → m.sel ≡ n.sel → m.number ≡ n.number) → AreApart ms
 apart k [] h once = tt
-apart k (m ∷ ms) h once =
-    (λ n i e. (let l = rises_each (suc m.number) ms n h.1 i in let j = once m n (inl refl) (inr i) e in omega (arith, l, j)),
-     apart (suc m.number) ms h.1 (λ x y i j. once x y (inr i) (inr j)))
+apart k (m ∷ ms) h once = (
+  λ n i e. (let l = rises_each (suc m.number) ms n h.1 i in let j = once m n (inl refl) (inr i) e in omega (arith, l, j)),
+  apart (suc m.number) ms h.1 (λ x y i j. once x y (inr i) (inr j)),
+)
 
 module _ (u : PackageSource) (type : List ℕ) where
   rises_by : (k : ℕ) (f : Form) (rest : List DeclaredMethod) → Rises (suc k) rest → Rises k (method_by u type k f ++ rest)
@@ -131,14 +132,17 @@ module _ (u : PackageSource) (type : List ℕ) where
   declared_by k (definition s) m h = absurd h
   declared_by k (function f) m h = absurd h
 
+  moved : (j k : ℕ) (f : Form) (m : DeclaredMethod) → j ≡ k → Declares j f m → Declares k f m
+  moved j k f m e h = subst (λ (n : ℕ). Declares n f m) e h
+
   abbrev StandsIn : ℕ → List Declaration → DeclaredMethod → Type 0
   StandsIn k ds m = (place : ℕ) × (d : Declaration) × (slice_get ds place ≡ Some d) × Declares (k + place) d.form m
 
   stands_in : (k : ℕ) (ds : List Declaration) (m : DeclaredMethod) → Has (methods_from u type k ds) m → StandsIn k ds m
   stands_in k [] m h = absurd h
   stands_in k (d ∷ ds) m h = elim (has_split (method_by u type k d.form) (methods_from u type (suc k) ds) m h) [
-    | inl i ↦ (0, d, refl, subst (λ (n : ℕ). Declares n d.form m) (let e : k ≡ k + 0 = omega arith in e) (declared_by k d.form m i))
-    | inr i ↦ (let r = stands_in (suc k) ds m i in (suc r.0, r.1, r.2, subst (λ (n : ℕ). Declares n r.1.form m) (let e : suc k + r.0 ≡ k + suc r.0 = omega arith in e) r.3))
+    | inl i ↦ (0, d, refl, moved k (k + 0) d.form m (omega arith) (declared_by k d.form m i))
+    | inr i ↦ (let r = stands_in (suc k) ds m i in (suc r.0, r.1, r.2, moved (suc k + r.0) (k + suc r.0) r.1.form m (omega arith) r.3))
   ]
 
   filtered_has : (ms : List DeclaredMethod) (m : DeclaredMethod) → Has (filter is_selectable ms) m → Has ms m × (is_selectable m ≡ true)
@@ -170,8 +174,8 @@ module _ (u : PackageSource) (type : List ℕ) where
     once m n h k e =
         let f = filtered_has (methods_from u type 0 (declarations u)) m h in
         let r = stands_in 0 (declarations u) m f.0 in
-        let number : m.number ≡ r.0 = r.3.at in
-        let only = only_at m r.1 f.1 (ap (slice_get (declarations u)) number ∙ r.2) (subst (λ (x : ℕ). Declares x r.1.form m) (sym number) r.3) in
+        let number : m.number ≡ r.0 = r.3.at ∙ (let e : 0 + r.0 ≡ r.0 = omega arith in e) in
+        let only = only_at m r.1 f.1 (ap (slice_get (declarations u)) number ∙ r.2) (moved (0 + r.0) m.number r.1.form m (sym r.3.at) r.3) in
         sym (only n k (ap (λ (x : Sel). x.name) (sym e)))
 
     -- the methods of the type that are had have different selectors

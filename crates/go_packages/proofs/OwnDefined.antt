@@ -32,3 +32,10 @@ module _ (u : PackageSource) (a : Entries) (name : List ℕ) where
 
   pub own_parts : (d : Defined) → own_defined u a name ≡ Some d → (d.name ≡ name) × (d.methods ≡ had_methods u a name)
   own_parts d e = by_term (had_methods u a name) (underneath a (declared (declarations u) name)) d (sym (by_underneath (declared (declarations u) name)) ∙ e)
+
+  -- the defined type of a name under which there is a type
+  pub own_there : (ds : List Declaration) (t : Term) → ds ≡ declarations u → Some t ≡ underneath a (declared ds name) → own_defined u a name ≡ Some (record { name = name; underlying = t; methods = had_methods u a name })
+  own_there ds t e h =
+      by_underneath (declared (declarations u) name)
+      ∙ ap (λ (xs : List Declaration). defined_with name (had_methods u a name) (underneath a (declared xs name))) (sym e)
+      ∙ ap (defined_with name (had_methods u a name)) (sym h)

@@ -1,5 +1,5 @@
 -- The package of entries that are a typing.
-use Rattle.std.proofs.Common.{◌≡◌, ℕ, Bool, true, false, cond, List, [], ◌∷◌, map, Option, Some, None, refl, sym, ap, ◌∙◌, subst, inl, inr}
+use Rattle.std.proofs.Common.{◌≡◌, ℕ, Bool, true, false, cond, List, [], ◌∷◌, map, Some, None, refl, sym, ap, ◌∙◌, subst, inl, inr}
 use Rattle.std.specs.List.{IsDistinct}
 use Rattle.std.specs.Map.{lookup}
 use Rattle.std.specs.Cmp.Lexicographic.{bytes_decides}
@@ -11,11 +11,10 @@ use Rattle.go_declared.specs.NameTables.{AreDeclared, names_in}
 use Rattle.go_declared.specs.declared.names.NamePlace.{NamePlace}
 use Rattle.go_model.specs.declared.types.package.Defined.{Defined}
 use Rattle.go_model.specs.declared.types.package.Object.{Object}
-use Rattle.go_model.specs.declared.types.package.Package.{Package}
 use Rattle.go_model.specs.worlds.Worlds.{object_name}
 use Rattle.go_rules.specs.Names.{Named, value_at}
 use Rattle.go_rules.specs.Scopes.{entity_of}
-use Rattle.go_typings.specs.Declarations.{declarations, declared, Declaration}
+use Rattle.go_typings.specs.Declarations.{declarations, declared}
 use Rattle.go_typings.specs.PackageEnvironments.{Entries, defined_at, entity_at, own_defined, own_entity}
 use Rattle.go_typings.specs.Sources.{PackageSource, Setting}
 use Rattle.go_typings.specs.TypedPackages.{IsOrdered, IsPackageOf}
@@ -49,11 +48,11 @@ module _ (s : Setting) (u : PackageSource) (a : Entries) (t : IsTyping s u a) (n
   undeclared : (name : List ℕ) → (Has (names_in names) name → ⊥) → declared (declarations u) name ≡ None
   undeclared name h = not_declared (declarations u) names name declares (absent names name h)
 
-  pub package_of : (os : List Object) (ds : List Defined) → os ≡ objects_named (denoted u.path a (declarations u)) (names_in names) → AreDefined (own_defined u a) (names_in names) ds
-      → IsPackageOf u a (record { path = u.path; name = u.name; from_std = u.from_std; objects = os; defined = ds })
-  package_of os ds e k = record {
-    path = refl;
-    name = refl;
+  pub package_of : (path name : List ℕ) (os : List Object) (ds : List Defined) → path ≡ u.path → name ≡ u.name → os ≡ objects_named (denoted u.path a (declarations u)) (names_in names) → AreDefined (own_defined u a) (names_in names) ds
+      → IsPackageOf u a (record { path = path; name = name; from_std = u.from_std; objects = os; defined = ds })
+  package_of path name os ds p n e k = record {
+    path = p;
+    name = n;
     from_std = refl;
     objects_ordered = subst (λ (xs : List Object). Ascending (map object_name xs)) (sym e) (objects_ascend (own_entity u a) (names_in names) rising);
     objects = λ name. ap (λ (xs : List Object). entity_of (first_with object_name xs name)) e ∙ object_found (own_entity u a) name (names_in names) (λ h. ap (entity_at u.path a) (undeclared name h));

@@ -1,5 +1,5 @@
 -- Methods that were sorted by their selectors.
-use Rattle.std.proofs.Common.{◌≡◌, ◌↔◌, ◌+◌, ◌<◌, ◌≤◌, ℕ, zero, suc, Bool, true, false, List, [], ◌∷◌, length, map, get_or, refl, sym, ap, ◌∙◌, inl, inr, arith}
+use Rattle.std.proofs.Common.{◌≡◌, ◌↔◌, ◌+◌, ◌<◌, ℕ, zero, suc, Bool, true, false, List, [], ◌∷◌, length, map, get_or, refl, sym, ap, ◌∙◌, subst, inl, inr, arith}
 use mathlib.Core.Bool.{true≢false}
 use Rattle.std.specs.Cmp.{IsStrictWeakOrder, IsTotalOrder}
 use Rattle.std.specs.Cmp.Lexicographic.{on_texts, slice_cmp}
@@ -62,7 +62,8 @@ less_of a b h k = by (sel_order a b) (ap is_lt (sym (sels_total.antisymm b a)) �
     by Greater i j = absurd (true≢false i)
 
 rest_sorted : (m : MethodOf) (ms : List MethodOf) → IsSortedBy comes_first (m ∷ ms) → IsSortedBy comes_first ms
-rest_sorted m ms up k d low high = up (suc k) d (omega arith) (omega (arith, high))
+rest_sorted m ms up k d low high =
+    subst (λ (n : ℕ). comes_first (get_or (m ∷ ms) n d) (get_or ms k d) ≡ false) (let e : suc k + 1 ≡ suc (k + 1) = omega arith in e) (up (suc k) d (omega arith) (omega (arith, high)))
 
 all_after : (m : MethodOf) (ms : List MethodOf) → ((k : ℕ) (d : MethodOf) → k < length ms → comes_first (get_or ms k d) m ≡ false) → AllByRecursion (λ n. is_same m n ≡ false) ms → AllByRecursion (λ s. sel_order m.sel s ≡ Less) (map declared_sel ms)
 all_after m [] h a = tt
@@ -71,9 +72,10 @@ all_after m (n ∷ ms) h a = (less_of m.sel n.sel (h 0 n (omega arith)) a.0, all
 strictly_sorted : (ms : List MethodOf) → IsSortedBy comes_first ms → IsDistinct is_same ms → IsStrictlySortedBy sel_order (map declared_sel ms)
 unfolding IsStrictlySortedBy
 strictly_sorted [] up apart = tt
-strictly_sorted (m ∷ ms) up apart =
-    (all_after m ms (λ k d h. sorted_far comes_first by_selector (m ∷ ms) up 0 (suc k) d (omega arith) (omega (arith, h))) (IsDistinct-head is_same m ms apart),
-     strictly_sorted ms (rest_sorted m ms up) (IsDistinct-tail is_same m ms apart))
+strictly_sorted (m ∷ ms) up apart = (
+  all_after m ms (λ k d h. sorted_far comes_first by_selector (m ∷ ms) up 0 (suc k) d (omega arith) (omega (arith, h))) (IsDistinct-head is_same m ms apart),
+  strictly_sorted ms (rest_sorted m ms up) (IsDistinct-tail is_same m ms apart),
+)
 
 -- methods of different selectors that were sorted are in order
 pub in_order : (had ms : List MethodOf) → AreSorted had ms → IsDistinct is_same had → IsStrictlySortedBy sel_order (map declared_sel ms)

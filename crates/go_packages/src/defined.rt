@@ -118,7 +118,16 @@ pub(crate) fn defined_types(
 {
     let mut types = List::new(alloc);
     for name in listed {
-        push_defined(&mut types, alloc, unit, declarations, names, methods, name, had)?;
+        push_defined(
+            &mut types,
+            alloc,
+            unit,
+            declarations,
+            names,
+            methods,
+            name,
+            had,
+        )?;
     }
     Ok(types)
 }

@@ -139,7 +139,8 @@ fn methods_of(
     requires methods { AreMethods (declarations_of declarations.now) methods.now }
     ensures { IfOk result (λ ms. ms ≡ had_methods (source_of unit.now) (entries_at had.now) name.now) }
 {
-    methods_by(alloc, &unit.path, declarations, methods.of_type(name), had)
+    let listed = methods_by(alloc, &unit.path, declarations, methods.of_type(name), had)?;
+    Ok(listed)
 }
 
 // The methods in the order of their selectors.

@@ -39,14 +39,7 @@ pub fn package(
     ensures { (s : Setting) → IsTyping s (source_of unit.now) (entries_at had.now) → IfOk result (IsPackageOf (source_of unit.now) (entries_at had.now)) }
 {
     let listed = names.in_order(alloc)?;
-    let objects = objects(
-        alloc,
-        &unit.path,
-        declarations,
-        names,
-        listed.items(),
-        had,
-    )?;
+    let objects = objects(alloc, &unit.path, declarations, names, listed.items(), had)?;
     let defined = defined_types(
         alloc,
         unit,

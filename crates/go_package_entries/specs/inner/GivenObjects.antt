@@ -1,6 +1,6 @@
 -- The objects that names of a declaration are given in the scope of their package.
 -- Own: words of the contracts inside this crate.
-use Rattle.std.specs.Prelude.{ℕ, suc, Bool, true, false, ◌&&◌, if◌then◌else◌, nat_eq, List, [], ◌∷◌, Option, None, Some, is_some, slice_get}
+use Rattle.std.specs.Prelude.{ℕ, suc, Bool, false, ◌&&◌, if◌then◌else◌, nat_eq, List, [], ◌∷◌, Option, None, Some, is_some, slice_get}
 use Rattle.go_declared.specs.declared.names.NamePlace.{NamePlace}
 use Rattle.go_model.specs.declared.types.package.Entity.{Entity}
 use Rattle.go_rules.specs.Names.{Named, value_at, with_value}

@@ -1,6 +1,6 @@
 -- The methods that types show: those of a name once all of them are had.
 -- Own: words of the contracts inside this crate.
-use Rattle.std.specs.Prelude.{ℕ, Bool, true, false, ◌&&◌, ◌||◌, not, if◌then◌else◌, List, [], ◌∷◌, map, Option, None, Some, is_some}
+use Rattle.std.specs.Prelude.{ℕ, Bool, true, ◌&&◌, ◌||◌, not, if◌then◌else◌, List, [], ◌∷◌, is_some}
 use Rattle.go_base.specs.Gathered.{gather}
 use Rattle.go_declared.specs.MethodTables.{method_name}
 use Rattle.go_declared.specs.NamesakeTables.{rows_at}

@@ -1,6 +1,6 @@
 -- How scopes change as the entry of a declaration is taken.
 -- Own: words of the contracts inside this crate.
-use Rattle.std.specs.Prelude.{◌≡◌, ℕ, Bool, false, if◌then◌else◌, nat_eq, List, Option, None, Some, ⊥}
+use Rattle.std.specs.Prelude.{ℕ, Bool, false, if◌then◌else◌, nat_eq, List, Option, None, Some}
 use Rattle.go_declarations.specs.Listings.{declarations_of}
 use Rattle.go_declared.specs.NamesakeTables.{rows_at}
 use Rattle.go_declared.specs.declared.methods.MethodRow.{MethodRow}
@@ -15,7 +15,7 @@ use Rattle.go_package_scopes.specs.KeptScopes.{with_entry}
 use Rattle.go_rules.specs.Expressions.{is_blank}
 use Rattle.go_rules.specs.Names.{Named, items_at, value_at}
 use Rattle.go_rules.specs.Scopes.{Scopes, with_defined}
-use Rattle.go_typings.specs.Declarations.{Form, constants, variables, alias, definition, function, method, names_of}
+use Rattle.go_typings.specs.Declarations.{Form, definition, method, names_of}
 use Rattle.go_typings.specs.PackageEnvironments.{Entries, Entry, objects, signed, underlying}
 use Rattle.go_typings.specs.Receivers.{base}
 use Rattle.go_package_entries.specs.inner.GivenObjects.{with_objects}

@@ -2,7 +2,6 @@
 -- Own: words of the contracts inside this crate.
 use Rattle.std.specs.Prelude.{◌≡◌, ℕ, List, [], ◌∷◌, ◌++◌, Option, None, Some}
 use Rattle.go_model.specs.declared.types.package.Defined.{Defined}
-use Rattle.go_model.specs.declared.types.package.MethodOf.{MethodOf}
 use Rattle.go_model.specs.declared.types.term.Term.{Term}
 use Rattle.go_packages.specs.inner.HadMethods.{AreSorted}
 use Rattle.go_typings.specs.Declarations.{Declared, Form, definition}

@@ -1,0 +1,3 @@
+pub mod MetAsks
+pub mod SharedNames
+pub mod ToldBases

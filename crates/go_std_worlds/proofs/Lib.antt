@@ -1,0 +1,10 @@
+pub mod GivenTwice
+pub mod MoreLists
+pub mod OwnPaths
+pub mod SameFiles
+pub mod SameFolders
+pub mod SameStdWorlds
+pub mod SameUnits
+pub mod StdWorlds
+pub mod TwoModules
+pub mod TypedNames

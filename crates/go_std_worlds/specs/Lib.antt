@@ -1,0 +1,2 @@
+pub mod StdSources
+pub mod TwoModules
