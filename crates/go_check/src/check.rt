@@ -50,7 +50,7 @@ fn check_declarations(
     let declarations = declarations_in(alloc, unit)?;
     let names = DeclaredNames::of(alloc, declarations.items())?;
     let methods = DeclaredMethods::of(alloc, declarations.items(), &names)?;
-    let hints = hints(alloc, declarations.items(), &names, &methods)?;
+    let hints = hints(alloc, declarations.items(), &names)?;
     let env = new_scopes(
         alloc,
         imports,
@@ -68,7 +68,7 @@ fn check_declarations(
         declarations.items(),
         &names,
         &methods,
-        hints.items(),
+        &hints,
     )?;
     let (mut env, had) = settled.into_parts();
     let lost = lost(

@@ -1,5 +1,5 @@
 //! The answer to a case.
-ghost use Rattle.std.specs.Prelude.{OnOk};
+ghost use Rattle.std.specs.Prelude.{◌≢◌, [], OnOk};
 ghost use Rattle.go_base.specs.Lists.{Has};
 ghost use Rattle.go_model.specs.files.Trees.{IsTree};
 
@@ -13,6 +13,7 @@ use go_load::load::{load_module, load_std};
 use go_model::files::platform::Platform;
 use go_model::files::tree::Tree;
 use go_outside::memory_files::{FilePair, MemoryFiles};
+use go_reading::laws::unit_paths;
 use go_reading::units::units;
 use go_units::unit_error::UnitError;
 use go_units::unit_list::Units;
@@ -26,15 +27,15 @@ fn bar(alloc: Global, barred: &mut List<Text>, path: &[u8]) -> Result<(), NoMemo
     Ok(())
 }
 
-fn shown(
-    alloc: Global,
-    answer: Result<Units, UnitError>,
-) -> Result<Vec<u8>, AllocError> {
+fn listed(alloc: Global, units: &Units) -> Result<Vec<u8>, AllocError> {
     let mut text = Vec::new(alloc);
-    match answer {
-        Ok(units) => add_units(alloc, &mut text, &units)?,
-        Err(error) => add_error(alloc, &mut text, &error)?,
-    }
+    add_units(alloc, &mut text, units)?;
+    Ok(text)
+}
+
+fn refused(alloc: Global, error: &UnitError) -> Result<Vec<u8>, AllocError> {
+    let mut text = Vec::new(alloc);
+    add_error(alloc, &mut text, error)?;
     Ok(text)
 }
 
@@ -52,14 +53,18 @@ fn of_trees(
 ) -> Result<Vec<u8>, AllocError>
     requires tree { IsTree tree.now }
     requires std { IsTree std_tree.now }
+    requires module_path { tree.now.module ≢ [] }
 {
+    unit_paths();
     if let Err(_) = bar(alloc, &mut barred, tree.module.bytes()) {
         return Err(AllocError);
     }
-    let answer = units(alloc, tree, std_tree, barred.items(), platform);
-    match (question, answer) {
-        (Question::Features, Ok(units)) => features(alloc, platform, &units),
-        (_, answer) => shown(alloc, answer),
+    match units(alloc, tree, std_tree, barred.items(), platform) {
+        Err(error) => refused(alloc, &error),
+        Ok(units) => match question {
+            Question::Units => listed(alloc, &units),
+            Question::Features => features(alloc, platform, &units),
+        },
     }
 }
 
@@ -78,6 +83,9 @@ fn of_store(
         Err(_) => return said(alloc, "no standard library"),
         Ok(tree) => tree,
     };
+    if tree.module.bytes().is_empty() {
+        return said(alloc, "no module");
+    }
     of_trees(alloc, question, platform, &tree, &std_tree, barred)
 }
 
