@@ -102,9 +102,10 @@ module _ (u : PackageSource) (names : Named NamePlace) (methods : Named (List Me
     right : (b : Base) → told_at told n ≡ Some b → TellsReceiver u n receiver f (Some b)
     right b e =
         let w = all.sound n b e in
-        let m = row_declares u methods rows b.name.now n d w.row at in
-        (ap (base (declarations u)) (same_receiver m.receiver m.func (sym form ∙ m.form)) ∙ m.of,
-        only_decided u methods rows b.name.now n w.row.0 w.row.1 w.row.2 f.name.text named b.is_only (subst (λ (k : List ℕ). Decides (IsAlone (StandsTwice (row_names (declarations u) (items_at methods b.name.now))) k) b.is_only) named w.only))
+        let m = row_declares u methods rows b.name.now n d w.row at in (
+          ap (base (declarations u)) (same_receiver m.receiver m.func (sym form ∙ m.form)) ∙ m.of,
+          only_decided u methods rows b.name.now n w.row.0 w.row.1 w.row.2 f.name.text named b.is_only (subst (λ (k : List ℕ). Decides (IsAlone (StandsTwice (row_names (declarations u) (items_at methods b.name.now))) k) b.is_only) named w.only),
+        )
 
     -- a method that has a base type is told of
     has_told : (type : List ℕ) → base (declarations u) receiver ≡ Some type → is_some (told_at told n) ≡ true
@@ -112,7 +113,7 @@ module _ (u : PackageSource) (names : Named NamePlace) (methods : Named (List Me
         let k = base_defined (declarations u) type receiver e in
         let s = stands (declarations u) type k.declaration k.is in
         let first : is_first names k.declaration.number k.spec.name.text ≡ true =
-          ap (λ (q : List ℕ). is_first names k.declaration.number q) k.name ∙ ap (is_in k.declaration.number) (are type ∙ ap place_of k.is) ∙ eq-eqb k.declaration.number k.declaration.number refl in
+        ap (λ (q : List ℕ). is_first names k.declaration.number q) k.name ∙ ap (is_in k.declaration.number) (are type ∙ ap place_of k.is) ∙ eq-eqb k.declaration.number k.declaration.number refl in
         all.complete k.declaration.number s.0 k.spec (slice_get_within (declarations u) k.declaration.number s.0 s.1) s.1 (s.2 ∙ k.form) first n (slice_get_within (declarations u) n d at)
         (subst (λ (q : List ℕ). HasNumber (items_at methods q) n) (sym k.name) (declares_row u methods rows type n d at (record { receiver = receiver; func = f; form = form; of = e })))
 

@@ -141,15 +141,7 @@ pub(crate) fn bases<'a>(
     let mut told = no_bases(alloc, declarations.len())?;
     for number in 0..declarations.len() {
         let form = declarations[number].form;
-        tell_form(
-            alloc,
-            &mut told,
-            declarations,
-            names,
-            methods,
-            number,
-            form,
-        )?;
+        tell_form(alloc, &mut told, declarations, names, methods, number, form)?;
     }
     Ok(told)
 }

@@ -71,7 +71,13 @@ fn await_form(
             if !names.is_first(number, name.bytes()) {
                 return Ok(());
             }
-            await_rows(env, alloc, declarations, name, methods.of_type(name.bytes()))
+            await_rows(
+                env,
+                alloc,
+                declarations,
+                name,
+                methods.of_type(name.bytes()),
+            )
         }
         _ => Ok(()),
     }

@@ -42,12 +42,7 @@ fn file_at(unit: &Unit, place: Place) -> &[u8] {
     }
 }
 
-fn said_at(
-    alloc: Global,
-    unit: &Unit,
-    place: Place,
-    word: &str,
-) -> Result<Vec<u8>, AllocError> {
+fn said_at(alloc: Global, unit: &Unit, place: Place, word: &str) -> Result<Vec<u8>, AllocError> {
     let mut text = Vec::new(alloc);
     text.extend_from_slice(unit.path.bytes())?;
     text.push(b' ')?;
