@@ -15,7 +15,7 @@ answer-requires-clause-flags c =
     let u = source_of c.args.unit.now in
     let same = same_setting s u _ c.in_ok-env.env c.in_ok-env.ensures in
     let keeps = kept_given s (setting_of c.in_ok-env.env) u (had_in c.in_ok-settled.settled) c.into_parts-env.result.1 same c.into_parts-env.ensures.had (scopes_in c.in_ok-settled.settled) c.into_parts-env.result.0 c.into_parts-env.ensures.scopes c.in_ok-settled.ensures.kept in
-    ap length c.deref.ensures.value ∙ (c.in_ok-lost.ensures s (c.kept_scopes.ensures s u _ _ keeps)).0
+    ap length c.deref-2.ensures.value ∙ (c.in_ok-lost.ensures s (c.kept_scopes.ensures s u _ _ keeps)).0
 
 pub returns : goal.returns
 returns c =
@@ -27,4 +27,4 @@ returns c =
     let all = all_given s (setting_of c.in_ok-env.env) u (had_in c.in_ok-settled.settled) c.into_parts-env.result.1 same c.into_parts-env.ensures.had c.in_ok-settled.ensures.all in
     let sifted = (c.in_ok-lost.ensures s (c.kept_scopes.ensures s u _ _ keeps)).1 in
     c.answer.ensures s (c.apart_from_world.ensures s u c.packages-packages.ensures.world c.requires.pathed c.requires.absent) all
-    (subst (λ (xs : List Bool). AreSifted s u had (is_flagged xs)) (sym c.deref.ensures.value) sifted)
+    (subst (λ (xs : List Bool). AreSifted s u had (is_flagged xs)) (sym c.deref-2.ensures.value) sifted)
