@@ -1,0 +1,7 @@
+//! The texts of fault lines.
+#![tactic(auto)]
+
+pub mod fixed;
+pub mod lines;
+pub mod places;
+pub mod refusals;
