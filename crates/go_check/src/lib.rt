@@ -1,0 +1,4 @@
+//! Why a package isn't typed.
+#![tactic(auto)]
+
+pub mod error;
