@@ -1,3 +1,0 @@
-pub mod FileBytes
-pub mod LinesAndColumns
-pub mod ListRests

@@ -1,6 +1,2 @@
 pub mod FaultLines
 pub mod FixedLines
-pub mod PackageFaults
-pub mod Places
-pub mod Refusals
-pub mod inner

@@ -3,5 +3,3 @@
 
 pub mod fixed;
 pub mod lines;
-pub mod places;
-pub mod refusals;

@@ -45,7 +45,7 @@ pub enum FrozenFault {
 }
 
 /// `apigate: SUBJECT: WHAT` and a newline.
-pub(crate) fn fault_line(alloc: Global, subject: &[u8], what: &[u8]) -> Result<Text, NoMemory>
+pub fn fault_line(alloc: Global, subject: &[u8], what: &[u8]) -> Result<Text, NoMemory>
     ensures { IfOk result (λ line. line ≡ fault_line subject.now what.now) }
 {
     let mut line = Vec::from_slice(alloc, b"apigate: ")?;

@@ -14,7 +14,7 @@ use Rattle.go_units.specs.declared.unit.UnitFile.{UnitFile}
 use Rattle.go_units.specs.declared.unit_error.UnitError.{UnitError}
 use Rattle.go_units.specs.declared.unit_error.UnitError.TheVariants as error
 use Rattle.api_texts.specs.FaultLines.{fault_line, side_name}
-use Rattle.api_texts.specs.Places.{bytes_at, place_text}
+use Rattle.api_refusals.specs.Places.{bytes_at, place_text}
 use Rattle.api_texts.specs.declared.lines.Side.{Side}
 
 -- an import path that neither equals a module's path nor lies under it is of the standard library

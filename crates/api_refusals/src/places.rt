@@ -1,7 +1,7 @@
 //! Places in files, as fault lines print them.
 ghost use Rattle.std.specs.Prelude.{◌≡◌, ◌≤◌, ◌++◌, IfOk, OnOk, bytes_eq, length, take};
 ghost use Rattle.std.specs.List.{filter};
-ghost use Rattle.api_texts.specs.Places.{bytes_at, file_path, is_newline, last_line, place_text};
+ghost use Rattle.api_refusals.specs.Places.{bytes_at, file_path, is_newline, last_line, place_text};
 
 use go_base::memory::NoMemory;
 use go_load::names::under;

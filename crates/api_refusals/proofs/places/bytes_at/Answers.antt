@@ -1,6 +1,6 @@
 use Rattle.std.proofs.Common.{sym, ◌∙◌}
-use Rattle.api_texts.proofs.FileBytes.{bytes_here, bytes_later, bytes_nowhere}
-use Rattle.api_texts.proofs.places.bytes_at.Goals as goal
+use Rattle.api_refusals.proofs.FileBytes.{bytes_here, bytes_later, bytes_nowhere}
+use Rattle.api_refusals.proofs.places.bytes_at.Goals as goal
 
 pub returns-then-branch : goal.returns-then-branch
 returns-then-branch c =

@@ -4,7 +4,7 @@ use Rattle.std.specs.Prelude.{bytes_eq}
 use Rattle.std.proofs.lemmas.List.{drop_more}
 use Rattle.go_base.proofs.Lists.{drop_past}
 use Rattle.go_model.specs.declared.files.tree.TreeFile.{TreeFile}
-use Rattle.api_texts.specs.Places.{bytes_at, file_path}
+use Rattle.api_refusals.specs.Places.{bytes_at, file_path}
 
 module _ (files : List TreeFile) (i : ℕ) (file : TreeFile) (path : List ℕ) (within : i < length files) (is : file ≡ get_or files i file) where
   from_here : bytes_at (drop i files) path ≡ (if bytes_eq (file_path file) path then file.bytes else bytes_at (drop (i + 1) files) path)

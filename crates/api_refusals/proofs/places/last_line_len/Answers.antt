@@ -1,7 +1,7 @@
 use Rattle.std.proofs.Common.{sym, ◌∙◌, ◌+◌}
-use Rattle.api_texts.proofs.LinesAndColumns.{Lined, lined_first, lined_newline, lined_other}
-use Rattle.api_texts.proofs.places.last_line_len.Goals as goal
-use Rattle.api_texts.proofs.places.last_line_len.Goals.{then-is_newline, else-is_newline}
+use Rattle.api_refusals.proofs.LinesAndColumns.{Lined, lined_first, lined_newline, lined_other}
+use Rattle.api_refusals.proofs.places.last_line_len.Goals as goal
+use Rattle.api_refusals.proofs.places.last_line_len.Goals.{then-is_newline, else-is_newline}
 
 pub loop-byte-init : goal.loop-byte-init
 loop-byte-init c = lined_first c.args.bytes.now

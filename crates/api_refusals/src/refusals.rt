@@ -3,11 +3,11 @@ ghost use Rattle.std.specs.Prelude.{◌≡◌, ◌++◌, IfOk, OnOk, ◌≤◌, 
 ghost use Rattle.std.specs.List.{starts_with};
 ghost use Rattle.go_model.specs.files.Platforms.{name_of};
 ghost use Rattle.api_texts.specs.FaultLines.{side_name};
-ghost use Rattle.api_texts.specs.PackageFaults.{refusal_of};
-ghost use Rattle.api_texts.specs.Refusals.{cause_text, file_name, file_place, file_text, is_outside, package_text, place_in, place_of, refusal_line, tree_of, unit_place, unit_text};
-ghost use Rattle.api_texts.specs.inner.Files.{copied_file, copied_unit};
+ghost use Rattle.api_refusals.specs.PackageFaults.{refusal_of};
+ghost use Rattle.api_refusals.specs.Refusals.{cause_text, file_name, file_place, file_text, is_outside, package_text, place_in, place_of, refusal_line, tree_of, unit_place, unit_text};
+ghost use Rattle.api_refusals.specs.inner.Files.{copied_file, copied_unit};
 
-use crate::lines::{Side, fault_line};
+use api_texts::lines::{Side, fault_line};
 use crate::places::{bytes_at, push_place};
 use go_base::memory::NoMemory;
 use go_base::text::Text;

@@ -1,8 +1,8 @@
 -- Lines and columns that are counted byte by byte.
 use Rattle.std.proofs.Common.{◌≡◌, ℕ, zero, suc, ◌+◌, ◌<◌, ◌≤◌, Bool, true, false, List, [], ◌∷◌, length, drop, get_or, refl, sym, ap, ◌∙◌, arith, if◌then◌else◌}
 use Rattle.std.specs.List.{filter, list_any}
-use Rattle.api_texts.specs.Places.{is_newline, last_line}
-use Rattle.api_texts.proofs.ListRests.{next_drop, past_all}
+use Rattle.api_refusals.specs.Places.{is_newline, last_line}
+use Rattle.api_refusals.proofs.ListRests.{next_drop, past_all}
 
 -- the newlines so far and those that are left are all
 abbrev pub Counted : List ℕ → ℕ → ℕ → Type 0
