@@ -1,6 +1,6 @@
 -- The lines that files of frozen lines give, file by file, or the first fault.
 -- Own: this project's inputs.
-use Rattle.std.specs.Prelude.{ℕ, Option, List, [], ◌∷◌, ◌++◌, Result, Ok, Err}
+use Rattle.std.specs.Prelude.{ℕ, Option, List, [], ◌∷◌, ◌++◌, Ok, Err}
 use Rattle.api_frozen.specs.FrozenFiles.{HasCause, IsFrozenFile}
 use Rattle.api_frozen.specs.declared.error.FrozenError.TheVariants as error
 use Rattle.api_inputs.specs.Reads.{MayRead}

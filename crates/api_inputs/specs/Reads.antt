@@ -1,7 +1,7 @@
 -- What the reads of a run may answer over a store: where it tells files, what these give; and over any store, trees keep their limits and no file
 -- is larger than what was asked for.
 -- Own: this project's inputs.
-use Rattle.std.specs.Prelude.{◌≡◌, ◌≤◌, ◌-◌, ◌^◌, min, ℕ, Option, Some, None, List, [], length, Result, Ok, Err, IfOk}
+use Rattle.std.specs.Prelude.{◌≡◌, ◌≤◌, ◌-◌, ◌^◌, min, ℕ, Option, Some, None, List, [], length, Result, Ok, IfOk}
 use Rattle.std.specs.FinMap.{get}
 use Rattle.go_load.specs.Loads.{LoadsFiles, LoadsModule}
 use Rattle.go_load.specs.declared.error.LoadError.{LoadError}

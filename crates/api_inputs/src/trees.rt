@@ -30,7 +30,11 @@ fn told_as(alloc: Global, side: Side, error: &LoadError) -> InputError
 }
 
 /// The tree of the module, or the fault line of its refusal.
-pub(crate) fn module_tree<F: Files>(alloc: Global, files: &mut F, root: &[u8]) -> Result<Tree, InputError>
+pub(crate) fn module_tree<F: Files>(
+    alloc: Global,
+    files: &mut F,
+    root: &[u8],
+) -> Result<Tree, InputError>
     ensures same { F.told files.new ≡ F.told files.old }
     ensures answer { AnswersTree (MayLoad (F.told files.old) root.now) side.New (F.faults files.old) (F.faults files.new) result }
     ensures count { NeverFell (F.faults files.old) (F.faults files.new) }

@@ -2,7 +2,7 @@
 use Rattle.std.specs.Prelude.{◌≡◌, ℕ, Option, List, Result, Ok, Err}
 use Rattle.api_inputs.specs.FrozenInputs.{AreLines, GivesLines, HasFault, IsFirstFault}
 use Rattle.api_inputs.specs.Inputs.{optional}
-use Rattle.api_inputs.specs.Reads.{MayHaveStd, MayLoad}
+use Rattle.api_inputs.specs.Reads.{MayHaveStd}
 use Rattle.api_inputs.specs.declared.frozen.FileError.{FileError}
 use Rattle.api_inputs.specs.declared.frozen.FileError.TheVariants as file
 use Rattle.api_inputs.specs.declared.inputs.InputError.{InputError}
@@ -12,7 +12,6 @@ use Rattle.api_inputs.specs.declared.inputs.Inputs.{Inputs}
 use Rattle.api_inputs.specs.declared.inputs.Others.{Others}
 use Rattle.api_texts.specs.FaultLines.{frozen_line, load_line}
 use Rattle.api_texts.specs.declared.lines.FrozenFault.{FrozenFault}
-use Rattle.api_texts.specs.declared.lines.FrozenFault.TheVariants as fault
 use Rattle.api_texts.specs.declared.lines.Side.{Side}
 use Rattle.api_texts.specs.declared.lines.Side.TheVariants as side
 use Rattle.api_words.specs.declared.request.Request.{Request}
@@ -65,7 +64,7 @@ AnswersFrozen told r before now (Err error.NoMemory) = Unit {0}
 -- the fault line of the first refusal besides that of the module's tree
 pub data IsOtherLine (told : Option Contents) (r : Request) : List ℕ → Type 0 where
   of_std : (e : LoadError) → MayHaveStd told r.std (Err e) → (IsFree (Err e) → ⊥) → IsOtherLine told r (load_line side.Std e)
-  of_frozen : (s : Tree) (line : List ℕ) → MayHaveStd told r.std (Ok s) → IsFrozenLine told r line → IsOtherLine told r line
+  of_frozen : {line : List ℕ} (s : Tree) → MayHaveStd told r.std (Ok s) → IsFrozenLine told r line → IsOtherLine told r line
 
 -- what is read besides the module's tree, or that fault line
 abbrev pub AnswersOthers : Option Contents → Request → ℕ → ℕ → Result Others InputError → Type 0
