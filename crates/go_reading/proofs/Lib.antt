@@ -10,3 +10,4 @@ pub mod PackageNames
 pub mod ReadSources
 pub mod TreeAnswers
 pub mod TreeListing
+pub mod UnitPaths
