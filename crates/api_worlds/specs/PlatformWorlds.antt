@@ -1,6 +1,6 @@
 -- What the trees of a module and of the standard library have on a platform: a world, or the first refusal with its fault line.
 -- Own: the order of refusals. All packages are taken before the first declaration is.
-use Rattle.std.specs.Prelude.{◌≡◌, ◌≢◌, ◌≤◌, ◌+◌, ℕ, List, [], ◌∷◌, length, map, Ok, Err}
+use Rattle.std.specs.Prelude.{◌≢◌, ◌≤◌, ◌+◌, ℕ, List, [], ◌∷◌, length, map, Ok, Err}
 use Rattle.api_refusals.specs.Refusals.{package_text, refusal_line, unit_text}
 use Rattle.api_texts.specs.declared.lines.Side.{Side}
 use Rattle.go_model.specs.declared.files.platform.Platform.{Platform}

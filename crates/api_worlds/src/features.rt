@@ -75,9 +75,7 @@ fn feature_lists<G: Gate, L: Copy + Send>(
 {
     let mut lists = Vec::new(alloc);
     for platform in platforms {
-        match features_on(
-            alloc, side, tree, std_tree, barred, *platform, gate, steps,
-        ) {
+        match features_on(alloc, side, tree, std_tree, barred, *platform, gate, steps) {
             Err(error) => return Err(error),
             Ok(lines) => match push(&mut lists, lines) {
                 Ok(()) => {}
@@ -126,9 +124,7 @@ pub fn merged_features<G: Gate, L: Copy + Send>(
     ensures answer { AnswersPlatforms barred.now tree.now std_tree.now side platforms.now result }
     ensures steps { CountsAtMost barred.now tree.now std_tree.now platforms.now steps.old steps.new }
 {
-    match feature_lists(
-        alloc, side, tree, std_tree, barred, platforms, gate, steps,
-    ) {
+    match feature_lists(alloc, side, tree, std_tree, barred, platforms, gate, steps) {
         Err(error) => Err(error),
         Ok(lists) => merged(alloc, platforms, lists.items()),
     }

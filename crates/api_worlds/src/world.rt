@@ -132,11 +132,7 @@ pub fn world_on<G: Gate, L: Copy + Send>(
 {
     unit_paths();
     match units(alloc, tree, std_tree, barred, platform) {
-        Err(error) => Err(refused_units(
-            alloc, side, platform, tree, std_tree, &error,
-        )),
-        Ok(units) => world_of(
-            alloc, side, platform, tree, std_tree, &units, gate, steps,
-        ),
+        Err(error) => Err(refused_units(alloc, side, platform, tree, std_tree, &error)),
+        Ok(units) => world_of(alloc, side, platform, tree, std_tree, &units, gate, steps),
     }
 }
