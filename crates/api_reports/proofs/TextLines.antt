@@ -16,7 +16,7 @@ module _ {A : Type 0} (text_of : A → List ℕ) (items : List A) where
       → new ++ unlines (map text_of (drop (i + 1) items)) ≡ unlines (map text_of items)
   text_next i x old new h is e r =
       let more : List ℕ = unlines (map text_of (drop (i + 1) items)) in
-      ap (λ (w : List ℕ). w ++ more) e ∙ append_assoc old (text_of x ++ 10 ∷ []) more ∙ ap (λ (w : List ℕ). old ++ w) (append_assoc (text_of x) (10 ∷ []) more)
+      ap (λ (w : List ℕ). w ++ more) e ∙ append_assoc (old ++ text_of x) (10 ∷ []) more ∙ append_assoc old (text_of x) (10 ∷ more)
       ∙ ap (λ (w : List A). old ++ unlines (map text_of w)) (sym (from_here i x h is)) ∙ r
 
   pub text_done : (i : ℕ) (text : List ℕ) → length items ≤ i → text ++ unlines (map text_of (drop i items)) ≡ unlines (map text_of items) → text ≡ unlines (map text_of items)

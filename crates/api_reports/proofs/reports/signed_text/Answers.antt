@@ -1,5 +1,4 @@
 use Rattle.std.proofs.Common.{◌∙◌}
-
 use Rattle.api_reports.specs.Reports.{signed}
 use Rattle.api_reports.proofs.TextLines.{text_done, text_next}
 use Rattle.api_reports.proofs.reports.signed_text.Goals as goal

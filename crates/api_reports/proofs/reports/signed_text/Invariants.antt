@@ -1,5 +1,4 @@
 use Rattle.std.proofs.Common.{◌≡◌, ◌++◌, drop, map}
-
 use Rattle.api_reports.specs.Reports.{signed, unlines}
 use Rattle.api_reports.proofs.reports.signed_text.Given as goal
 
