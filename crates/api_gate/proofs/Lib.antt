@@ -1,14 +1,3 @@
-pub mod AddedKeys
-pub mod ConstantLists
-pub mod DistinctNames
-pub mod GrowingSets
-pub mod LinesAndColumns
 pub mod ListRests
-pub mod OneOutcome
-pub mod OneReport
-pub mod OneSource
-pub mod ReadFiles
-pub mod ReportLines
 pub mod RunEnds
-pub mod Settings
 pub mod WrittenPieces

@@ -1,78 +1,82 @@
 -- What follows from how a run ends.
-use Rattle.std.proofs.Common.{◌≡◌, ℕ, zero, suc, List, [], take, Option, Some, None, refl, sym, ap, ◌∙◌, subst, ◌⊎◌, inl, inr, Result, Ok, Err}
+use Rattle.std.proofs.Common.{◌≡◌, ◌≤◌, ◌<◌, ◌+◌, ℕ, zero, suc, Bool, true, false, List, [], ◌∷◌, length, map, take, Option, Some, None, refl, sym, ap, ◌∙◌, subst, ◌⊎◌, inl, inr, Ok, Err, arith}
+use Rattle.std.proofs.lemmas.List.{length-map}
+use Rattle.std.specs.List.{slice_split}
+use Rattle.std.proofs.lemmas.List.Splits.{length-slice_split}
 use Rattle.go_outside.specs.Faults.{Told}
 use Rattle.go_outside.specs.Sinks.{Takes}
 use Rattle.go_outside.specs.Stores.{Contents}
-use Rattle.api_gate.specs.declared.status.Status.{Status}
-use Rattle.api_gate.specs.declared.status.Status.TheVariants as status
-use Rattle.api_gate.specs.Words.{AreBad, IsRequest}
-use Rattle.go_load.specs.Loads.{LoadCause, LoadsModule}
-use Rattle.go_load.specs.declared.error.LoadError.{LoadError}
 use Rattle.go_model.specs.declared.files.platform.Platform.{Platform}
 use Rattle.go_model.specs.declared.files.tree.Tree.{Tree}
-use Rattle.go_model.specs.files.Trees.{IsTree, IsModulePath}
+use Rattle.go_model.specs.files.Platforms.{name_of}
+use Rattle.go_load.specs.declared.error.LoadError.{LoadError}
+use Rattle.go_model.specs.files.Trees.{IsModulePath, IsTree, are_elements, begins_element, is_element}
+use Rattle.std.specs.Prelude.{Result, if◌then◌else◌}
+use mathlib.Core.Bool.{true≢false}
+use Rattle.api_inputs.specs.Inputs.{AnswersInputs, AreInputs}
+use Rattle.api_inputs.specs.Reads.{MayHaveStd, no_tree}
+use Rattle.api_inputs.specs.declared.inputs.InputError.{InputError}
+use Rattle.api_inputs.specs.declared.inputs.InputError.TheVariants as input
+use Rattle.api_inputs.specs.declared.inputs.Inputs.{Inputs}
+use Rattle.api_words.specs.Words.{AreBad, ArePlatforms, IsRequest, is_comma}
+use Rattle.api_words.specs.declared.request.Request.{Request}
+use Rattle.api_worlds.specs.PlatformWorlds.{CountsAtMost}
 use Rattle.api_gate.specs.declared.reports.decision.Decision.{Decision}
 use Rattle.api_gate.specs.declared.reports.decision.Decision.TheVariants as decision
-use Rattle.api_gate.specs.declared.sources.files.ReadError.{ReadError}
-use Rattle.api_gate.specs.declared.sources.files.ReadError.TheVariants as read
-use Rattle.api_gate.specs.declared.words.Request.{Request}
-use Rattle.api_gate.specs.inner.Decisions.{IsOfError, IsOfTree, outcome_of}
-use Rattle.api_gate.specs.inner.FileAnswers.{ReadCause}
+use Rattle.api_gate.specs.declared.status.Status.{Status}
+use Rattle.api_gate.specs.declared.status.Status.TheVariants as status
+use Rattle.api_gate.specs.inner.Decisions.{IsOfInputs, decision_of, outcome_of}
 use Rattle.api_gate.specs.runs.Effects.{AnyFailed, Change, Effects, Failed, Took, TookSome}
-use Rattle.api_gate.specs.runs.Outcomes.{EndsWith, bad_words, unloaded, refused_tree, reported_tree, MayLoad, Outcome, IsTreeRefusal, by_file, fault_alone}
+use Rattle.api_gate.specs.runs.Outcomes.{ChecksAtMost, checked, no_check, EndsWith, bad_words, refused_inputs, refused_platform, reported_features, Outcome, fault_alone, modules_of}
 use Rattle.api_gate.specs.runs.Runs.{Delivers, whole, output_failed, line_failed, Ends, IsComplete, MayWrite, defined, store_failed, no_memory, Writes}
 
--- another predicate on answers
-ends_map : (words : List (List ℕ)) (P Q : List ℕ → Result Tree LoadError → Type 0) → ((root : List ℕ) (answer : Result Tree LoadError) → P root answer → Q root answer) → (o : Outcome) → EndsWith words P o → EndsWith words Q o
-ends_map words P Q f o (bad_words n) = bad_words n
-ends_map words P Q f o (unloaded r e i l n) = unloaded r e i (f r.new (Err e) l) n
-ends_map words P Q f o (refused_tree r t line i l h) = refused_tree r t line i (f r.new (Ok t) l) h
-ends_map words P Q f o (reported_tree r t text i l h) = reported_tree r t text i (f r.new (Ok t) l) h
+-- the line for bad words comes for them alone, and the statuses of faults never
+words_of : (words : List (List ℕ)) (told : Option Contents) (o : Outcome) → EndsWith words told o → o.status ≡ status.Words → AreBad words
+words_of words told o (bad_words n) s = n
+words_of words told o (refused_inputs r i l) s = absurd (cc)
+words_of words told o (refused_platform r i j k l) s = absurd (cc)
+words_of words told o (reported_features true r i f j k l h) s = absurd (cc)
+words_of words told o (reported_features false r i f j k l h) s = absurd (cc)
 
--- the line for bad words comes for them alone, and the status of a write fault never
-words_of : (words : List (List ℕ)) (P : List ℕ → Result Tree LoadError → Type 0) (o : Outcome) → EndsWith words P o → o.status ≡ status.Words → AreBad words
-words_of words P o (bad_words n) s = n
-words_of words P o (unloaded r e i l n) s = absurd (cc)
-words_of words P o (refused_tree r t line i l h) s = absurd (cc)
-words_of words P o (reported_tree r t text i l h) s = absurd (cc)
+no_read : (words : List (List ℕ)) (told : Option Contents) (o : Outcome) → EndsWith words told o → o.status ≡ status.ReadFault → ⊥
+no_read words told o (bad_words n) s = cc
+no_read words told o (refused_inputs r i l) s = cc
+no_read words told o (refused_platform r i j k l) s = cc
+no_read words told o (reported_features true r i f j k l h) s = cc
+no_read words told o (reported_features false r i f j k l h) s = cc
 
-no_read : (words : List (List ℕ)) (P : List ℕ → Result Tree LoadError → Type 0) (o : Outcome) → EndsWith words P o → o.status ≡ status.ReadFault → ⊥
-no_read words P o (bad_words n) s = cc
-no_read words P o (unloaded r e i l n) s = cc
-no_read words P o (refused_tree r t line i l h) s = cc
-no_read words P o (reported_tree r t text i l h) s = cc
-
-no_write : (words : List (List ℕ)) (P : List ℕ → Result Tree LoadError → Type 0) (o : Outcome) → EndsWith words P o → o.status ≡ status.WriteFault → ⊥
-no_write words P o (bad_words n) s = cc
-no_write words P o (unloaded r e i l n) s = cc
-no_write words P o (refused_tree r t line i l h) s = cc
-no_write words P o (reported_tree r t text i l h) s = cc
+no_write : (words : List (List ℕ)) (told : Option Contents) (o : Outcome) → EndsWith words told o → o.status ≡ status.WriteFault → ⊥
+no_write words told o (bad_words n) s = cc
+no_write words told o (refused_inputs r i l) s = cc
+no_write words told o (refused_platform r i j k l) s = cc
+no_write words told o (reported_features true r i f j k l h) s = cc
+no_write words told o (reported_features false r i f j k l h) s = cc
 
 -- bad words end with their line
-bad_end : (words : List (List ℕ)) (P : List ℕ → Result Tree LoadError → Type 0) (o : Outcome) → AreBad words → EndsWith words P o → (o.status ≡ status.Words) × (o.output ≡ [])
-bad_end words P o bad (bad_words n) = (refl, refl)
-bad_end words P o bad (unloaded r e i l n) = absurd (bad r i)
-bad_end words P o bad (refused_tree r t line i l h) = absurd (bad r i)
-bad_end words P o bad (reported_tree r t text i l h) = absurd (bad r i)
+bad_end : (words : List (List ℕ)) (told : Option Contents) (o : Outcome) → AreBad words → EndsWith words told o → (o.status ≡ status.Words) × (o.output ≡ [])
+bad_end words told o bad (bad_words n) = (refl, refl)
+bad_end words told o bad (refused_inputs r i l) = absurd (bad r i)
+bad_end words told o bad (refused_platform r i j k l) = absurd (bad r j)
+bad_end words told o bad (reported_features b r i f j k l h) = absurd (bad r j)
 
 module _ (words : List (List ℕ)) (store : Change Contents) where
   written_words : (o : Outcome) → MayWrite words store o → o.status ≡ status.Words → AreBad words
-  written_words o (defined e) s = words_of words (MayLoad store.told_before) o e s
+  written_words o (defined e) s = words_of words store.told_before o e s
   written_words o (store_failed r i f) s = absurd (cc)
   written_words o no_memory s = absurd (cc)
 
   written_read : (o : Outcome) → MayWrite words store o → o.status ≡ status.ReadFault → Failed store
-  written_read o (defined e) s = absurd (no_read words (MayLoad store.told_before) o e s)
+  written_read o (defined e) s = absurd (no_read words store.told_before o e s)
   written_read o (store_failed r i f) s = f
   written_read o no_memory s = absurd (cc)
 
   never_write : (o : Outcome) → MayWrite words store o → o.status ≡ status.WriteFault → ⊥
-  never_write o (defined e) s = no_write words (MayLoad store.told_before) o e s
+  never_write o (defined e) s = no_write words store.told_before o e s
   never_write o (store_failed r i f) s = cc
   never_write o no_memory s = cc
 
   written_bad : (o : Outcome) → AreBad words → MayWrite words store o → ((o.status ≡ status.Words) ⊎ (o.status ≡ status.NoMemory)) × (o.output ≡ [])
-  written_bad o bad (defined e) = let b : (o.status ≡ status.Words) × (o.output ≡ []) = bad_end words (MayLoad store.told_before) o bad e in (inl b.0, b.1)
+  written_bad o bad (defined e) = let b : (o.status ≡ status.Words) × (o.output ≡ []) = bad_end words store.told_before o bad e in (inl b.0, b.1)
   written_bad o bad (store_failed r i f) = absurd (bad r i)
   written_bad o bad no_memory = (inr refl, refl)
 
@@ -123,53 +127,69 @@ module _ (words : List (List ℕ)) (run : Effects) (got : Status) (h : Ends word
         no_output h.0 run.output run.error_output got h.2 b.1,
       )
 
-module _ (one : (words : List (List ℕ)) (m : Contents) (a b : Outcome) → EndsWith words (LoadsModule m) a → EndsWith words (LoadsModule m) b → a ≡ b) where
+module _ (one : (words : List (List ℕ)) (m : Contents) (a b : Outcome) → EndsWith words (Some m) a → EndsWith words (Some m) b → a ≡ b) where
   -- what was delivered where nothing failed
   delivered : (o : Outcome) (run : Effects) (got : Status) → (AnyFailed run → ⊥) → Delivers o run.output run.error_output got → Writes o run.output run.error_output got
   delivered o run got none (whole w) = w
   delivered o run got none (output_failed e f n t l) = absurd (none (inr (inl f)))
   delivered o run got none (line_failed e f n t l) = absurd (none (inr (inr f)))
 
-  wrote : (words : List (List ℕ)) (run : Effects) (got : Status) (m : Contents) (o p : Outcome) → run.store.told_before ≡ Some m → EndsWith words (LoadsModule m) o → (AnyFailed run → ⊥) → MayWrite words run.store p → Writes p run.output run.error_output got → Writes o run.output run.error_output got ⊎ (got ≡ status.NoMemory)
+  wrote : (words : List (List ℕ)) (run : Effects) (got : Status) (m : Contents) (o p : Outcome) → run.store.told_before ≡ Some m → EndsWith words (Some m) o → (AnyFailed run → ⊥) → MayWrite words run.store p → Writes p run.output run.error_output got → Writes o run.output run.error_output got ⊎ (got ≡ status.NoMemory)
   wrote words run got m o p told e none (defined d) w =
-      let same : p ≡ o = one words m p o (ends_map words (MayLoad (Some m)) (LoadsModule m) (λ root answer l. l.loaded) p (subst (λ (t : Option Contents). EndsWith words (MayLoad t) p) told d)) e in
+      let same : p ≡ o = one words m p o (subst (λ (t : Option Contents). EndsWith words t p) told d) e in
       inl (subst (λ (q : Outcome). Writes q run.output run.error_output got) same w)
   wrote words run got m o p told e none (store_failed r i f) w = absurd (none (inl f))
   wrote words run got m o p told e none no_memory w = inr w.ended
 
-  complete_by : (words : List (List ℕ)) (run : Effects) (got : Status) (told : Option Contents) → run.store.told_before ≡ told → Ends words run got → Told told (λ m. (o : Outcome) → EndsWith words (LoadsModule m) o → (AnyFailed run → ⊥) → Writes o run.output run.error_output got ⊎ (got ≡ status.NoMemory))
+  complete_by : (words : List (List ℕ)) (run : Effects) (got : Status) (told : Option Contents) → run.store.told_before ≡ told → Ends words run got → Told told (λ m. (o : Outcome) → EndsWith words (Some m) o → (AnyFailed run → ⊥) → Writes o run.output run.error_output got ⊎ (got ≡ status.NoMemory))
   complete_by words run got None is h = tt
   complete_by words run got (Some m) is h = λ o e none. wrote words run got m o h.0 is e none h.1 (delivered h.0 run got none h.2)
 
   pub ends_complete : (words : List (List ℕ)) (run : Effects) (got : Status) → Ends words run got → IsComplete words run got
   ends_complete words run got h = complete_by words run got run.store.told_before refl h
 
--- the error of a load gives what may be written
-pub unloaded_writes : (words : List (List ℕ)) (store : Change Contents) (r : Request) (root : List ℕ) (e : LoadError) (d : Decision) → root ≡ r.new → IsRequest words r → Told store.told_before (λ m. LoadsModule m root (Err e)) → LoadCause {A = Tree} store.faults_before store.faults_after (Err e)
-    → IsOfError e d → MayWrite words store (outcome_of d)
-unloaded_writes words store r root e (decision.Report text) is i l c h = absurd h
-unloaded_writes words store r root e decision.Words is i l c h = absurd h
-unloaded_writes words store r root e (decision.Refused line) is i l c h =
-    let loads : Told store.told_before (λ m. LoadsModule m r.new (Err e)) = subst (λ (dir : List ℕ). Told store.told_before (λ m. LoadsModule m dir (Err e))) is l in
-    subst (λ (w : List ℕ). MayWrite words store (fault_alone status.Refused w)) (sym h.1) (defined (unloaded r e i (record { loaded = loads; tree = tt; module_path = tt }) h.0))
-unloaded_writes words store r root e decision.ReadFault is i l c h = store_failed r i (subst (λ (x : LoadError). LoadCause {A = Tree} store.faults_before store.faults_after (Err x)) h c)
-unloaded_writes words store r root e decision.NoMemory is i l c h = no_memory
+-- ---- what a request decides
 
--- a loaded tree gives what may be written
-pub tree_writes : (words : List (List ℕ)) (store : Change Contents) (r : Request) (root : List ℕ) (t : Tree) (d : Decision) → root ≡ r.new → IsRequest words r → Told store.told_before (λ m. LoadsModule m root (Ok t)) → IsTree t → IsModulePath t.module → IsOfTree r.platform t d → MayWrite words store (outcome_of d)
-tree_writes words store r root t d is i l tree path h = by d h
+-- a request has a platform
+pub some_platform : (words : List (List ℕ)) (r : Request) → IsRequest words r → 0 < length r.platforms
+some_platform words r i = by i.asked.platforms.0 i.asked.platforms.2
   where
-    may : MayLoad store.told_before r.new (Ok t)
-    may = record { loaded = subst (λ (dir : List ℕ). Told store.told_before (λ m. LoadsModule m dir (Ok t))) is l; tree = tree; module_path = path }
+    by : (given : Option (List ℕ)) → ArePlatforms given r.platforms → 0 < length r.platforms
+    by None e = subst (λ (ps : List Platform). 0 < length ps) (sym e) (omega arith)
+    by (Some value) h = omega (arith, ap length h.0, length-slice_split is_comma value, length-map r.platforms name_of)
 
-    by : (d : Decision) → IsOfTree r.platform t d → MayWrite words store (outcome_of d)
-    by (decision.Report text) h = defined (reported_tree r t text i may h)
-    by decision.Words h = absurd h
-    by (decision.Refused line) h = defined (refused_tree r t line i may h)
-    by decision.ReadFault h = absurd h
-    by decision.NoMemory h = no_memory
+-- the trees of inputs keep what they have to
+pub std_tree : (told : Option Contents) (root : Option (List ℕ)) (t : Tree) → MayHaveStd told root (Ok t) → IsTree t
+std_tree told None t e = subst IsTree (sym (same e)) (record { named = inl refl; few = omega arith; held = tt })
+  where
+    same : ◌≡◌ {A = Result Tree LoadError} (Ok t) (Ok no_tree) → t ≡ no_tree
+    same e = cc
+std_tree told (Some root) t h = h.tree
 
-pub tree_refused : (p : Platform) (t : Tree) (line : List ℕ) (e : ReadError) → e ≡ read.Refused line → ReadCause p t.files e → IsTreeRefusal p t line
-tree_refused p t line e is c =
-    let d : ReadCause p t.files (read.Refused line) = subst (ReadCause p t.files) is c in
-    by_file d.0 d.1 d.2 d.3
+pub named_module : (path : List ℕ) → IsModulePath path → path ≡ [] → ⊥
+unfolding is_element begins_element
+named_module path m e = true≢false (sym (subst (λ (w : List ℕ). are_elements w ≡ true) e m.0))
+
+module _ (words : List (List ℕ)) (store : Change Contents) (r : Request) (is : IsRequest words r) where
+  -- what isn't read gives what may be written
+  unread_as : (e : InputError) → AnswersInputs store.told_before r store.faults_before store.faults_after (Err e) → MayWrite words store (outcome_of (decision_of e))
+  unread_as (input.Refused line) a = defined (refused_inputs r is a)
+  unread_as input.ReadFault a = store_failed r is a
+  unread_as input.NoMemory a = no_memory
+
+  pub unread_writes : (e : InputError) (d : Decision) → d ≡ decision_of e → AnswersInputs store.told_before r store.faults_before store.faults_after (Err e) → MayWrite words store (outcome_of d)
+  unread_writes e d same a = subst (λ (x : Decision). MayWrite words store (outcome_of x)) (sym same) (unread_as e a)
+
+  -- and so do inputs
+  pub inputs_write : (i : Inputs) (d : Decision) → AreInputs store.told_before r i → IsOfInputs r i d → MayWrite words store (outcome_of d)
+  inputs_write i (decision.Report text) a h = defined (reported_features false r i h.0 is a h.1 h.2)
+  inputs_write i (decision.Broken text) a h = defined (reported_features true r i h.0 is a h.1 h.2)
+  inputs_write i decision.Words a h = absurd h
+  inputs_write i (decision.Refused line) a h = defined (refused_platform r i is a h)
+  inputs_write i decision.ReadFault a h = absurd h
+  inputs_write i decision.NoMemory a h = no_memory
+
+pub inputs_check : (words : List (List ℕ)) (told : Option Contents) (r : Request) (i : Inputs) (before now : ℕ) → IsRequest words r → AreInputs told r i
+    → (now ≤ before) ⊎ CountsAtMost (modules_of i) i.tree i.std_tree r.platforms before now → ChecksAtMost words told before now
+inputs_check words told r i before now is a (inl h) = no_check h
+inputs_check words told r i before now is a (inr h) = checked r i is a h

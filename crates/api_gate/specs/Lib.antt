@@ -1,5 +1,3 @@
-pub mod Words
+pub mod Statuses
 pub mod inner
-pub mod reports
 pub mod runs
-pub mod sources

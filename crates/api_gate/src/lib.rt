@@ -4,6 +4,4 @@
 pub mod laws;
 mod reports;
 pub mod run;
-mod sources;
 pub mod status;
-mod words;

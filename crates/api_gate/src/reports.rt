@@ -1,6 +1,5 @@
-//! What a run writes: feature lines, fault lines, and how both reach the sinks.
+//! What a run decides, the reports of the modes, and how both reach the sinks.
 
 pub mod decision;
 pub mod deliver;
-pub mod features;
-pub mod refusals;
+pub mod report;

@@ -1,6 +1,6 @@
 //! How a run ends.
 ghost use Rattle.std.specs.Prelude.{◌≡◌};
-ghost use Rattle.api_gate.specs.reports.FixedLines.{code_of};
+ghost use Rattle.api_gate.specs.Statuses.{code_of};
 
 /// How a run ends. Its number is the exit status of the program.
 #[derive(Clone, Copy, Debug, PartialEq, Eq)]

@@ -4,7 +4,7 @@ ghost use Rattle.go_load.specs.Walk.{is_deep, takes_files};
 
 /// A kind of tree.
 #[derive(Clone, Copy, Debug, PartialEq, Eq)]
-pub(crate) enum TreeKind {
+pub enum TreeKind {
     /// A module: its root has a `go.mod`, and a folder below it that has one is another module.
     Module,
     /// Declarations of packages outside the module, each at its import path: the files in its root

@@ -5,7 +5,7 @@
 mod counts;
 pub mod error;
 mod go_mod;
-mod kind;
+pub mod kind;
 pub mod laws;
 pub mod load;
 pub mod names;

@@ -1,27 +1,23 @@
 -- What the definitions give for the words and the files: what goes to the output, the fault line and the status.
 -- Own: this project's reports and exit statuses.
-use Rattle.std.specs.Prelude.{◌≡◌, ℕ, List, [], Option, Result, Err, Ok, IfOk}
-use Rattle.go_base.specs.Lists.{Each}
-use Rattle.go_model.specs.declared.files.platform.Platform.{Platform}
-use Rattle.go_model.specs.declared.files.tree.Tree.{Tree}
-use Rattle.go_model.specs.declared.files.tree.TreeFile.{TreeFile}
-use Rattle.go_model.specs.files.Trees.{IsTree, IsModulePath}
-use Rattle.go_outside.specs.Faults.{Told}
+use Rattle.std.specs.Prelude.{◌≡◌, ◌≤◌, ℕ, Bool, true, false, if◌then◌else◌, Option, List, [], ◌∷◌}
+use Rattle.api_frozen.specs.Comparison.{IsReport}
+use Rattle.api_frozen.specs.declared.signed.Signed.{Signed}
+use Rattle.api_inputs.specs.Inputs.{AreInputs, IsInputRefusal}
+use Rattle.api_inputs.specs.declared.inputs.Inputs.{Inputs}
+use Rattle.api_lines.specs.declared.line.Line.{Line}
+use Rattle.api_reports.specs.Reports.{features_text, has_loss, signed_text}
+use Rattle.api_texts.specs.FixedLines.{words_line}
+use Rattle.api_texts.specs.declared.lines.Side.TheVariants as side
+use Rattle.api_words.specs.Words.{AreBad, IsRequest}
+use Rattle.api_words.specs.declared.option_name.Mode.{Mode}
+use Rattle.api_words.specs.declared.option_name.Mode.TheVariants as mode
+use Rattle.api_words.specs.declared.request.Request.{Request}
+use Rattle.api_worlds.specs.FeatureLists.{AreFeatures, IsFirstRefusal}
+use Rattle.api_worlds.specs.PlatformWorlds.{CountsAtMost}
 use Rattle.go_outside.specs.Stores.{Contents}
-use Rattle.go_load.specs.Answers.{IsFree}
-use Rattle.go_load.specs.Loads.{LoadsModule}
-use Rattle.go_load.specs.declared.error.LoadError.{LoadError}
-use Rattle.api_gate.specs.declared.sources.files.FileSource.{FileSource}
-use Rattle.api_gate.specs.declared.reports.refusals.FileFault.{FileFault}
 use Rattle.api_gate.specs.declared.status.Status.{Status}
 use Rattle.api_gate.specs.declared.status.Status.TheVariants as status
-use Rattle.api_gate.specs.declared.words.Request.{Request}
-use Rattle.api_gate.specs.Words.{IsRequest, AreBad}
-use Rattle.api_gate.specs.sources.ChosenFiles.{IsFirstFaulty, IsSound}
-use Rattle.api_gate.specs.sources.Sources.{AreSources, ArePackages}
-use Rattle.api_gate.specs.reports.Features.{IsReport}
-use Rattle.api_gate.specs.reports.FixedLines.{words_line, not_yet_line}
-use Rattle.api_gate.specs.reports.Refusals.{file_line, load_line, new_side}
 
 -- what goes to the output, the fault line, and the status
 pub record Outcome : Type 0 where
@@ -29,39 +25,34 @@ pub record Outcome : Type 0 where
   pub fault_line : List ℕ
   pub status : Status
 
--- a report and no fault line
-abbrev pub reported : List ℕ → Outcome
-reported text = record { output = text; fault_line = []; status = status.Pass }
+-- a report and no fault line; it says whether a line is lost
+abbrev pub reported : Bool → List ℕ → Outcome
+reported is_broken text = record { output = text; fault_line = []; status = if is_broken then status.Broken else status.Pass }
 
 -- a fault line alone
 abbrev pub fault_alone : Status → List ℕ → Outcome
 fault_alone status line = record { output = []; fault_line = line; status = status }
 
--- no file is refused, and the chosen files declare packages in the form that is read today
-pub record AreReadAs (p : Platform) (files : List TreeFile) (sources : List FileSource) : Type 0 where
-  pub sound : Each (IsSound p) files
-  pub read : AreSources p files sources
-  pub packages : ArePackages sources
+-- the module paths of a run, which packages of the standard library can't have
+abbrev pub modules_of : Inputs → List (List ℕ)
+modules_of i = i.tree.«module» ∷ []
 
--- why a loaded tree is refused on a platform: a file's own fault before a form that isn't built yet
-pub data IsTreeRefusal (p : Platform) (t : Tree) (line : List ℕ) : Type 0 where
-  by_file : (file : TreeFile) (f : FileFault) → IsFirstFaulty p t.files file f → line ≡ file_line new_side p file f → IsTreeRefusal p t line
-  by_form : Each (IsSound p) t.files → ((sources : List FileSource) → AreReadAs p t.files sources → ⊥) → line ≡ not_yet_line → IsTreeRefusal p t line
+-- the report of a mode on these features, and whether a line is lost: the features themselves, or what they lost and gained against the lines
+-- that were read
+abbrev pub IsReportOn : Mode → Inputs → List Line → Bool → List ℕ → Type 0
+IsReportOn mode.Features i features is_broken text = (is_broken ≡ false) × (text ≡ features_text features)
+IsReportOn mode.Frozen i features is_broken text = (lines : List Signed) × IsReport features i.required i.exceptions lines × (is_broken ≡ has_loss lines) × (text ≡ signed_text lines)
 
--- the report on a loaded tree
-abbrev pub IsTreeReport : Platform → Tree → List ℕ → Type 0
-IsTreeReport p t text = (sources : List FileSource) × AreReadAs p t.files sources × IsReport t.module sources text
+-- what the words end with, over a store that tells this: the first refusal in this order, or the report
+pub data EndsWith (words : List (List ℕ)) (told : Option Contents) : Outcome → Type 0 where
+  bad_words : AreBad words → EndsWith words told (fault_alone status.Words words_line)
+  refused_inputs : {line : List ℕ} (r : Request) → IsRequest words r → IsInputRefusal told r line → EndsWith words told (fault_alone status.Refused line)
+  refused_platform : {line : List ℕ} (r : Request) (i : Inputs) → IsRequest words r → AreInputs told r i → IsFirstRefusal (modules_of i) i.tree i.std_tree side.New r.platforms line
+      → EndsWith words told (fault_alone status.Refused line)
+  reported_features : {text : List ℕ} (is_broken : Bool) (r : Request) (i : Inputs) (features : List Line) → IsRequest words r → AreInputs told r i → AreFeatures (modules_of i) i.tree i.std_tree r.platforms features
+      → IsReportOn r.mode i features is_broken text → EndsWith words told (reported is_broken text)
 
--- an answer that the load of the tree at a folder may give over a store that tells this: where it tells files, the
--- answer that the load of them gives; and over any store a tree has a module and keeps its limits
-pub record MayLoad (told : Option Contents) (root : List ℕ) (answer : Result Tree LoadError) : Type 0 where
-  pub loaded : Told told (λ m. LoadsModule m root answer)
-  pub tree : IfOk answer IsTree
-  pub module_path : IfOk answer (λ t. IsModulePath t.module)
-
--- what the words end with, where the loads may give these answers: the first refusal in this order, or the report
-pub data EndsWith (words : List (List ℕ)) (may_load : List ℕ → Result Tree LoadError → Type 0) : Outcome → Type 0 where
-  bad_words : AreBad words → EndsWith words may_load (fault_alone status.Words words_line)
-  unloaded : (r : Request) (e : LoadError) → IsRequest words r → may_load r.new (Err e) → (IsFree (Err e) → ⊥) → EndsWith words may_load (fault_alone status.Refused (load_line new_side e))
-  refused_tree : (r : Request) (t : Tree) (line : List ℕ) → IsRequest words r → may_load r.new (Ok t) → IsTreeRefusal r.platform t line → EndsWith words may_load (fault_alone status.Refused line)
-  reported_tree : (r : Request) (t : Tree) (text : List ℕ) → IsRequest words r → may_load r.new (Ok t) → IsTreeReport r.platform t text → EndsWith words may_load (reported text)
+-- a counter of checks rises by at most the packages of the request's platforms together, or stays
+pub data ChecksAtMost (words : List (List ℕ)) (told : Option Contents) (before now : ℕ) : Type 0 where
+  no_check : now ≤ before → ChecksAtMost words told before now
+  checked : (r : Request) (i : Inputs) → IsRequest words r → AreInputs told r i → CountsAtMost (modules_of i) i.tree i.std_tree r.platforms before now → ChecksAtMost words told before now

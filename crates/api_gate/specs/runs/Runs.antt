@@ -1,21 +1,20 @@
 -- What a run writes, how it is delivered to the two sinks, and with which status the run ends.
 -- Own: this project's reports and exit statuses.
-use Rattle.std.specs.Prelude.{◌≡◌, ◌<◌, ◌⊎◌, ℕ, List, length}
+use Rattle.std.specs.Prelude.{◌≡◌, ◌<◌, ◌⊎◌, ℕ, Some, List, length}
 use Rattle.go_outside.specs.Faults.{Told}
 use Rattle.go_outside.specs.Stores.{Contents}
 use Rattle.api_gate.specs.declared.status.Status.{Status}
 use Rattle.api_gate.specs.declared.status.Status.TheVariants as status
-use Rattle.api_gate.specs.declared.words.Request.{Request}
-use Rattle.api_gate.specs.Words.{IsRequest}
-use Rattle.api_gate.specs.reports.FixedLines.{read_line, write_line, memory_line}
+use Rattle.api_texts.specs.FixedLines.{memory_line, read_line, write_line}
+use Rattle.api_words.specs.Words.{IsRequest}
+use Rattle.api_words.specs.declared.request.Request.{Request}
 use Rattle.api_gate.specs.runs.Effects.{AnyFailed, Change, Effects, Failed, Took, TookSome}
-use Rattle.api_gate.specs.runs.Outcomes.{EndsWith, MayLoad, Outcome, fault_alone}
-use Rattle.go_load.specs.Loads.{LoadsModule}
+use Rattle.api_gate.specs.runs.Outcomes.{EndsWith, Outcome, fault_alone}
 
--- what a run may write: what the definitions give for the words and an answer that the load may give over the store; for
--- good words that the store failed, where it did; and at any time that no memory was left
+-- what a run may write: what the definitions give for the words over the store; for good words that the store failed, where it did; and at any
+-- time that no memory was left
 pub data MayWrite (words : List (List ℕ)) (store : Change Contents) : Outcome → Type 0 where
-  defined : {o : Outcome} → EndsWith words (MayLoad store.told_before) o → MayWrite words store o
+  defined : {o : Outcome} → EndsWith words store.told_before o → MayWrite words store o
   store_failed : (r : Request) → IsRequest words r → Failed store → MayWrite words store (fault_alone status.ReadFault read_line)
   no_memory : MayWrite words store (fault_alone status.NoMemory memory_line)
 
@@ -44,4 +43,4 @@ Ends words run got = (o : Outcome) × MayWrite words run.store o × Delivers o r
 -- or no memory was left
 abbrev pub IsComplete : List (List ℕ) → Effects → Status → Type 0
 IsComplete words run got =
-    Told run.store.told_before (λ m. (o : Outcome) → EndsWith words (LoadsModule m) o → (AnyFailed run → ⊥) → Writes o run.output run.error_output got ⊎ (got ≡ status.NoMemory))
+    Told run.store.told_before (λ m. (o : Outcome) → EndsWith words (Some m) o → (AnyFailed run → ⊥) → Writes o run.output run.error_output got ⊎ (got ≡ status.NoMemory))

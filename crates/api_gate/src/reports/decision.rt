@@ -1,12 +1,16 @@
 //! What a run is to write, before a byte of it is written.
 use crate::status::Status;
+use api_inputs::inputs::InputError;
+use api_texts::fixed::{memory_line, read_line, words_line};
 use go_base::text::Text;
 
 /// What a run is to write.
 #[derive(Debug, Drop)]
 pub enum Decision {
-    /// The whole report.
+    /// The whole report, in which nothing is lost.
     Report(Text),
+    /// The whole report, in which a line is lost.
+    Broken(Text),
     /// The words aren't good.
     Words,
     /// The input is refused, with this fault line.
@@ -17,16 +21,20 @@ pub enum Decision {
     NoMemory,
 }
 
-const WORDS_LINE: &[u8] =
-    b"apigate: usage: apigate features or frozen or judge or advise or gate or vet or make, then options\n";
-
-const READ_LINE: &[u8] = b"apigate: read fault\n";
-
-const MEMORY_LINE: &[u8] = b"apigate: out of memory\n";
-
 impl Decision {
     ghost use Rattle.std.specs.Prelude.{◌≡◌};
-    ghost use Rattle.api_gate.specs.inner.Decisions.{outcome_of};
+    ghost use Rattle.api_gate.specs.inner.Decisions.{decision_of, outcome_of};
+
+    /// What is decided where a run isn't given what it reads.
+    pub(crate) fn unread(error: InputError) -> Decision
+        ensures { result ≡ decision_of error }
+    {
+        match error {
+            InputError::Refused(line) => Decision::Refused(line),
+            InputError::ReadFault => Decision::ReadFault,
+            InputError::NoMemory => Decision::NoMemory,
+        }
+    }
 
     /// What goes to the output.
     pub fn output(&self) -> &[u8]
@@ -34,6 +42,7 @@ impl Decision {
     {
         match self {
             Decision::Report(text) => text.bytes(),
+            Decision::Broken(text) => text.bytes(),
             _ => b"",
         }
     }
@@ -44,10 +53,11 @@ impl Decision {
     {
         match self {
             Decision::Report(_) => b"",
-            Decision::Words => WORDS_LINE,
+            Decision::Broken(_) => b"",
+            Decision::Words => words_line(),
             Decision::Refused(line) => line.bytes(),
-            Decision::ReadFault => READ_LINE,
-            Decision::NoMemory => MEMORY_LINE,
+            Decision::ReadFault => read_line(),
+            Decision::NoMemory => memory_line(),
         }
     }
 
@@ -57,6 +67,7 @@ impl Decision {
     {
         match self {
             Decision::Report(_) => Status::Pass,
+            Decision::Broken(_) => Status::Broken,
             Decision::Words => Status::Words,
             Decision::Refused(_) => Status::Refused,
             Decision::ReadFault => Status::ReadFault,

@@ -7,12 +7,13 @@ ghost use Rattle.api_gate.specs.runs.Runs.{Delivers};
 
 use crate::reports::decision::Decision;
 use crate::status::Status;
+use api_texts::fixed::write_line;
 use go_outside::sink::{Sink, SinkError};
 
 /// The most bytes that are written at once.
 pub const PIECE: usize = 65_536;
 
-const WRITE_LINE: &[u8] = b"apigate: write fault\n";
+
 
 // The one write: no piece is empty, and none is longer than `PIECE`.
 fn write_piece<S: Sink>(sink: &mut S, piece: &[u8]) -> Result<(), SinkError>
@@ -53,7 +54,7 @@ pub fn deliver<S: Sink, E: Sink>(out: &mut S, err: &mut E, decision: &Decision) 
     ensures error_output { NeverFell (change E.told E.faults err.old err.new) }
 {
     if let Err(_) = write_pieces(out, decision.output()) {
-        let _tried = write_pieces(err, WRITE_LINE);
+        let _tried = write_pieces(err, write_line());
         return Status::WriteFault;
     }
     if let Err(_) = write_pieces(err, decision.fault_line()) {

@@ -1,5 +1,0 @@
-use Rattle.api_gate.proofs.Settings.{same_request}
-use Rattle.api_gate.proofs.laws.one_request.Goals as goal
-
-pub returns : goal.returns
-returns c = same_request c.one_platform.ensures

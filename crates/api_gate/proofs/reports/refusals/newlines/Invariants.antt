@@ -1,5 +1,0 @@
-use Rattle.api_gate.proofs.LinesAndColumns.{Counted}
-use Rattle.api_gate.proofs.reports.refusals.newlines.Given as goal
-
-abbrev pub invariant-loop-byte : goal.invariant-loop-byte
-invariant-loop-byte l = Counted l.bytes l.byte-index l.count

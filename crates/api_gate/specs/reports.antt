@@ -1,3 +1,0 @@
-pub mod Features
-pub mod FixedLines
-pub mod Refusals

@@ -1,4 +1,0 @@
-pub mod ChosenFiles
-pub mod Constants
-pub mod Outlines
-pub mod Sources

@@ -1,0 +1,2 @@
+pub mod FrozenLists
+pub mod InputAnswers

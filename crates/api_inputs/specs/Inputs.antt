@@ -1,0 +1,47 @@
+-- What a run reads for a request, and why it is refused before a platform is taken: the module's tree, the standard library's, the files of
+-- frozen lines in the order given, and the exceptions, in this order.
+-- Own: this project's inputs.
+use Rattle.std.specs.Prelude.{ℕ, Option, Some, None, List, [], ◌∷◌, Result, Ok, Err}
+use Rattle.api_inputs.specs.FrozenInputs.{AreLines, IsFirstFault}
+use Rattle.api_inputs.specs.Reads.{MayHaveStd, MayLoad}
+use Rattle.api_inputs.specs.declared.inputs.InputError.{InputError}
+use Rattle.api_inputs.specs.declared.inputs.InputError.TheVariants as error
+use Rattle.api_inputs.specs.declared.inputs.Inputs.{Inputs}
+use Rattle.api_texts.specs.FaultLines.{frozen_line, load_line}
+use Rattle.api_texts.specs.declared.lines.FrozenFault.{FrozenFault}
+use Rattle.api_texts.specs.declared.lines.Side.TheVariants as side
+use Rattle.api_words.specs.declared.request.Request.{Request}
+use Rattle.go_load.specs.Answers.{IsFree}
+use Rattle.go_load.specs.declared.error.LoadError.{LoadError}
+use Rattle.go_model.specs.declared.files.tree.Tree.{Tree}
+use Rattle.go_outside.specs.Faults.{Rose}
+use Rattle.go_outside.specs.Stores.{Contents}
+
+-- a text that may be there, as a list
+abbrev pub optional : Option (List ℕ) → List (List ℕ)
+optional None = []
+optional (Some text) = text ∷ []
+
+module _ (told : Option Contents) (r : Request) where
+  -- the trees and lines for which the request asks
+  pub record AreInputs (i : Inputs) : Type 0 where
+    pub tree : MayLoad told r.new (Ok i.tree)
+    pub std_tree : MayHaveStd told r.std (Ok i.std_tree)
+    pub required : AreLines told r.api i.required
+    pub exceptions : AreLines told (optional r.except) i.exceptions
+
+  -- the fault line of the first of them that is refused
+  pub data IsInputRefusal : List ℕ → Type 0 where
+    tree_refused : (e : LoadError) → MayLoad told r.new (Err e) → (IsFree (Err e) → ⊥) → IsInputRefusal (load_line side.New e)
+    std_refused : (t : Tree) (e : LoadError) → MayLoad told r.new (Ok t) → MayHaveStd told r.std (Err e) → (IsFree (Err e) → ⊥) → IsInputRefusal (load_line side.Std e)
+    api_refused : (t s : Tree) (path : List ℕ) (f : FrozenFault) → MayLoad told r.new (Ok t) → MayHaveStd told r.std (Ok s) → IsFirstFault told r.api path f → IsInputRefusal (frozen_line path f)
+    except_refused : (t s : Tree) (lines : List (List ℕ)) (path : List ℕ) (f : FrozenFault) → MayLoad told r.new (Ok t) → MayHaveStd told r.std (Ok s) → AreLines told r.api lines
+        → IsFirstFault told (optional r.except) path f → IsInputRefusal (frozen_line path f)
+
+-- the inputs, or the fault line of the first that is refused; the store failed where the count of its faults rose; want of memory may come at
+-- any time
+abbrev pub AnswersInputs : Option Contents → Request → ℕ → ℕ → Result Inputs InputError → Type 0
+AnswersInputs told r before now (Ok i) = AreInputs told r i
+AnswersInputs told r before now (Err (error.Refused line)) = IsInputRefusal told r line
+AnswersInputs told r before now (Err error.ReadFault) = Rose before now
+AnswersInputs told r before now (Err error.NoMemory) = Unit {0}

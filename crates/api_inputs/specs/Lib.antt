@@ -1,0 +1,4 @@
+pub mod FrozenInputs
+pub mod Inputs
+pub mod Reads
+pub mod inner

@@ -1,0 +1,170 @@
+//! What a run reads for a request.
+ghost use Rattle.std.specs.Prelude.{◌≡◌, ◌≤◌};
+ghost use Rattle.api_inputs.specs.Reads.{NeverFell};
+ghost use Rattle.api_inputs.specs.inner.Answers.{AnswersFiles, AnswersFrozen, AnswersOthers, inputs_of};
+ghost use Rattle.api_inputs.specs.Inputs.{AnswersInputs, optional};
+ghost use Rattle.std.specs.Option.{option_copied};
+
+use crate::frozen::{read_files, read_one};
+use crate::trees::{module_tree, std_tree};
+use api_words::request::Request;
+use go_base::list::List;
+use go_base::text::Text;
+use go_model::files::tree::Tree;
+use go_outside::files::Files;
+use std::alloc::Global;
+
+/// What a run reads.
+#[derive(Debug, Drop)]
+pub struct Inputs {
+    /// The tree of the module.
+    pub tree: Tree,
+    /// The tree of the standard library, without files where no folder is given.
+    pub std_tree: Tree,
+    /// The lines of all files of frozen lines.
+    pub required: List<Text>,
+    /// The lines of the file of exceptions.
+    pub exceptions: List<Text>,
+}
+
+/// Why a run isn't given what it reads.
+#[derive(Debug, Drop)]
+pub enum InputError {
+    /// It is refused, with this fault line.
+    Refused(Text),
+    /// The store failed.
+    ReadFault,
+    NoMemory,
+}
+
+fn read_exceptions<F: Files>(
+    alloc: Global,
+    files: &mut F,
+    path: Option<&Text>,
+) -> Result<List<Text>, InputError>
+    ensures same { F.told files.new ≡ F.told files.old }
+    ensures answer { AnswersFiles (F.told files.old) (optional (option_copied path.entry)) (F.faults files.old) (F.faults files.new) result }
+    ensures count { NeverFell (F.faults files.old) (F.faults files.new) }
+{
+    match path {
+        None => Ok(List::new(alloc)),
+        Some(path) => read_one(alloc, files, path.bytes()),
+    }
+}
+
+// The lines of the files of frozen lines, and those of the exceptions.
+struct FrozenInputs {
+    required: List<Text>,
+    exceptions: List<Text>,
+}
+
+impl Drop for FrozenInputs {
+    fn drop(self) {
+        let FrozenInputs {
+            required: _,
+            exceptions: _,
+        } = self;
+    }
+}
+
+impl FrozenInputs {
+    fn with_trees(self, tree: Tree, std_tree: Tree) -> Inputs
+        ensures { result ≡ record { tree = tree; std_tree = std_tree; required = self.required; exceptions = self.exceptions } }
+    {
+        let FrozenInputs {
+            required,
+            exceptions,
+        } = self;
+        Inputs {
+            tree,
+            std_tree,
+            required,
+            exceptions,
+        }
+    }
+}
+
+fn read_frozen<F: Files>(
+    alloc: Global,
+    files: &mut F,
+    request: &Request,
+) -> Result<FrozenInputs, InputError>
+    ensures same { F.told files.new ≡ F.told files.old }
+    ensures answer { AnswersFrozen (F.told files.old) request.now (F.faults files.old) (F.faults files.new) result }
+    ensures count { NeverFell (F.faults files.old) (F.faults files.new) }
+{
+    match read_files(alloc, files, request.api.items()) {
+        Err(error) => Err(error),
+        Ok(required) => match read_exceptions(alloc, files, request.except.as_ref()) {
+            Err(error) => Err(error),
+            Ok(exceptions) => Ok(FrozenInputs {
+                required,
+                exceptions,
+            }),
+        },
+    }
+}
+
+// What is read besides the module's tree.
+struct Others {
+    std_tree: Tree,
+    frozen: FrozenInputs,
+}
+
+impl Drop for Others {
+    fn drop(self) {
+        let Others {
+            std_tree: _,
+            frozen: _,
+        } = self;
+    }
+}
+
+impl Others {
+    fn with_tree(self, tree: Tree) -> Inputs
+        ensures { result ≡ inputs_of tree self }
+    {
+        let Others { std_tree, frozen } = self;
+        frozen.with_trees(tree, std_tree)
+    }
+}
+
+fn read_others<F: Files>(
+    alloc: Global,
+    files: &mut F,
+    request: &Request,
+) -> Result<Others, InputError>
+    ensures same { F.told files.new ≡ F.told files.old }
+    ensures answer { AnswersOthers (F.told files.old) request.now (F.faults files.old) (F.faults files.new) result }
+    ensures count { NeverFell (F.faults files.old) (F.faults files.new) }
+{
+    match std_tree(alloc, files, request.std.as_ref()) {
+        Err(error) => Err(error),
+        Ok(std_tree) => match read_frozen(alloc, files, request) {
+            Err(error) => Err(error),
+            Ok(frozen) => Ok(Others { std_tree, frozen }),
+        },
+    }
+}
+
+/// What a run reads for a request: the tree of the module and that of the standard library, and then the files of frozen
+/// lines in the order given and the file of exceptions. Else the fault line of the first of them that is refused: a tree that
+/// isn't loaded, or a file that isn't there, is larger than 16,777,216 bytes, isn't UTF-8 or has a line that is neither skipped
+/// nor a feature line. In place of these may come `ReadFault`, only where the store failed, and `NoMemory`, at any time.
+pub fn read_inputs<F: Files>(
+    alloc: Global,
+    files: &mut F,
+    request: &Request,
+) -> Result<Inputs, InputError>
+    ensures same { F.told files.new ≡ F.told files.old }
+    ensures answer { AnswersInputs (F.told files.old) request.now (F.faults files.old) (F.faults files.new) result }
+    ensures count { NeverFell (F.faults files.old) (F.faults files.new) }
+{
+    match module_tree(alloc, files, request.new.bytes()) {
+        Err(error) => Err(error),
+        Ok(tree) => match read_others(alloc, files, request) {
+            Err(error) => Err(error),
+            Ok(others) => Ok(others.with_tree(tree)),
+        },
+    }
+}

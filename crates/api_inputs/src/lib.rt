@@ -1,0 +1,6 @@
+//! What a run reads: trees, and files of frozen lines.
+#![tactic(auto)]
+
+mod frozen;
+pub mod inputs;
+mod trees;

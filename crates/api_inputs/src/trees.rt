@@ -1,0 +1,76 @@
+//! Loading the trees of a run.
+ghost use Rattle.std.specs.Prelude.{◌≡◌, ◌≤◌};
+ghost use Rattle.api_inputs.specs.Reads.{MayHaveStd, MayLoad, MayLoadStd, NeverFell};
+ghost use Rattle.api_inputs.specs.inner.Answers.{AnswersTree, IsToldAs};
+ghost use Rattle.api_texts.specs.declared.lines.Side.TheVariants as side;
+ghost use Rattle.std.specs.Option.{option_copied};
+
+use crate::inputs::InputError;
+use api_texts::lines::{Side, load_line};
+use go_base::list::List;
+use go_base::memory::NoMemory;
+use go_base::text::Text;
+use go_load::error::LoadError;
+use go_load::load::{load_module, load_std};
+use go_model::files::tree::Tree;
+use go_outside::files::Files;
+use std::alloc::Global;
+
+fn told_as(alloc: Global, side: Side, error: &LoadError) -> InputError
+    ensures { IsToldAs side error.now result }
+{
+    match error {
+        LoadError::ReadFault => InputError::ReadFault,
+        LoadError::NoMemory => InputError::NoMemory,
+        _ => match load_line(alloc, side, error) {
+            Ok(line) => InputError::Refused(line),
+            Err(NoMemory) => InputError::NoMemory,
+        },
+    }
+}
+
+/// The tree of the module, or the fault line of its refusal.
+pub(crate) fn module_tree<F: Files>(
+    alloc: Global,
+    files: &mut F,
+    root: &[u8],
+) -> Result<Tree, InputError>
+    ensures same { F.told files.new ≡ F.told files.old }
+    ensures answer { AnswersTree (MayLoad (F.told files.old) root.now) side.New (F.faults files.old) (F.faults files.new) result }
+    ensures count { NeverFell (F.faults files.old) (F.faults files.new) }
+{
+    match load_module(alloc, files, root) {
+        Ok(tree) => Ok(tree),
+        Err(error) => Err(told_as(alloc, Side::New, &error)),
+    }
+}
+
+fn loaded_std<F: Files>(alloc: Global, files: &mut F, root: &[u8]) -> Result<Tree, InputError>
+    ensures same { F.told files.new ≡ F.told files.old }
+    ensures answer { AnswersTree (MayLoadStd (F.told files.old) root.now) side.Std (F.faults files.old) (F.faults files.new) result }
+    ensures count { NeverFell (F.faults files.old) (F.faults files.new) }
+{
+    match load_std(alloc, files, root) {
+        Ok(tree) => Ok(tree),
+        Err(error) => Err(told_as(alloc, Side::Std, &error)),
+    }
+}
+
+/// The tree of the standard library, without files where no folder is given, or the fault line of its refusal.
+pub(crate) fn std_tree<F: Files>(
+    alloc: Global,
+    files: &mut F,
+    root: Option<&Text>,
+) -> Result<Tree, InputError>
+    ensures same { F.told files.new ≡ F.told files.old }
+    ensures answer { AnswersTree (MayHaveStd (F.told files.old) (option_copied root.entry)) side.Std (F.faults files.old) (F.faults files.new) result }
+    ensures count { NeverFell (F.faults files.old) (F.faults files.new) }
+{
+    match root {
+        Some(root) => loaded_std(alloc, files, root.bytes()),
+        None => Ok(Tree {
+            module: Text::from_vec(Vec::new(alloc)),
+            files: List::new(alloc),
+        }),
+    }
+}

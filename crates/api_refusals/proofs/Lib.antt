@@ -1,0 +1,3 @@
+pub mod FileBytes
+pub mod LinesAndColumns
+pub mod ListRests

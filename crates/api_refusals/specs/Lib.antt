@@ -1,0 +1,4 @@
+pub mod PackageFaults
+pub mod Places
+pub mod Refusals
+pub mod inner

@@ -1,0 +1,5 @@
+//! The fault lines of what is refused on a platform.
+#![tactic(auto)]
+
+mod places;
+pub mod refusals;

@@ -1,0 +1,4 @@
+//! The texts of reports.
+#![tactic(auto)]
+
+pub mod reports;

@@ -1,0 +1,104 @@
+//! Modes and their options.
+ghost use Rattle.std.specs.Prelude.{◌≡◌, ◌⊎◌, Decides, MatchOption};
+ghost use Rattle.go_base.specs.Lists.{Has};
+ghost use Rattle.api_words.specs.Options.{needs, permits, spelling, word_of};
+ghost use Rattle.api_words.specs.declared.option_name.Mode.{Mode};
+ghost use Rattle.api_words.specs.declared.option_name.OptionName.{OptionName};
+
+/// What a run is to report.
+#[derive(Clone, Copy, Debug, PartialEq, Eq)]
+pub enum Mode {
+    /// The features of a module.
+    Features,
+    /// What a module lost and gained against frozen lines.
+    Frozen,
+}
+
+/// An option of some mode.
+#[derive(Clone, Copy, Debug, PartialEq, Eq)]
+pub enum OptionName {
+    New,
+    Std,
+    Platforms,
+    Workers,
+    Api,
+    Except,
+}
+
+impl Mode {
+    /// The options that have to be given in this mode.
+    pub(crate) fn needs(self) -> &'static [OptionName]
+        ensures { result.now ≡ needs self }
+    {
+        match self {
+            Mode::Features => &[OptionName::New],
+            Mode::Frozen => &[OptionName::New, OptionName::Api],
+        }
+    }
+
+    /// The options that may be given besides.
+    pub(crate) fn permits(self) -> &'static [OptionName]
+        ensures { result.now ≡ permits self }
+    {
+        match self {
+            Mode::Features => &[OptionName::Std, OptionName::Platforms, OptionName::Workers],
+            Mode::Frozen => &[
+                OptionName::Except,
+                OptionName::Std,
+                OptionName::Platforms,
+                OptionName::Workers,
+            ],
+        }
+    }
+}
+
+/// The mode that a word names, or `None`.
+pub(crate) fn mode_of(word: &[u8]) -> Option<Mode>
+    ensures { MatchOption result ((mode : Mode) → word.now ≡ word_of mode → ⊥) (λ mode. word.now ≡ word_of mode) }
+{
+    if word == b"features".as_slice() {
+        return Some(Mode::Features);
+    }
+    if word == b"frozen".as_slice() {
+        return Some(Mode::Frozen);
+    }
+    None
+}
+
+/// The option that a word spells, or `None`.
+pub(crate) fn option_of(word: &[u8]) -> Option<OptionName>
+    ensures { MatchOption result ((name : OptionName) → word.now ≡ spelling name → ⊥) (λ name. word.now ≡ spelling name) }
+{
+    if word == b"--new".as_slice() {
+        return Some(OptionName::New);
+    }
+    if word == b"--std".as_slice() {
+        return Some(OptionName::Std);
+    }
+    if word == b"--platforms".as_slice() {
+        return Some(OptionName::Platforms);
+    }
+    if word == b"--workers".as_slice() {
+        return Some(OptionName::Workers);
+    }
+    if word == b"--api".as_slice() {
+        return Some(OptionName::Api);
+    }
+    if word == b"--except".as_slice() {
+        return Some(OptionName::Except);
+    }
+    None
+}
+
+fn is_among(names: &[OptionName], name: OptionName) -> bool
+    ensures { Decides result (Has names.now name) }
+{
+    names.contains(&name)
+}
+
+/// Whether an option may be given in a mode.
+pub(crate) fn is_own(mode: Mode, name: OptionName) -> bool
+    ensures { Decides result (Has (needs mode) name ⊎ Has (permits mode) name) }
+{
+    is_among(mode.needs(), name) || is_among(mode.permits(), name)
+}

@@ -1,0 +1,2 @@
+pub mod PlatformAnswers
+pub mod PlatformLists

@@ -1,0 +1,3 @@
+pub mod FeatureLists
+pub mod PlatformWorlds
+pub mod inner

@@ -1,0 +1,6 @@
+//! What trees have on platforms: worlds, and the features in them.
+#![tactic(auto)]
+
+pub mod error;
+pub mod features;
+pub mod world;

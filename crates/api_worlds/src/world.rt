@@ -1,0 +1,138 @@
+//! The world of trees on a platform.
+ghost use Rattle.std.specs.Prelude.{◌≡◌, ◌≢◌, ◌≤◌, ◌+◌, ◌∷◌, [], length};
+ghost use Rattle.go_base.specs.Lists.{Has};
+ghost use Rattle.go_model.specs.files.Trees.{IsTree};
+ghost use Rattle.go_work.specs.Paths.{AreOfPackages};
+ghost use Rattle.api_worlds.specs.PlatformWorlds.{CountsAtMost};
+ghost use Rattle.api_worlds.specs.inner.Answers.{AnswersWorld};
+ghost use Rattle.api_worlds.specs.inner.PlatformSteps.{AnswersOfUnits, IsPackageRefusal, IsUnitRefusal, TellsFault};
+
+use crate::error::PlatformError;
+use api_refusals::refusals::{PackageFault, package_line, unit_line};
+use api_texts::lines::Side;
+use go_base::memory::NoMemory;
+use go_base::steps::Steps;
+use go_base::text::Text;
+use go_check::error::CheckError;
+use go_model::files::platform::Platform;
+use go_model::files::tree::Tree;
+use go_model::types::world::World;
+use go_outside::gate::Gate;
+use go_reading::laws::unit_paths;
+use go_reading::units::units;
+use go_units::unit::Unit;
+use go_units::unit_error::UnitError;
+use go_units::unit_list::Units;
+use go_work::error::WorkError;
+use go_work::world::world;
+use std::alloc::Global;
+
+fn refused_units(
+    alloc: Global,
+    side: Side,
+    platform: Platform,
+    tree: &Tree,
+    std_tree: &Tree,
+    error: &UnitError,
+) -> PlatformError
+    ensures { IsUnitRefusal tree.now std_tree.now side platform error.now result }
+{
+    match error {
+        UnitError::NoMemory => PlatformError::NoMemory,
+        _ => match unit_line(alloc, side, platform, tree, std_tree, error) {
+            Ok(line) => PlatformError::Refused(line),
+            Err(NoMemory) => PlatformError::NoMemory,
+        },
+    }
+}
+
+fn fault_of(error: CheckError) -> Option<PackageFault>
+    ensures { TellsFault error result }
+{
+    match error {
+        CheckError::Redeclared(place) => Some(PackageFault::Redeclared(place)),
+        CheckError::MissingImport(place) => Some(PackageFault::MissingImport(place)),
+        CheckError::Unsound(place) => Some(PackageFault::Unsound(place)),
+        CheckError::NoMemory => None,
+    }
+}
+
+fn refused_package(
+    alloc: Global,
+    side: Side,
+    platform: Platform,
+    tree: &Tree,
+    std_tree: &Tree,
+    units: &[Unit],
+    number: u32,
+    error: CheckError,
+) -> PlatformError
+    ensures { IsPackageRefusal tree.now std_tree.now side platform units.now number error result }
+{
+    match fault_of(error) {
+        None => PlatformError::NoMemory,
+        Some(fault) => match package_line(
+            alloc, side, platform, tree, std_tree, units, number, fault,
+        ) {
+            Ok(line) => PlatformError::Refused(line),
+            Err(NoMemory) => PlatformError::NoMemory,
+        },
+    }
+}
+
+fn world_of<G: Gate, L: Copy + Send>(
+    alloc: Global,
+    side: Side,
+    platform: Platform,
+    tree: &Tree,
+    std_tree: &Tree,
+    units: &Units,
+    gate: &G,
+    steps: &mut Steps<L>,
+) -> Result<World, PlatformError>
+    requires { AreOfPackages units.now.packages }
+    ensures answer { AnswersOfUnits tree.now std_tree.now side platform units.now result }
+    ensures steps { steps.new ≤ steps.old + length units.now.packages }
+{
+    match world(alloc, units, platform.int_bits(), gate, steps) {
+        Ok(world) => Ok(world),
+        Err(WorkError::NoMemory) => Err(PlatformError::NoMemory),
+        Err(WorkError::Refused(number, error)) => Err(refused_package(
+            alloc,
+            side,
+            platform,
+            tree,
+            std_tree,
+            units.packages.items(),
+            number,
+            error,
+        )),
+    }
+}
+
+/// The world of a module's tree over the standard library's on a platform, or the fault line of its first refusal: of its packages, and
+/// then of the first package in canonical order that isn't typed. The barred paths are those of the run's modules, that of this
+/// tree among them. The counter rises by at most the number of the packages.
+pub fn world_on<G: Gate, L: Copy + Send>(
+    alloc: Global,
+    side: Side,
+    tree: &Tree,
+    std_tree: &Tree,
+    barred: &[Text],
+    platform: Platform,
+    gate: &G,
+    steps: &mut Steps<L>,
+) -> Result<World, PlatformError>
+    requires tree { IsTree tree.now }
+    requires std { IsTree std_tree.now }
+    requires named { tree.now.module ≢ [] }
+    requires barred { Has barred.now tree.now.module }
+    ensures answer { AnswersWorld barred.now tree.now std_tree.now side platform result }
+    ensures steps { CountsAtMost barred.now tree.now std_tree.now (platform ∷ []) steps.old steps.new }
+{
+    unit_paths();
+    match units(alloc, tree, std_tree, barred, platform) {
+        Err(error) => Err(refused_units(alloc, side, platform, tree, std_tree, &error)),
+        Ok(units) => world_of(alloc, side, platform, tree, std_tree, &units, gate, steps),
+    }
+}

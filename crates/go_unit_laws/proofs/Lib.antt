@@ -1,0 +1,9 @@
+pub mod Acyclic
+pub mod OneAnswer
+pub mod OneFiles
+pub mod OneList
+pub mod OneRefusal
+pub mod OneUnit
+pub mod OneUses
+pub mod OneWalk
+pub mod Snocs
