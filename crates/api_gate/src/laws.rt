@@ -6,5 +6,4 @@ ghost use Rattle.api_gate.specs.runs.Outcomes.{EndsWith, Outcome};
 /// The definitions give at most one outcome for the words and the files.
 pub fn one_outcome()
     ensures { (words : List (List ℕ)) (m : Contents) (a b : Outcome) → EndsWith words (Some m) a → EndsWith words (Some m) b → a ≡ b }
-{
-}
+{}

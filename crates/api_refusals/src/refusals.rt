@@ -7,8 +7,8 @@ ghost use Rattle.api_refusals.specs.PackageFaults.{refusal_of};
 ghost use Rattle.api_refusals.specs.Refusals.{cause_text, file_name, file_place, file_text, is_outside, package_text, place_in, place_of, refusal_line, tree_of, unit_place, unit_text};
 ghost use Rattle.api_refusals.specs.inner.Files.{copied_file, copied_unit};
 
-use api_texts::lines::{Side, fault_line};
 use crate::places::{bytes_at, push_place};
+use api_texts::lines::{Side, fault_line};
 use go_base::memory::NoMemory;
 use go_base::text::Text;
 use go_model::files::platform::Platform;

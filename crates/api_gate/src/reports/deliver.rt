@@ -13,8 +13,6 @@ use go_outside::sink::{Sink, SinkError};
 /// The most bytes that are written at once.
 pub const PIECE: usize = 65_536;
 
-
-
 // The one write: no piece is empty, and none is longer than `PIECE`.
 fn write_piece<S: Sink>(sink: &mut S, piece: &[u8]) -> Result<(), SinkError>
     requires some { 0 < length piece.now }
