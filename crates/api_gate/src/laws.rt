@@ -3,7 +3,15 @@ ghost use Rattle.std.specs.Prelude.{◌≡◌, List, ℕ, Some};
 ghost use Rattle.go_outside.specs.Stores.{Contents};
 ghost use Rattle.api_gate.specs.runs.Outcomes.{EndsWith, Outcome};
 
+use api_inputs::laws::one_inputs;
+use api_words::laws::one_request;
+use api_worlds::laws::one_features;
+
 /// The definitions give at most one outcome for the words and the files.
 pub fn one_outcome()
     ensures { (words : List (List ℕ)) (m : Contents) (a b : Outcome) → EndsWith words (Some m) a → EndsWith words (Some m) b → a ≡ b }
-{}
+{
+    one_request();
+    one_inputs();
+    one_features();
+}

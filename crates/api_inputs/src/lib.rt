@@ -3,4 +3,5 @@
 
 mod frozen;
 pub mod inputs;
+pub mod laws;
 mod trees;

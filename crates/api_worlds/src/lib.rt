@@ -3,4 +3,5 @@
 
 pub mod error;
 pub mod features;
+pub mod laws;
 pub mod world;

@@ -1,0 +1,76 @@
+-- On a platform trees have one world or one refusal.
+use Rattle.std.proofs.Common.{◌≡◌, ◌≢◌, ℕ, zero, suc, Option, None, Some, List, [], ◌∷◌, ◌++◌, map, Ok, Err, refl, sym, ap, ◌∙◌, subst}
+use Rattle.std.specs.Prelude.{slice_get}
+use Rattle.api_refusals.specs.Refusals.{cause_text, file_place, package_text, place_of, refusal_line, unit_place, unit_text}
+use Rattle.api_texts.specs.declared.lines.Side.{Side}
+use Rattle.api_worlds.specs.PlatformWorlds.{AreUnitsOn, IsRefusedOn, packages_refused, package_refused, IsWorldOn, sources_of}
+use Rattle.go_model.specs.declared.files.platform.Platform.{Platform}
+use Rattle.go_model.specs.declared.files.tree.Tree.{Tree}
+use Rattle.go_model.specs.files.Platforms.{bits_of}
+use Rattle.go_model.specs.worlds.Worlds.{Packages}
+use Rattle.go_reading.specs.TreeUnits.{AreUnitsOfTrees}
+use Rattle.go_sources.specs.UnitSources.{file_of, source_of}
+use Rattle.go_syntax.specs.declared.name.Place.{Place}
+use Rattle.go_typings.specs.PackageWorlds.{IsFirstRefused, IsWorldOf}
+use Rattle.go_typings.specs.Refusals.{Refusal}
+use Rattle.go_typings.specs.Sources.{PackageSource}
+use Rattle.go_unit_laws.specs.WrittenUnits.{Written, written}
+use Rattle.go_units.specs.declared.unit.«Unit».{«Unit» as PackageUnit}
+use Rattle.go_units.specs.declared.unit_error.UnitError.{UnitError}
+use Rattle.go_units.specs.declared.unit_error.UnitError.TheVariants as error
+use Rattle.go_units.specs.declared.unit_list.Units.{Units}
+
+-- ---- what depends on what is written of units alone
+
+source_by : Written → PackageSource
+source_by w = record { path = w.path; name = w.name; from_std = w.from_std; files = map file_of w.files }
+
+sources_by : (us : List PackageUnit) → map source_of us ≡ map source_by (map written us)
+unfolding source_by
+sources_by [] = refl
+sources_by (u ∷ us) = ap (λ (ss : List PackageSource). source_of u ∷ ss) (sources_by us)
+
+pub same_sources : (us vs : List PackageUnit) → map written us ≡ map written vs → map source_of us ≡ map source_of vs
+same_sources us vs e = sources_by us ∙ ap (map source_by) e ∙ sym (sources_by vs)
+
+module _ (tree std_tree : Tree) where
+  place_by : Option Written → Place → List ℕ
+  place_by None place = []
+  place_by (Some w) place = file_place tree std_tree w.from_std (slice_get w.files place.file) place.offset
+
+  unit_place_by : (us : List PackageUnit) (n : ℕ) (place : Place) → unit_place tree std_tree (slice_get us n) place ≡ place_by (slice_get (map written us) n) place
+  unfolding place_by
+  unit_place_by [] n place = refl
+  unit_place_by (u ∷ us) zero place = refl
+  unit_place_by (u ∷ us) (suc n) place = unit_place_by us n place
+
+  pub same_text : (us vs : List PackageUnit) (n : ℕ) (r : Refusal) → map written us ≡ map written vs → package_text tree std_tree us n r ≡ package_text tree std_tree vs n r
+  same_text us vs n r e =
+      ap (λ (w : List ℕ). w ++ cause_text r) (unit_place_by us n (place_of r) ∙ ap (λ (ws : List Written). place_by (slice_get ws n) (place_of r)) e ∙ sym (unit_place_by vs n (place_of r)))
+
+-- ---- worlds and refusals
+
+module _ (one_units : (p : Platform) (barred : List (List ℕ)) (tree std_tree : Tree) (a b : Units) → AreUnitsOfTrees p barred tree std_tree (Ok a) → AreUnitsOfTrees p barred tree std_tree (Ok b) → map written a.packages ≡ map written b.packages)
+    (one_error : (p : Platform) (barred : List (List ℕ)) (tree std_tree : Tree) (d e : UnitError) → d ≢ error.NoMemory → e ≢ error.NoMemory → AreUnitsOfTrees p barred tree std_tree (Err d) → AreUnitsOfTrees p barred tree std_tree (Err e) → d ≡ e)
+    (apart : (p : Platform) (barred : List (List ℕ)) (tree std_tree : Tree) (a : Units) (e : UnitError) → e ≢ error.NoMemory → AreUnitsOfTrees p barred tree std_tree (Ok a) → AreUnitsOfTrees p barred tree std_tree (Err e) → ⊥)
+    (one_world : (bits : ℕ) (us : List PackageSource) (v w : Packages) → IsWorldOf bits us v → IsWorldOf bits us w → v ≡ w)
+    (one_refusal : (bits : ℕ) (us : List PackageSource) (m n : ℕ) (q r : Refusal) → IsFirstRefused bits us m q → IsFirstRefused bits us n r → (m ≡ n) × (q ≡ r))
+    (world_or : (bits : ℕ) (us : List PackageSource) (w : Packages) (n : ℕ) (r : Refusal) → IsWorldOf bits us w → IsFirstRefused bits us n r → ⊥)
+    (barred : List (List ℕ)) (tree std_tree : Tree) (p : Platform) where
+  shared : (a b : Units) → AreUnitsOn barred tree std_tree p a → AreUnitsOn barred tree std_tree p b → sources_of a ≡ sources_of b
+  shared a b s t = same_sources a.packages b.packages (one_units p barred tree std_tree a b s t)
+
+  pub same_world : (v w : Packages) → IsWorldOn barred tree std_tree p v → IsWorldOn barred tree std_tree p w → v ≡ w
+  same_world v w a b = one_world (bits_of p) (sources_of b.0) v w (subst (λ (us : List PackageSource). IsWorldOf (bits_of p) us v) (shared a.0 b.0 a.1 b.1) a.2) b.2
+
+  pub same_refusal : (s : Side) (x y : List ℕ) → IsRefusedOn barred tree std_tree s p x → IsRefusedOn barred tree std_tree s p y → x ≡ y
+  same_refusal s x y (packages_refused d n a) (packages_refused e m b) = ap (λ (f : UnitError). refusal_line s p (unit_text tree std_tree f)) (one_error p barred tree std_tree d e n m a b)
+  same_refusal s x y (packages_refused d n a) (package_refused units k r b f) = absurd (apart p barred tree std_tree units d n b a)
+  same_refusal s x y (package_refused units k r a f) (packages_refused e m b) = absurd (apart p barred tree std_tree units e m a b)
+  same_refusal s x y (package_refused units k r a f) (package_refused others l q b g) =
+      let same = one_refusal (bits_of p) (sources_of others) k l r q (subst (λ (us : List PackageSource). IsFirstRefused (bits_of p) us k r) (shared units others a b) f) g in
+      ap (refusal_line s p) (same_text tree std_tree units.packages others.packages k r (one_units p barred tree std_tree units others a b) ∙ (λ i. package_text tree std_tree others.packages (same.0 i) (same.1 i)))
+
+  pub world_or_refusal : (s : Side) (w : Packages) (line : List ℕ) → IsWorldOn barred tree std_tree p w → IsRefusedOn barred tree std_tree s p line → ⊥
+  world_or_refusal s w line a (packages_refused e n b) = apart p barred tree std_tree a.0 e n a.1 b
+  world_or_refusal s w line a (package_refused units n r b f) = world_or (bits_of p) (sources_of units) w n r (subst (λ (us : List PackageSource). IsWorldOf (bits_of p) us w) (shared a.0 units a.1 b) a.2) f
