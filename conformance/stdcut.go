@@ -1,11 +1,11 @@
 // Compares a folder that tools/stdcut cut with Go's own packages, which it reads through go/importer, on the platform of GOOS and
 // GOARCH. Its words are the folder, a file with what stdcut told, and then folders of modules; `stubs`, a folder that is to serve
-// instead of the cut one, and a module; or `whole` and import paths of which all has to be there. It prints lines with a tab: `wrong` and what differs, `count` and what was compared, and
+// instead of the cut one, and a module; `client`, a client's folder and its module; or `whole` and import paths of which all has to
+// be there. It prints lines with a tab: `wrong` and what differs, `count` and what was compared, and
 // `cut`, `real` or `stubs` before each feature line of the modules.
 package main
 
 import (
-	"bytes"
 	"fmt"
 	"go/ast"
 	"go/build"
@@ -65,13 +65,18 @@ func (f *folder) Import(path string) (*types.Package, error) {
 	return f.known[path], nil
 }
 
-var noSuchName = regexp.MustCompile(`: (?:undeclared name: (\w+)|(\w+) not declared by package (\w+))$`)
+var noSuchName = regexp.MustCompile(`: (?:(\w+) not declared by package (\w+)|undefined: (\w+)\.(\w+))$`)
 
-// error tells an error of typing, unless it is for want of a name that stdcut told to be dropped.
+// error tells an error of typing. None is want of a name that stdcut told to be dropped, nor of an import: where a module uses it, its
+// features show that.
 func (f *folder) error(path string, err error) {
+	if f.next != nil && strings.Contains(err.Error(), ": could not import ") {
+		counts["imports that a module doesn't use"]++
+		return
+	}
 	if found := noSuchName.FindStringSubmatch(err.Error()); found != nil {
 		for line := range told {
-			if strings.HasPrefix(line, "dropped ") && strings.HasSuffix(line, found[3]+"."+found[2]) {
+			if strings.HasPrefix(line, "dropped ") && strings.HasSuffix(line, found[2]+found[3]+"."+found[1]+found[4]) {
 				counts["names that a module misses since they are dropped"]++
 				return
 			}
@@ -384,12 +389,26 @@ func (w *world) compareImplementing() {
 	}
 }
 
-// tellFeatures prints the feature lines of a module over what the importer gives.
-func tellFeatures(side, top string, next types.Importer) {
+// moduleAt is the module in a folder, over what the importer gives.
+func moduleAt(top string, next types.Importer) *folder {
 	text, err := os.ReadFile(filepath.Join(top, "go.mod"))
 	fail(err)
-	path := strings.TrimSpace(strings.TrimPrefix(string(bytes.SplitN(text, []byte("\n"), 2)[0]), "module"))
-	module := &folder{top: top, path: path, next: next, known: map[string]*types.Package{}}
+	return &folder{top: top, path: moduleLine.FindStringSubmatch(string(text))[1], next: next, known: map[string]*types.Package{}}
+}
+
+var moduleLine = regexp.MustCompile(`(?m)^module "?([^"\s]+)`)
+
+// typeClient types a client whole, over a module that is typed over what the importer gives.
+func typeClient(top, module string, next types.Importer) {
+	over := moduleAt(module, next)
+	settings := types.Config{Importer: over, Sizes: sizes, Error: func(err error) { wrong("client: %v", err) }}
+	settings.Check("client", files, over.trees(top), nil)
+	counts["clients"]++
+}
+
+// tellFeatures prints the feature lines of a module over what the importer gives.
+func tellFeatures(side, top string, next types.Importer) {
+	module := moduleAt(top, next)
 	for _, path := range module.paths() {
 		pack, err := module.Import(path)
 		fail(err)
@@ -429,6 +448,11 @@ func main() {
 				world.compareWhole(pack)
 			}
 			words = words[1:]
+			continue
+		}
+		if words[0] == "client" {
+			typeClient(words[1], words[2], cut)
+			words = words[2:]
 			continue
 		}
 		if words[0] == "stubs" {

@@ -21,15 +21,32 @@ type cut struct {
 	kept    map[types.Object]*declaration
 	lines   map[string]bool   // what was dropped or replaced, and why
 	files   map[string]string // the text of each package, by its path
+	wants   bool              // whether something that a module names was dropped
 }
 
-func (c *cut) aliasOf(field *types.Var) *types.TypeName {
+// embeddedAs is the name by which a field is embedded, if that is known.
+func (c *cut) embeddedAs(field *types.Var) *types.TypeName {
 	if unit := c.units[field.Pkg()]; unit != nil {
-		return unit.aliases[field]
+		return unit.embedded[field]
 	}
 	return nil
 }
 
+// aliasHere is an alias of a type that may be named in a package, in one of those that this imports.
+func (c *cut) aliasHere(here *types.Package, of types.Object) types.Object {
+	unit := c.units[here]
+	if unit == nil {
+		return nil
+	}
+	for _, below := range unit.imports {
+		if object := below.aliasesOf()[of]; object != nil && barred(here.Path(), object) == "" && c.dropped[object] == "" {
+			return object
+		}
+	}
+	return nil
+}
+
+// written is the right side of a type declaration.
 func (c *cut) written(object types.Object) types.Type {
 	if unit := c.units[object.Pkg()]; unit != nil {
 		return unit.written[object]
@@ -37,8 +54,9 @@ func (c *cut) written(object types.Object) types.Type {
 	return nil
 }
 
-// cutOut gives the files that the packages `named` need so that `roots` mean what they do.
-func cutOut(l *loader, trees []*tree, named []*unit, roots []types.Object) *cut {
+// cutOut gives files for the packages `units` and all others that are wanted so that the objects `roots`, which modules name, and
+// `more` mean what they do.
+func cutOut(l *loader, trees []*tree, units []*unit, roots, more []types.Object) *cut {
 	c := &cut{
 		loader: l, trees: trees, units: map[*types.Package]*unit{}, dropped: map[types.Object]string{},
 		kept: map[types.Object]*declaration{}, lines: map[string]bool{}, files: map[string]string{},
@@ -48,10 +66,14 @@ func cutOut(l *loader, trees []*tree, named []*unit, roots []types.Object) *cut 
 			c.units[one.pack] = one
 		}
 	}
-	c.drop(c.reached(roots))
-	c.keep(roots)
+	all := append(append([]types.Object(nil), roots...), more...)
+	c.drop(c.reached(all))
+	c.keep(all)
+	for _, object := range roots {
+		c.wants = c.wants || c.dropped[object] != ""
+	}
 	packages := map[*types.Package][]*declaration{}
-	for _, one := range named {
+	for _, one := range units {
 		packages[one.pack] = nil
 	}
 	for object, d := range c.kept {

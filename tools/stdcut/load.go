@@ -21,9 +21,10 @@ type unit struct {
 	own          bool // whether it is one of Go's own
 	pack         *types.Package
 	info         *types.Info
-	imports      []*unit // those that it uses outside of bodies
-	written      map[types.Object]types.Type
-	aliases      map[types.Object]*types.TypeName
+	imports      []*unit                          // those that it uses outside of bodies
+	written      map[types.Object]types.Type      // the right sides of type declarations
+	embedded     map[types.Object]*types.TypeName // the names by which fields are embedded
+	exported     map[types.Object]types.Object
 }
 
 // A seeker says by which module imports are sought, whether the importing package is in it, or else one of Go's own.
@@ -41,14 +42,15 @@ type loader struct {
 	outside  map[string]*unit
 	finders  map[*tree]*finder
 	names    map[string]string
-	faults   map[string]bool
+	faults   map[string]bool // why a module can't be read or typed
+	notes    map[string]bool // what is amiss outside of modules
 }
 
 func newLoader(of platform) *loader {
 	return &loader{
 		platform: of, context: of.context(), files: token.NewFileSet(),
 		inside: map[*tree]map[string]*unit{}, outside: map[string]*unit{},
-		finders: map[*tree]*finder{}, names: map[string]string{}, faults: map[string]bool{},
+		finders: map[*tree]*finder{}, names: map[string]string{}, faults: map[string]bool{}, notes: map[string]bool{},
 	}
 }
 
@@ -144,7 +146,7 @@ func (l *loader) load(path string, from seeker) (*unit, error) {
 		case found == nil:
 			return nil, fmt.Errorf("import cycle or nothing that can be read")
 		case found.folder != at.folder:
-			l.fault("%s: taken from %s, and not from %s", at.path, found.folder, at.folder)
+			l.notes[fmt.Sprintf("%s is taken from %s, and not from %s", at.path, found.folder, at.folder)] = true
 		}
 		return found, nil
 	}
@@ -195,11 +197,18 @@ func (l *loader) read(at location, whole bool) (*unit, error) {
 	found.info = &types.Info{Types: map[ast.Expr]types.TypeAndValue{}, Defs: map[*ast.Ident]types.Object{}, Uses: map[*ast.Ident]types.Object{}}
 	settings := types.Config{
 		Importer: known, Sizes: l.platform.sizes(), IgnoreFuncBodies: !whole,
-		Error: func(err error) { l.fault("%s: %v", at.path, err) },
+		Error: func(err error) { l.untyped(at, err) },
 	}
 	found.pack, _ = settings.Check(at.path, l.files, trees, found.info)
 	found.index(trees)
 	return found, nil
+}
+
+// untyped tells an error of typing. What follows from one outside of the module is told where something needs it.
+func (l *loader) untyped(at location, err error) {
+	if at.seeker.inside && !strings.Contains(err.Error(), "could not import") {
+		l.fault("%s: %v", at.path, err)
+	}
 }
 
 // follow loads what one import names.
@@ -209,8 +218,12 @@ func (l *loader) follow(found *unit, spec *ast.ImportSpec, at location, known im
 		return
 	}
 	below, err := l.load(path, at.seeker)
-	if err != nil {
+	if err != nil && at.seeker.inside {
 		l.fault("%s imports %s: %v", at.path, path, err)
+	} else if err != nil {
+		l.notes[fmt.Sprintf("%s imports %s: %v", at.path, path, err)] = true
+	}
+	if err != nil {
 		return
 	}
 	known[path] = below.pack
@@ -229,7 +242,7 @@ func (known imported) Import(path string) (*types.Package, error) {
 
 // index notes the right sides of type declarations, and the names by which fields are embedded.
 func (u *unit) index(trees []*ast.File) {
-	u.written, u.aliases = map[types.Object]types.Type{}, map[types.Object]*types.TypeName{}
+	u.written, u.embedded = map[types.Object]types.Type{}, map[types.Object]*types.TypeName{}
 	for _, file := range trees {
 		for _, decl := range file.Decls {
 			if group, is := decl.(*ast.GenDecl); is {
@@ -243,10 +256,27 @@ func (u *unit) index(trees []*ast.File) {
 	}
 	for name, object := range u.info.Defs {
 		if field, is := object.(*types.Var); is && field.Embedded() {
-			u.aliases[field], _ = u.info.Uses[name].(*types.TypeName)
+			u.embedded[field], _ = u.info.Uses[name].(*types.TypeName)
 		}
 	}
 	u.info.Types, u.info.Defs = nil, nil
+}
+
+// aliasesOf gives defined types the first alias that the package exports for each.
+func (u *unit) aliasesOf() map[types.Object]types.Object {
+	if u.exported == nil {
+		u.exported = map[types.Object]types.Object{}
+		for _, name := range u.pack.Scope().Names() {
+			object, is := u.pack.Scope().Lookup(name).(*types.TypeName)
+			if !is || !object.IsAlias() || !object.Exported() {
+				continue
+			}
+			if named, is := object.Type().(*types.Named); is && u.exported[named.Obj()] == nil {
+				u.exported[named.Obj()] = object
+			}
+		}
+	}
+	return u.exported
 }
 
 // uses are the objects of other packages that the package names, in the order of their names.

@@ -11,7 +11,7 @@ import (
 // A log holds lines with the platforms that they are about.
 type log struct {
 	lines  map[string][]platform
-	faulty bool
+	faulty bool // whether something that a module names isn't there
 }
 
 func (l *log) add(one platform, made *cut) {
@@ -21,10 +21,13 @@ func (l *log) add(one platform, made *cut) {
 	for line := range made.lines {
 		l.lines[line] = append(l.lines[line], one)
 	}
+	for line := range made.loader.notes {
+		l.lines["note "+line] = append(l.lines["note "+line], one)
+	}
 	for line := range made.loader.faults {
 		l.lines["fault "+line] = append(l.lines["fault "+line], one)
-		l.faulty = true
 	}
+	l.faulty = l.faulty || made.wants || len(made.loader.faults) > 0
 }
 
 // print writes the lines in order; one that isn't about all platforms ends with those that it is about.

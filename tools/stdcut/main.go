@@ -116,7 +116,7 @@ func run(asked *request) int {
 // on cuts for one platform.
 func (asked *request) on(one platform) *cut {
 	l := newLoader(one)
-	var readers, named []*unit
+	var readers, units []*unit
 	for _, tree := range asked.trees {
 		readers = append(readers, l.module(tree)...)
 	}
@@ -128,10 +128,10 @@ func (asked *request) on(one platform) *cut {
 			readers = append(readers, found)
 		}
 	}
-	var roots []types.Object
+	var roots, more []types.Object
 	for _, reader := range readers {
 		roots = append(roots, l.outer(reader.uses())...)
-		named = append(named, l.outerUnits(reader.imports)...)
+		units = append(units, l.outerUnits(reader.imports)...)
 	}
 	for _, path := range asked.whole {
 		found, err := l.load(path, asked.anySeeker())
@@ -139,14 +139,14 @@ func (asked *request) on(one platform) *cut {
 			l.fault("%s: %v", path, err)
 			continue
 		}
-		named = append(named, found)
+		units = append(units, found)
 		for _, name := range found.pack.Scope().Names() {
 			if object := found.pack.Scope().Lookup(name); object.Exported() {
-				roots = append(roots, object)
+				more = append(more, object)
 			}
 		}
 	}
-	return cutOut(l, asked.trees, named, roots)
+	return cutOut(l, asked.trees, units, roots, more)
 }
 
 func (asked *request) anySeeker() seeker {

@@ -50,11 +50,11 @@ func (s *speller) object(object types.Object) string {
 		s.mentions[object] = true
 		return object.Name()
 	}
-	if !object.Exported() {
-		return s.cannot("an unexported name of another package, " + nameOf(object))
-	}
-	if why := barred(s.here.Path(), pack.Path()); why != "" {
-		return s.cannot(why)
+	if why := barred(s.here.Path(), object); why != "" {
+		if object = s.cut.aliasHere(s.here, object); object == nil {
+			return s.cannot(why)
+		}
+		pack = object.Pkg()
 	}
 	s.mentions[object] = true
 	if name := s.names[pack]; name != "" {
@@ -63,15 +63,18 @@ func (s *speller) object(object types.Object) string {
 	return pack.Name() + "." + object.Name()
 }
 
-// barred says why a package of the standard library's folder may not import another, or nothing.
-func barred(from, path string) string {
-	elements := strings.Split(path, "/")
+// barred says why a package of the standard library's folder may not name a type of another, or nothing.
+func barred(from string, object types.Object) string {
+	if !object.Exported() {
+		return "an unexported name of another package, " + nameOf(object)
+	}
+	elements := strings.Split(object.Pkg().Path(), "/")
 	for i := len(elements) - 1; i >= 0; i-- {
 		if elements[i] != "internal" {
 			continue
 		}
 		if top := strings.Join(elements[:i], "/"); top != "" && !isUnder(from, top) {
-			return "an internal package, " + path
+			return "an internal package of others, " + object.Pkg().Path()
 		}
 		break
 	}
@@ -217,33 +220,20 @@ func (s *speller) field(field *types.Var, tag string) string {
 	return text + " " + strconv.QuoteToASCII(tag)
 }
 
-// embedded writes an embedded field by a name that ends in the field's: that of its type, or of an alias.
+// embedded writes an embedded field by the name in its source, which is that of its type or of an alias.
 func (s *speller) embedded(field *types.Var) string {
-	t, star := field.Type(), ""
-	if pointer, is := t.(*types.Pointer); is {
-		t, star = pointer.Elem(), "*"
+	name := s.cut.embeddedAs(field)
+	if name == nil {
+		return s.cannot("an embedded field without a name of its type, " + field.Name())
 	}
-	switch t := t.(type) {
-	case *types.Named:
-		if t.Obj().Name() == field.Name() {
-			return star + s.text(t)
-		}
-	case *types.Basic:
-		if t.Name() == field.Name() && s.universe(field.Name()) == field.Name() {
-			return star + field.Name()
-		}
+	if named, is := name.Type().(*types.Named); is && named.TypeParams().Len() > 0 {
+		return s.text(field.Type())
 	}
-	alias := s.cut.aliasOf(field)
-	if alias == nil || alias.Name() != field.Name() {
-		return s.cannot("an embedded field whose type has no name, " + field.Name())
+	_, star := field.Type().(*types.Pointer)
+	if _, is := name.Type().(*types.Pointer); star && !is {
+		return "*" + s.object(name)
 	}
-	if alias.Pkg() == nil {
-		return star + s.universe(alias.Name())
-	}
-	if _, is := alias.Type().(*types.Pointer); is {
-		star = ""
-	}
-	return star + s.object(alias)
+	return s.object(name)
 }
 
 // elements writes the methods of an interface in order. Methods that another package keeps to itself come by embedding.
