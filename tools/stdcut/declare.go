@@ -82,7 +82,7 @@ func (c *cut) unfit(object types.Object) string {
 		}
 	}
 	for _, one := range c.trees {
-		if one.module != "" && isUnder(path, one.module) {
+		if isUnder(path, one.module) {
 			return "a path under that of a module"
 		}
 	}
@@ -152,7 +152,7 @@ func (c *cut) define(d *declaration, named *types.Named, s *speller, names map[*
 	switch under := named.Underlying().(type) {
 	case *types.Struct:
 		if s.keepsFields(under) {
-			c.defineBy(d, s, "a struct with unexported fields of another package")
+			c.defineBy(d, s, "an unexported field of another package")
 		} else {
 			c.fields(d, named, under, s, names)
 		}

@@ -40,10 +40,12 @@ func (f *finder) own(path string, fromOwn bool) (string, string, bool) {
 func (f *finder) other(path string) (string, bool) {
 	if f.listed == nil {
 		f.listed = map[string]string{}
-		f.list("-deps", "./...")
+		if f.folder != "" {
+			f.list("-deps", "./...")
+		}
 	}
 	if _, known := f.listed[path]; !known {
-		f.list("-find", path)
+		f.list("-find", "--", path)
 	}
 	if f.listed[path] == "" {
 		f.listed[path] = "" // what isn't found is sought once

@@ -65,8 +65,10 @@ func (l *loader) keepUsed(file *ast.File, from seeker, whole bool) {
 		case path == "unsafe":
 			return used[path]
 		}
-		if at, is := l.locate(path, from); is && l.nameIn(at.folder) != "" {
-			return used[l.nameIn(at.folder)]
+		if at, is := l.locate(path, from); is {
+			if name := l.nameIn(at.folder, at.seeker.inside); name != "" {
+				return used[name]
+			}
 		}
 		return used[assumedName(path)]
 	}

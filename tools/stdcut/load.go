@@ -2,6 +2,7 @@
 package main
 
 import (
+	"errors"
 	"fmt"
 	"go/ast"
 	"go/build"
@@ -18,7 +19,6 @@ import (
 // A unit is a package that was read and typed.
 type unit struct {
 	path, folder string
-	own          bool // whether it is one of Go's own
 	pack         *types.Package
 	info         *types.Info
 	imports      []*unit                          // those that it uses outside of bodies
@@ -58,8 +58,8 @@ func (l *loader) fault(format string, words ...interface{}) {
 	l.faults[fmt.Sprintf(format, words...)] = true
 }
 
-// chosen are the files of a folder that belong to the platform, in order.
-func (l *loader) chosen(folder string) ([]string, error) {
+// chosen are the files of a folder that belong to the platform, in order. In a module links are none, as for apigate.
+func (l *loader) chosen(folder string, inside bool) ([]string, error) {
 	entries, err := os.ReadDir(folder)
 	if err != nil {
 		return nil, err
@@ -67,7 +67,10 @@ func (l *loader) chosen(folder string) ([]string, error) {
 	var found []string
 	for _, entry := range entries {
 		name := entry.Name()
-		if entry.IsDir() || name[0] == '.' || name[0] == '_' || !strings.HasSuffix(name, ".go") || strings.HasSuffix(name, "_test.go") {
+		if name[0] == '.' || name[0] == '_' || !strings.HasSuffix(name, ".go") || strings.HasSuffix(name, "_test.go") {
+			continue
+		}
+		if entry.IsDir() || inside && !entry.Type().IsRegular() {
 			continue
 		}
 		if is, err := l.context.MatchFile(folder, name); err != nil {
@@ -80,12 +83,12 @@ func (l *loader) chosen(folder string) ([]string, error) {
 }
 
 // nameIn is the package name that the first chosen file of a folder gives.
-func (l *loader) nameIn(folder string) string {
+func (l *loader) nameIn(folder string, inside bool) string {
 	name, known := l.names[folder]
 	if known {
 		return name
 	}
-	files, _ := l.chosen(folder)
+	files, _ := l.chosen(folder, inside)
 	for _, path := range files {
 		if file, err := parser.ParseFile(token.NewFileSet(), path, nil, parser.PackageClauseOnly); err == nil {
 			name = file.Name.Name
@@ -158,9 +161,12 @@ func (l *loader) load(path string, from seeker) (*unit, error) {
 	return found, err
 }
 
+// errNoFile is the error of a folder that is no package on the platform.
+var errNoFile = errors.New("no file for the platform")
+
 // read reads and types the package in a folder; bodies count where `whole` is said.
 func (l *loader) read(at location, whole bool) (*unit, error) {
-	files, err := l.chosen(at.folder)
+	files, err := l.chosen(at.folder, at.seeker.inside)
 	if err != nil {
 		return nil, err
 	}
@@ -178,12 +184,12 @@ func (l *loader) read(at location, whole bool) (*unit, error) {
 		}
 	}
 	if len(trees) == 0 {
-		return nil, fmt.Errorf("no file for %s in %s", l.platform, at.folder)
+		return nil, errNoFile
 	}
 	if trees[0].Name.Name == "main" && !at.seeker.inside {
 		return nil, fmt.Errorf("a program")
 	}
-	found := &unit{path: at.path, folder: at.folder, own: at.seeker.own}
+	found := &unit{path: at.path, folder: at.folder}
 	known := imported{"unsafe": types.Unsafe}
 	for _, file := range trees {
 		if !at.seeker.inside {

@@ -87,6 +87,9 @@ func read(words []string) (*request, error) {
 		if err != nil {
 			return nil, err
 		}
+		if found.reads(asked.out) {
+			return nil, fmt.Errorf("%s lies in the module %s, which would read it", asked.out, folder)
+		}
 		asked.trees = append(asked.trees, found)
 	}
 	return asked, nil
@@ -160,7 +163,7 @@ func (asked *request) anySeeker() seeker {
 func (l *loader) module(of *tree) []*unit {
 	var paths []string
 	for path, folder := range of.places {
-		if files, err := l.chosen(folder); err != nil {
+		if files, err := l.chosen(folder, true); err != nil {
 			l.fault("%s: %v", path, err)
 		} else if len(files) > 0 {
 			paths = append(paths, path)
@@ -171,7 +174,7 @@ func (l *loader) module(of *tree) []*unit {
 	for _, path := range paths {
 		if one, err := l.load(path, seeker{of, true, false}); err == nil {
 			found = append(found, one)
-		} else {
+		} else if err != errNoFile {
 			l.fault("%s: %v", path, err)
 		}
 	}

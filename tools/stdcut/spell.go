@@ -161,7 +161,7 @@ func (s *speller) signature(t *types.Signature) string {
 		last := t.Params().At(len(params) - 1).Type()
 		slice, is := last.(*types.Slice)
 		if !is {
-			return s.cannot("a variadic text")
+			return s.cannot("a type that isn't known")
 		}
 		params[len(params)-1] = "..." + s.text(slice.Elem())
 	}
@@ -224,7 +224,7 @@ func (s *speller) field(field *types.Var, tag string) string {
 func (s *speller) embedded(field *types.Var) string {
 	name := s.cut.embeddedAs(field)
 	if name == nil {
-		return s.cannot("an embedded field without a name of its type, " + field.Name())
+		return s.cannot("a type that isn't known")
 	}
 	if named, is := name.Type().(*types.Named); is && named.TypeParams().Len() > 0 {
 		return s.text(field.Type())

@@ -8,11 +8,10 @@ import (
 	"strings"
 )
 
-// A tree is a folder that is read: a module's, or that of a client.
+// A tree is the folder of a module.
 type tree struct {
 	folder string
-	module string            // the path of the module; a client's is that of none
-	client bool              // whether it is a client's folder, whose bodies count
+	module string            // its path
 	places map[string]string // the folder of each import path, by the walk
 }
 
@@ -74,6 +73,28 @@ func newTree(folder string) (*tree, error) {
 	}
 	found := &tree{folder: folder, module: module, places: map[string]string{}}
 	return found, found.walk(folder, module)
+}
+
+// reads says whether the walk of the tree would go into a folder, which needn't be there yet.
+func (t *tree) reads(folder string) bool {
+	top, err := filepath.Abs(t.folder)
+	if err != nil {
+		return false
+	}
+	inner, err := filepath.Abs(folder)
+	if err != nil {
+		return false
+	}
+	below, err := filepath.Rel(top, inner)
+	if err != nil {
+		return false
+	}
+	for _, element := range strings.Split(filepath.ToSlash(below), "/") {
+		if element != "." && !isWalked(element) {
+			return false
+		}
+	}
+	return true
 }
 
 func (t *tree) walk(folder, path string) error {
