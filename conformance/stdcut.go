@@ -9,6 +9,7 @@ import (
 	"fmt"
 	"go/ast"
 	"go/build"
+	"go/constant"
 	"go/importer"
 	"go/parser"
 	"go/token"
@@ -43,7 +44,7 @@ type folder struct {
 	top, path string
 	next      types.Importer
 	known     map[string]*types.Package
-	clean     bool // whether files have to be as gofmt writes them, without bodies and unused imports
+	clean     bool // whether it is a cut folder, with one file for each package
 }
 
 func (f *folder) Import(path string) (*types.Package, error) {
@@ -95,11 +96,38 @@ func (f *folder) trees(place string) []*ast.File {
 		tree, err := parser.ParseFile(files, filepath.Join(place, entry.Name()), nil, parser.ParseComments)
 		fail(err)
 		trees = append(trees, tree)
+		if f.clean {
+			lookOver(tree)
+		}
 	}
 	if f.clean && len(trees) > 1 {
 		wrong("%s: %d files are chosen", place, len(trees))
 	}
 	return trees
+}
+
+// lookOver looks for what a cut file doesn't have: bodies, comments but a build line, and whole numbers of more than 127 bits.
+func lookOver(tree *ast.File) {
+	ast.Inspect(tree, func(node ast.Node) bool {
+		place := ""
+		if node != nil {
+			place = files.Position(node.Pos()).String()
+		}
+		switch node := node.(type) {
+		case *ast.BlockStmt:
+			wrong("%s: a body", place)
+		case *ast.BasicLit:
+			if value := constant.MakeFromLiteral(node.Value, node.Kind, 0); value.Kind() == constant.Int && constant.BitLen(value) > 127 {
+				wrong("%s: %s", place, node.Value)
+			}
+		}
+		return true
+	})
+	for _, group := range tree.Comments {
+		if !strings.HasPrefix(group.List[0].Text, "//go:build ") || len(group.List) > 1 {
+			wrong("%s: a comment", files.Position(group.Pos()))
+		}
+	}
 }
 
 // paths are the import paths of the folders with chosen files.
@@ -356,8 +384,8 @@ func (w *world) compareWhole(real *types.Package) {
 
 func isFloating(object types.Object) bool {
 	basic, is := object.Type().Underlying().(*types.Basic)
-	_, constant := object.(*types.Const)
-	return constant && is && basic.Info()&(types.IsFloat|types.IsComplex) != 0
+	_, isConst := object.(*types.Const)
+	return isConst && is && basic.Info()&(types.IsFloat|types.IsComplex) != 0
 }
 
 // compareImplementing asks of each type and each interface with methods whether the one implements the other, on both sides.
