@@ -1,0 +1,3 @@
+package errors
+
+func New(text string) error

@@ -1,0 +1,3 @@
+package fmt
+
+type Stringer interface{ String() string }

@@ -1,0 +1,3 @@
+module apigate
+
+go 1.19
