@@ -10,11 +10,9 @@ import (
 	"encoding/json"
 	"fmt"
 	"go/ast"
-	"go/constant"
 	"go/parser"
 	"go/token"
 	"go/types"
-	"math/rand"
 	"os"
 	"strconv"
 	"strings"
@@ -61,13 +59,6 @@ func fail(err error) {
 	if err != nil {
 		panic(err)
 	}
-}
-
-func unparen(tree ast.Expr) ast.Expr {
-	if within, is := tree.(*ast.ParenExpr); is {
-		return unparen(within.X)
-	}
-	return tree
 }
 
 // answer is what the checker has noted of an expression, or untyped.
@@ -132,153 +123,6 @@ func faults(one *asked, info *types.Info) []string {
 		}
 	}
 	return one.errors
-}
-
-// ofUntyped says whether an expression is by its form an untyped constant.
-func ofUntyped(tree ast.Expr, info *types.Info) bool {
-	switch tree := tree.(type) {
-	case *ast.BasicLit:
-		return true
-	case *ast.ParenExpr:
-		return ofUntyped(tree.X, info)
-	case *ast.UnaryExpr:
-		return ofUntyped(tree.X, info)
-	case *ast.BinaryExpr:
-		return ofUntyped(tree.X, info) && (tree.Op == token.SHL || tree.Op == token.SHR || ofUntyped(tree.Y, info))
-	case *ast.SelectorExpr:
-		return ofUntyped(tree.Sel, info)
-	case *ast.Ident:
-		object, is := info.Uses[tree].(*types.Const)
-		if !is {
-			return false
-		}
-		basic, is := object.Type().(*types.Basic)
-		return is && basic.Info()&types.IsUntyped != 0
-	}
-	return false
-}
-
-const (
-	past      = "a constant past 128 bits"
-	inexact   = "a constant of a float or complex type"
-	shifted   = "an untyped constant shifted by what is no constant"
-	twice     = "a constant key that stands twice"
-	unwritten = "a grammar that differs"
-	besides   = "what a type form is asked besides"
-	far       = "a shift by more than 1,074"
-	spread    = "the results of a call as the arguments of a builtin function"
-	failing   = "an expression over which Go's checker itself fails"
-)
-
-func isPast(v constant.Value) bool {
-	if v == nil || v.Kind() == constant.Bool || v.Kind() == constant.String {
-		return false
-	}
-	if v = constant.ToInt(v); v.Kind() != constant.Int {
-		return false
-	}
-	limit := constant.Shift(constant.MakeInt64(1), token.SHL, 127)
-	return constant.Compare(v, token.GEQ, limit) || constant.Compare(v, token.LSS, constant.UnaryOp(token.SUB, limit, 0))
-}
-
-func isInexact(t types.Type) bool {
-	if t == nil {
-		return false
-	}
-	basic, is := t.Underlying().(*types.Basic)
-	return is && basic.Info()&(types.IsFloat|types.IsComplex) != 0
-}
-
-// ofNode is the class of difference that a node of an expression is of.
-func ofNode(node ast.Node, info *types.Info) string {
-	tree, is := node.(ast.Expr)
-	if !is {
-		return ""
-	}
-	noted := info.Types[tree]
-	switch tree := tree.(type) {
-	case *ast.BasicLit:
-		if tree.Kind == token.FLOAT || tree.Kind == token.IMAG {
-			return inexact
-		}
-	case *ast.CallExpr:
-		if called := info.Types[tree.Fun]; called.IsType() && len(tree.Args) == 1 {
-			if isInexact(called.Type) && info.Types[tree.Args[0]].Value != nil {
-				return inexact
-			}
-			from := info.Types[tree.Args[0]].Type
-			pointer, points := called.Type.Underlying().(*types.Pointer)
-			if from != nil && points {
-				_, slices := from.Underlying().(*types.Slice)
-				_, arrays := pointer.Elem().Underlying().(*types.Array)
-				if slices && arrays {
-					return array
-				}
-			}
-		}
-		if len(tree.Args) == 1 && info.Types[tree.Fun].IsBuiltin() {
-			if _, is := info.Types[tree.Args[0]].Type.(*types.Tuple); is {
-				return spread
-			}
-		}
-	case *ast.BinaryExpr:
-		if tree.Op != token.SHL && tree.Op != token.SHR {
-			break
-		}
-		count := info.Types[tree.Y].Value
-		if count == nil && ofUntyped(tree.X, info) {
-			return shifted
-		}
-		if count != nil && count.Kind() == constant.Int && constant.Compare(count, token.GTR, constant.MakeInt64(1074)) {
-			return far
-		}
-	}
-	if lit, is := tree.(*ast.BasicLit); is && lit.Kind == token.INT && isPast(constant.MakeFromLiteral(lit.Value, token.INT, 0)) || isPast(noted.Value) {
-		return past
-	}
-	return ""
-}
-
-// isWritten says whether the grammar of this gate has a type's name, or a receiving channel's type, where it stands.
-func isWritten(node ast.Node) bool {
-	long := func(tree ast.Expr) bool {
-		selector, is := tree.(*ast.SelectorExpr)
-		if !is {
-			return false
-		}
-		_, is = selector.X.(*ast.Ident)
-		return !is
-	}
-	receives := func(tree ast.Expr) bool {
-		channel, is := tree.(*ast.ChanType)
-		return is && channel.Dir == ast.RECV
-	}
-	switch node := node.(type) {
-	case *ast.CompositeLit:
-		return !long(node.Type)
-	case *ast.ArrayType:
-		return !long(node.Elt)
-	case *ast.MapType:
-		return !long(node.Key) && !long(node.Value)
-	case *ast.ChanType:
-		return !long(node.Value)
-	case *ast.Field:
-		return !long(node.Type)
-	case *ast.Ellipsis:
-		return !long(node.Elt)
-	case *ast.TypeAssertExpr:
-		return !long(node.Type)
-	case *ast.StarExpr:
-		return !receives(node.X)
-	case *ast.UnaryExpr:
-		return !receives(node.X)
-	case *ast.SelectorExpr:
-		_, is := node.X.(*ast.ChanType)
-		return !is
-	case *ast.IndexListExpr:
-		return false
-	}
-	return true
 }
 
 func classes(one *asked, info *types.Info, left []string) string {
@@ -455,67 +299,6 @@ func visible(one *place, client *types.Package, info *types.Info) []known {
 		}
 	}
 	return all
-}
-
-// newGenerator knows the types of all packages, those of their objects, and some more.
-func newGenerator(seed int64, all packages, client *types.Package) *generator {
-	g := &generator{Rand: rand.New(rand.NewSource(seed)), reached: map[string][]reach{}}
-	pool := map[string]bool{}
-	selectors := map[string]bool{}
-	note := func(t types.Type) {
-		if t == nil || pool[written(t)] {
-			return
-		}
-		if basic, is := t.(*types.Basic); is && basic.Info()&types.IsUntyped != 0 {
-			return
-		}
-		pool[written(t)] = true
-		g.pool = append(g.pool, t)
-	}
-	select_ := func(name string) {
-		if !selectors[name] {
-			selectors[name] = true
-			g.selectors = append(g.selectors, name)
-		}
-	}
-	for _, pack := range append(client.Imports(), client) {
-		for _, name := range pack.Scope().Names() {
-			object := pack.Scope().Lookup(name)
-			if pack == client || object.Exported() {
-				note(object.Type())
-			}
-			if named, is := object.Type().(*types.Named); is {
-				for i := 0; i < named.NumMethods(); i++ {
-					select_(named.Method(i).Name())
-				}
-			}
-			if fields, is := object.Type().Underlying().(*types.Struct); is {
-				for i := 0; i < fields.NumFields(); i++ {
-					select_(fields.Field(i).Name())
-				}
-			}
-			if methods, is := object.Type().Underlying().(*types.Interface); is {
-				for i := 0; i < methods.NumMethods(); i++ {
-					select_(methods.Method(i).Name())
-				}
-			}
-		}
-	}
-	for _, basic := range types.Typ {
-		if basic.Info()&types.IsConstType != 0 {
-			note(basic)
-		}
-	}
-	note(types.Universe.Lookup("error").Type())
-	for _, t := range append([]types.Type{}, g.pool...) {
-		if named, is := t.(*types.Named); is && !types.IsInterface(named) {
-			note(types.NewPointer(named))
-		}
-	}
-	for _, t := range g.pool {
-		g.add(t, client)
-	}
-	return g
 }
 
 // answerSome asks the checker of some questions together. Where that fails by itself, it asks each half of them.

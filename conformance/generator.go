@@ -90,6 +90,67 @@ func (g *generator) add(t types.Type, client *types.Package) {
 	}
 }
 
+// newGenerator knows the types of all packages, those of their objects, and some more.
+func newGenerator(seed int64, all packages, client *types.Package) *generator {
+	g := &generator{Rand: rand.New(rand.NewSource(seed)), reached: map[string][]reach{}}
+	pool := map[string]bool{}
+	selectors := map[string]bool{}
+	note := func(t types.Type) {
+		if t == nil || pool[written(t)] {
+			return
+		}
+		if basic, is := t.(*types.Basic); is && basic.Info()&types.IsUntyped != 0 {
+			return
+		}
+		pool[written(t)] = true
+		g.pool = append(g.pool, t)
+	}
+	select_ := func(name string) {
+		if !selectors[name] {
+			selectors[name] = true
+			g.selectors = append(g.selectors, name)
+		}
+	}
+	for _, pack := range append(client.Imports(), client) {
+		for _, name := range pack.Scope().Names() {
+			object := pack.Scope().Lookup(name)
+			if pack == client || object.Exported() {
+				note(object.Type())
+			}
+			if named, is := object.Type().(*types.Named); is {
+				for i := 0; i < named.NumMethods(); i++ {
+					select_(named.Method(i).Name())
+				}
+			}
+			if fields, is := object.Type().Underlying().(*types.Struct); is {
+				for i := 0; i < fields.NumFields(); i++ {
+					select_(fields.Field(i).Name())
+				}
+			}
+			if methods, is := object.Type().Underlying().(*types.Interface); is {
+				for i := 0; i < methods.NumMethods(); i++ {
+					select_(methods.Method(i).Name())
+				}
+			}
+		}
+	}
+	for _, basic := range types.Typ {
+		if basic.Info()&types.IsConstType != 0 {
+			note(basic)
+		}
+	}
+	note(types.Universe.Lookup("error").Type())
+	for _, t := range append([]types.Type{}, g.pool...) {
+		if named, is := t.(*types.Named); is && !types.IsInterface(named) {
+			note(types.NewPointer(named))
+		}
+	}
+	for _, t := range g.pool {
+		g.add(t, client)
+	}
+	return g
+}
+
 func isKind(t types.Type, info types.BasicInfo) bool {
 	basic, is := t.Underlying().(*types.Basic)
 	return is && basic.Info()&info != 0

@@ -19,21 +19,8 @@ import (
 	"bufio"
 	"fmt"
 	"os"
-	"sort"
 	"strings"
 )
-
-// notes are the named differences met in a source.
-type notes map[string]bool
-
-func (n notes) sorted() []string {
-	var names []string
-	for name := range n {
-		names = append(names, name)
-	}
-	sort.Strings(names)
-	return names
-}
 
 func main() {
 	out := bufio.NewWriterSize(os.Stdout, 1<<20)

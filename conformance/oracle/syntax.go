@@ -6,8 +6,21 @@ import (
 	"go/parser"
 	"go/scanner"
 	"go/token"
+	"sort"
 	"strings"
 )
+
+// notes are the named differences met in a source.
+type notes map[string]bool
+
+func (n notes) sorted() []string {
+	var names []string
+	for name := range n {
+		names = append(names, name)
+	}
+	sort.Strings(names)
+	return names
+}
 
 const mode = parser.SkipObjectResolution | parser.AllErrors
 

@@ -2,7 +2,6 @@ package main
 
 import (
 	"bufio"
-	"bytes"
 	"fmt"
 	"go/ast"
 	"go/build"
@@ -34,6 +33,7 @@ type usedImport struct {
 type readFile struct {
 	path, name string
 	uses       []usedImport
+	tree       *ast.File
 }
 
 // A folder that may hold a package; files are those that remain once it is read.
@@ -44,30 +44,67 @@ type folder struct {
 	files      []readFile
 }
 
-// unitsOf tells the units of files that are told line by line, as the crate units does.
-func unitsOf(out io.Writer) {
-	sides := map[string]map[string]string{"new": {}, "std": {}}
-	var barred []string
-	var side, last string
+// A question about the files of two trees, each by its path.
+type question struct {
+	word, platform  string
+	files, stdFiles map[string]string
+	barred          []string
+}
+
+// questions reads files that are told line by line, as the crate units does. Lines with # and questions go to the functions.
+func questions(heading func(string), ask func(question)) {
+	var asked question
+	var last *strings.Builder
+	sides := map[string]map[string]*strings.Builder{}
+	forget := func() {
+		asked, last = question{}, nil
+		sides["new"], sides["std"] = map[string]*strings.Builder{}, map[string]*strings.Builder{}
+	}
+	forget()
 	lines := bufio.NewScanner(os.Stdin)
 	lines.Buffer(nil, 1<<24)
 	for lines.Scan() {
 		word, rest, _ := strings.Cut(lines.Text(), " ")
 		switch {
 		case strings.HasPrefix(lines.Text(), "#"):
-			fmt.Fprintln(out, lines.Text())
+			heading(lines.Text())
 		case strings.HasPrefix(lines.Text(), "|"):
-			sides[side][last] += lines.Text()[1:] + "\n"
+			last.WriteString(lines.Text()[1:])
+			last.WriteByte('\n')
 		case word == "new" || word == "std":
-			side, last = word, rest
-			sides[side][last] = ""
+			last = &strings.Builder{}
+			sides[word][rest] = last
 		case word == "barred":
-			barred = append(barred, rest)
-		case word == "units":
-			fmt.Fprint(out, unitsOn(rest, sides["new"], sides["std"], barred))
-			sides, barred = map[string]map[string]string{"new": {}, "std": {}}, nil
+			asked.barred = append(asked.barred, rest)
+		default:
+			asked.word, asked.platform = word, rest
+			asked.files, asked.stdFiles = textsOf(sides["new"]), textsOf(sides["std"])
+			ask(asked)
+			forget()
 		}
 	}
+}
+
+func textsOf(built map[string]*strings.Builder) map[string]string {
+	texts := map[string]string{}
+	for place, text := range built {
+		texts[place] = text.String()
+	}
+	return texts
+}
+
+// unitsOf tells the units of files that are told line by line.
+func unitsOf(out io.Writer) {
+	questions(func(line string) { fmt.Fprintln(out, line) }, func(asked question) {
+		if asked.word != "units" {
+			return
+		}
+		r, order, refused := unitsOn(asked)
+		fmt.Fprint(out, refused)
+		for _, f := range order {
+			r.write(out, f)
+		}
+	})
 }
 
 func contextOf(platform string) build.Context {
@@ -254,6 +291,7 @@ func qualifiersOf(file *ast.File, declared map[string]bool) map[string]bool {
 type unitRun struct {
 	module  string
 	folders map[string]*folder
+	set     *token.FileSet
 }
 
 // named is the folder that an import path names.
@@ -286,7 +324,7 @@ func isInternal(from *folder, place string) bool {
 // read reads the files of a folder, and gives its refusal.
 func (r *unitRun) read(f *folder) string {
 	f.read = true
-	set := token.NewFileSet()
+	set := r.set
 	var parsed []*ast.File
 	var places []string
 	for _, file := range f.all {
@@ -331,7 +369,7 @@ func (r *unitRun) read(f *folder) string {
 		if importsC(tree) {
 			continue
 		}
-		file := readFile{path: places[at], name: tree.Name.Name}
+		file := readFile{path: places[at], name: tree.Name.Name, tree: tree}
 		quals := qualifiersOf(tree, declared)
 		named := map[int]string{}
 		for qual := range quals {
@@ -406,21 +444,22 @@ func (r *unitRun) leads(from, to string, seen map[string]bool) bool {
 	return false
 }
 
-func unitsOn(platform string, files, stdFiles map[string]string, barred []string) string {
-	fields := strings.Fields(files["go.mod"])
-	r := unitRun{module: fields[1], folders: map[string]*folder{}}
+// unitsOn gives the folders of the packages in canonical order, or the first refusal as a line.
+func unitsOn(asked question) (*unitRun, []*folder, string) {
+	fields := strings.Fields(asked.files["go.mod"])
+	r := &unitRun{fields[1], map[string]*folder{}, token.NewFileSet()}
 	var own []string
-	for _, f := range foldersOf(platform, r.module, files, false, nil) {
+	for _, f := range foldersOf(asked.platform, r.module, asked.files, false, nil) {
 		r.folders[f.path] = f
 		own = append(own, f.path)
 	}
-	for _, f := range foldersOf(platform, "", stdFiles, true, append(barred, r.module)) {
+	for _, f := range foldersOf(asked.platform, "", asked.stdFiles, true, append(asked.barred, r.module)) {
 		r.folders[f.path] = f
 	}
 	sort.Strings(own)
 	for _, place := range own {
 		if refused := r.read(r.folders[place]); refused != "" {
-			return refused + "\n"
+			return r, nil, refused + "\n"
 		}
 	}
 	for {
@@ -439,7 +478,7 @@ func unitsOn(platform string, files, stdFiles map[string]string, barred []string
 			break
 		}
 		if refused := r.read(r.folders[least]); refused != "" {
-			return refused + "\n"
+			return r, nil, refused + "\n"
 		}
 	}
 	var packages []string
@@ -451,10 +490,10 @@ func unitsOn(platform string, files, stdFiles map[string]string, barred []string
 	sort.Strings(packages)
 	for _, place := range packages {
 		if r.leads(place, place, map[string]bool{}) {
-			return place + ": import cycle\n"
+			return r, nil, place + ": import cycle\n"
 		}
 	}
-	var out bytes.Buffer
+	var order []*folder
 	stands := map[string]bool{}
 	for range packages {
 	search:
@@ -467,15 +506,15 @@ func unitsOn(platform string, files, stdFiles map[string]string, barred []string
 			}
 			if !stands[place] {
 				stands[place] = true
-				r.write(&out, f)
+				order = append(order, f)
 				break
 			}
 		}
 	}
-	return out.String()
+	return r, order, ""
 }
 
-func (r *unitRun) write(out *bytes.Buffer, f *folder) {
+func (r *unitRun) write(out io.Writer, f *folder) {
 	side := "module"
 	if f.std {
 		side = "std"

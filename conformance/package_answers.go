@@ -1,0 +1,405 @@
+// Answers which features the packages of trees have, by Go's packages, or why they are refused.
+package main
+
+import (
+	"fmt"
+	"go/ast"
+	"go/token"
+	"go/types"
+	"math/rand"
+	"sort"
+	"strings"
+)
+
+// An answer is a list of lines with the classes of differences that lead to it. Lost are the places that the refusal of a
+// declaration may tell, each with its file.
+type answer struct {
+	Classes []string
+	Lines   []string
+	Lost    []string
+}
+
+// Answers are what Go says, and after it what is owed where the gate differs on purpose.
+type answers struct {
+	Case    string
+	Answers []answer
+	Errors  []string
+	Counts  map[string]int
+}
+
+// An outcome is what is said of a package: nothing where it is typed, or why it is refused, and the places of what is lost.
+type outcome struct {
+	line string
+	lost []string
+}
+
+// typed is what Go's type checker says of a package.
+type typed struct {
+	pack   *types.Package
+	info   *types.Info
+	errors []types.Error
+	failed bool
+}
+
+// A checking is that of the packages of a run.
+type checking struct {
+	*unitRun
+	known map[string]*types.Package
+	sizes types.Sizes
+}
+
+func (c *checking) Import(path string) (*types.Package, error) {
+	if pack := c.known[path]; pack != nil {
+		return pack, nil
+	}
+	return nil, fmt.Errorf("no package %s", path)
+}
+
+// withUsed leaves only the imports of a file that it uses.
+func withUsed(file readFile, set *token.FileSet) *ast.File {
+	used := map[int]bool{}
+	for _, use := range file.uses {
+		used[use.place] = true
+	}
+	for _, decl := range file.tree.Decls {
+		group, is := decl.(*ast.GenDecl)
+		if !is || group.Tok != token.IMPORT {
+			continue
+		}
+		var kept []ast.Spec
+		for _, spec := range group.Specs {
+			if used[set.Position(spec.(*ast.ImportSpec).Path.Pos()).Offset] {
+				kept = append(kept, spec)
+			}
+		}
+		group.Specs = kept
+	}
+	return file.tree
+}
+
+const brokenAlias = "invalid use of type alias"
+
+func (t typed) isBroken() bool {
+	for _, one := range t.errors {
+		if strings.HasPrefix(one.Msg, brokenAlias) {
+			return true
+		}
+	}
+	return false
+}
+
+// checkInOrder types a package. Where Go can't type an alias in a circle in the order of the declarations, it is asked again in
+// others.
+func (c *checking) checkInOrder(f *folder, files []*ast.File, counts map[string]int) typed {
+	done := c.check(f, files)
+	draw := rand.New(rand.NewSource(1))
+	for tries := 0; tries < 50 && done.isBroken(); tries++ {
+		for _, file := range files {
+			draw.Shuffle(len(file.Decls), func(i, j int) { file.Decls[i], file.Decls[j] = file.Decls[j], file.Decls[i] })
+		}
+		draw.Shuffle(len(files), func(i, j int) { files[i], files[j] = files[j], files[i] })
+		if again := c.check(f, files); !again.isBroken() {
+			counts["aliases in another order"]++
+			return again
+		}
+	}
+	return done
+}
+
+// check types a package. Bodies aren't looked into.
+func (c *checking) check(f *folder, files []*ast.File) (done typed) {
+	defer func() {
+		if fault := recover(); fault != nil {
+			done.failed = true
+		}
+	}()
+	done.info = &types.Info{
+		Types: map[ast.Expr]types.TypeAndValue{}, Uses: map[*ast.Ident]types.Object{}, Defs: map[*ast.Ident]types.Object{},
+	}
+	settings := types.Config{
+		Importer: c, IgnoreFuncBodies: true, Sizes: c.sizes,
+		Error: func(err error) { done.errors = append(done.errors, err.(types.Error)) },
+	}
+	done.pack, _ = settings.Check(f.path, c.set, files, done.info)
+	return done
+}
+
+// offset is a place as the gate tells it: a file and an offset.
+func (c *checking) offset(at token.Pos) (file string, offset int) {
+	place := c.set.Position(at)
+	return place.Filename, place.Offset
+}
+
+func (c *checking) told(f *folder, at token.Pos, what string) string {
+	file, offset := c.offset(at)
+	return fmt.Sprintf("%s %s: %s at %d", f.path, file, what, offset)
+}
+
+var goOnly = map[string]string{
+	"duplicate key ":           twice,
+	"duplicate index ":         twice,
+	"initialization cycle for": variable,
+	"missing function body":    bodiless,
+	"invalid shift count":      far,
+}
+
+// ofGo is the class of an error that only Go finds, or nothing.
+func ofGo(message string) string {
+	for start, class := range goOnly {
+		if strings.HasPrefix(message, start) {
+			return class
+		}
+	}
+	return ""
+}
+
+// isRepeated says whether an error is of a name that its package declared before, in the roles in which names collide here: a
+// method's are those of receivers that are written alike.
+func (c *checking) isRepeated(l *listing, one types.Error) bool {
+	switch {
+	case strings.Contains(one.Msg, "already declared through import of"):
+		return true
+	case strings.HasSuffix(one.Msg, "redeclared in this block"):
+		for _, d := range l.all {
+			for _, name := range d.names {
+				if name.Pos() == one.Pos && d.method == nil {
+					return true
+				}
+			}
+		}
+		return !c.stands(l, one.Pos)
+	case strings.HasPrefix(one.Msg, "method ") && strings.Contains(one.Msg, " already declared for "):
+		for at, d := range l.all {
+			if d.method == nil || d.place() != one.Pos {
+				continue
+			}
+			for _, other := range l.all[:at] {
+				if other.method != nil && other.names[0].Name == d.names[0].Name && receiverName(other.method) == receiverName(d.method) {
+					return true
+				}
+			}
+		}
+	}
+	return false
+}
+
+func (c *checking) stands(l *listing, at token.Pos) bool {
+	for _, d := range l.all {
+		if d.has(at) {
+			return true
+		}
+	}
+	return false
+}
+
+// placeOf is where a name stands that an error is of: an import stands at its path.
+func placeOf(files []*ast.File, at token.Pos) token.Pos {
+	for _, file := range files {
+		for _, decl := range file.Decls {
+			if group, is := decl.(*ast.GenDecl); is && group.Tok == token.IMPORT {
+				for _, spec := range group.Specs {
+					if spec.Pos() == at {
+						return spec.(*ast.ImportSpec).Path.Pos()
+					}
+				}
+			}
+		}
+	}
+	return at
+}
+
+// repeated is the place of the first name that was declared before.
+func (c *checking) repeated(files []*ast.File, l *listing, done typed) token.Pos {
+	first := token.NoPos
+	for i, one := range done.errors {
+		if !c.isRepeated(l, one) {
+			continue
+		}
+		at := one.Pos
+		if strings.Contains(one.Msg, "already declared through import of") && i+1 < len(done.errors) && done.errors[i+1].Pos > at {
+			at = done.errors[i+1].Pos // the import stands in a later file
+		}
+		if at = placeOf(files, at); first == token.NoPos || at < first {
+			first = at
+		}
+	}
+	return first
+}
+
+// judged is what the errors of a package, and classes of what is refused beyond them, make of it.
+func (c *checking) judged(f *folder, l *listing, done typed, faulty map[int]bool) outcome {
+	lost := l.lost(faulty)
+	found := outcome{}
+	for at, d := range l.all {
+		if lost[at] {
+			line := c.told(f, d.place(), "no typing")
+			if found.line == "" {
+				found.line = line
+			}
+			found.lost = append(found.lost, line)
+		}
+	}
+	return found
+}
+
+func sortedKeys(set map[string]bool) []string {
+	keys := []string{}
+	for key := range set {
+		keys = append(keys, key)
+	}
+	sort.Strings(keys)
+	return keys
+}
+
+// verdicts are what Go says of a package, and what is owed where that differs, with the classes.
+func (c *checking) verdicts(f *folder, all *answers) (typed, outcome, outcome, []string) {
+	var files []*ast.File
+	for _, file := range f.files {
+		files = append(files, withUsed(file, c.set))
+	}
+	l := listingOf(files)
+	done := c.check(f, files)
+	if done.failed {
+		return done, outcome{}, outcome{}, []string{failing}
+	}
+	for _, one := range done.errors {
+		if !strings.HasPrefix(one.Msg, "\t") {
+			all.Errors = append(all.Errors, fmt.Sprintf("%s: %s", c.set.Position(one.Pos), strings.Join(strings.Fields(one.Msg), " ")))
+		}
+	}
+	if at := c.repeated(files, l, done); at != token.NoPos {
+		line := outcome{line: c.told(f, at, "declared twice")}
+		return done, line, line, nil
+	}
+	for _, file := range f.files {
+		for _, use := range file.uses {
+			if !c.found(f, use.path) {
+				line := outcome{line: fmt.Sprintf("%s %s: import not found at %d", f.path, file.path, use.place)}
+				return done, line, line, nil
+			}
+		}
+	}
+	done = c.checkInOrder(f, files, all.Counts)
+	classes := map[string]bool{}
+	faulty, owed := map[int]bool{}, map[int]bool{}
+	for _, one := range done.errors {
+		if strings.HasPrefix(one.Msg, "\t") {
+			continue
+		}
+		class := ofGo(one.Msg)
+		known := false
+		for at, d := range l.all {
+			if d.has(one.Pos) {
+				known = true
+				faulty[at] = true
+				if class == "" {
+					owed[at] = true
+				} else {
+					classes[class] = true
+				}
+			}
+		}
+		if !known {
+			panic(fmt.Sprintf("%s: %s stands in no declaration", c.set.Position(one.Pos), one.Msg))
+		}
+	}
+	for at := range l.all {
+		for class := range l.own(at, done.info, done.pack) {
+			classes[class] = true
+			owed[at] = true
+		}
+	}
+	return done, c.judged(f, l, done, faulty), c.judged(f, l, done, owed), sortedKeys(classes)
+}
+
+func isPublic(f *folder) bool {
+	return !f.std && f.name != "main" && !strings.Contains("/"+f.path+"/", "/internal/")
+}
+
+func (c *checking) features(f *folder, counts map[string]int) (lines []string) {
+	pack := c.known[f.path]
+	for _, name := range pack.Scope().Names() {
+		if object := pack.Scope().Lookup(name); object.Exported() {
+			counts["objects"]++
+			for _, line := range (writer{pack}).lines(object) {
+				lines = append(lines, "pkg "+f.path+", "+line)
+			}
+		}
+	}
+	return lines
+}
+
+func isRead(text string) bool {
+	said, _ := verdict([]byte(text))
+	return said == "ok"
+}
+
+// unread is the refusal of the first file that Go's parser reads and the grammar of this gate doesn't, in the module before the
+// standard library.
+func unread(order []*folder) string {
+	for _, std := range []bool{false, true} {
+		var found []string
+		for _, f := range order {
+			for _, file := range f.all {
+				if f.std == std && file.chosen && !isRead(file.text) {
+					found = append(found, fmt.Sprintf("%s %s: not in the grammar", f.path, file.path))
+					break
+				}
+			}
+		}
+		if sort.Strings(found); len(found) > 0 {
+			return found[0]
+		}
+	}
+	return ""
+}
+
+// answersTo answers a question.
+func answersTo(asked question) answers {
+	all := answers{Answers: []answer{}, Counts: map[string]int{}}
+	r, order, refused := unitsOn(asked)
+	if refused != "" {
+		all.Answers = append(all.Answers, answer{[]string{}, []string{strings.TrimSuffix(refused, "\n")}, nil})
+		return all
+	}
+	if line := unread(order); line != "" {
+		all.Answers = append(all.Answers, answer{[]string{unwritten}, []string{line}, nil})
+		return all
+	}
+	_, architecture, _ := strings.Cut(asked.platform, "-")
+	c := &checking{r, map[string]*types.Package{}, types.SizesFor("gc", architecture)}
+	lines, met := []string{}, map[string]bool{}
+	isAnswered := false
+	for _, f := range order {
+		done, line, owed, classes := c.verdicts(f, &all)
+		for _, class := range classes {
+			met[class] = true
+		}
+		if done.failed {
+			all.Answers = append(all.Answers, answer{sortedKeys(met), []string{"failed"}, nil})
+			return all
+		}
+		c.known[f.path] = done.pack
+		all.Counts["packages"]++
+		if line.line != "" && !isAnswered {
+			isAnswered = true
+			all.Answers = append(all.Answers, answer{[]string{}, []string{line.line}, line.lost})
+		}
+		if owed.line != "" {
+			all.Answers = append(all.Answers, answer{sortedKeys(met), []string{owed.line}, owed.lost})
+			if isAnswered {
+				return all
+			}
+		}
+		if isPublic(f) {
+			lines = append(lines, c.features(f, all.Counts)...)
+		}
+	}
+	sort.Strings(lines)
+	classes := []string{}
+	if isAnswered {
+		classes = sortedKeys(met)
+	}
+	all.Answers = append([]answer{{classes, lines, nil}}, all.Answers...)
+	return all
+}
