@@ -4,7 +4,7 @@ use Rattle.std.specs.Prelude.{◌≡◌, ◌≤◌, ◌&&◌, ℕ, true, List, S
 use Rattle.go_base.specs.Lists.{Has}
 use Rattle.go_model.specs.types.Members.{field_sel}
 use Rattle.go_model.specs.types.Underlying.{under, fields_of, methods_of}
-use Rattle.go_model.specs.types.MethodSets.{InSet, method_sel}
+use Rattle.go_model.specs.types.MethodSets.{InSet, Implements, method_sel}
 use Rattle.go_model.specs.types.Selectors.{Finds}
 use Rattle.go_model.specs.declared.types.found.Found.TheVariants.{FieldAt}
 use Rattle.go_model.specs.declared.types.found.FieldFound.{FieldFound}
@@ -22,7 +22,7 @@ use Rattle.go_model.specs.declared.types.term.Method.{Method}
 use Rattle.go_model.specs.declared.types.term.Signature.{Signature}
 use Rattle.api_correspond.specs.Publics.{types_of, package_at, IsPublic, IsExported, Exports, qualified}
 use Rattle.api_correspond.specs.OwnedPairs.{Owned, are_of_module}
-use Rattle.api_correspond.specs.Rules.{KeepsPackage, KeepsObject, KeepsKind, KeepsConstant, KeepsType, KeepsUnderlying, KeepsField, KeepsComparable, KeepsSealing, KeepsInterfaceMethod, KeepsClosed, IsSealed, Counts, have_structs, have_interfaces, have_method_sets, KeepsInSet, KeepsSelectable, KeepsImplementing, KeepsApart, IsSealedPair, IsOwned}
+use Rattle.api_correspond.specs.Rules.{KeepsPackage, KeepsObject, KeepsKind, KeepsConstant, KeepsType, KeepsUnderlying, KeepsField, KeepsComparable, KeepsSealing, KeepsInterfaceMethod, KeepsClosed, IsSealed, Counts, have_structs, have_interfaces, have_method_sets, KeepsInSet, KeepsSelectable, KeepsApart, IsSealedPair, IsOwned}
 use Rattle.api_breaks.specs.declared.broken.Sort.{Sort}
 use Rattle.api_breaks.specs.declared.broken.Sort.TheVariants as sort
 use Rattle.api_breaks.specs.declared.broken.Lost.{Lost}
@@ -61,7 +61,8 @@ pub data IsLoss (old new : Packages) (p : TypePair) (l : Lost) : Type 0 where
 
 -- what it loses by the rules on it and another pair
 pub data IsLossAmong (old new : Packages) (p : TypePair) (l : Lost) : Type 0 where
-  not_implementing : (i : TypePair) → IsSealedPair old new i → (KeepsImplementing old new p i → ⊥) → lost.Implements i.old ≡ l → IsLossAmong old new p l
+  not_implementing : (i : TypePair) → IsSealedPair old new i → Implements (types_of old) p.old i.old → (Implements (types_of new) p.new i.new → ⊥) → lost.Implements i.old ≡ l → IsLossAmong old new p l
+  pointer_not_implementing : (i : TypePair) → IsSealedPair old new i → Implements (types_of old) (pointer_to p.old) i.old → (Implements (types_of new) (pointer_to p.new) i.new → ⊥) → lost.Implements i.old ≡ l → IsLossAmong old new p l
   not_apart : (q : TypePair) → IsOwned old new q → are_of_module old new p ≡ true → (KeepsApart p q → ⊥) → lost.OneToOne p.old p.new ≡ l → IsLossAmong old new p l
 
 -- what is broken, by all rules
