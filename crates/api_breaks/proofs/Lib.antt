@@ -1,4 +1,7 @@
-pub mod InterfaceBreaks
-pub mod MethodSetBreaks
+pub mod DecidedRules
+pub mod InterfaceLosses
+pub mod MethodSetLosses
 pub mod PackageBreaks
-pub mod PairBreaks
+pub mod PairLosses
+pub mod SelectableLosses
+pub mod Telling

@@ -13,10 +13,11 @@ use Rattle.go_model.specs.declared.types.package.Package.{Package}
 use Rattle.go_model.specs.declared.types.package.Object.{Object}
 use Rattle.go_model.specs.declared.types.package.Entity.{Entity}
 use Rattle.api_correspond.specs.Publics.{package_at, IsPublic, IsExportedName, Exports, qualified}
-use Rattle.api_correspond.specs.Rules.{KeepsKind, KeepsConstant, KeepsObject}
+use Rattle.api_correspond.specs.Rules.{KeepsKind, KeepsConstant, KeepsObject, KeepsPath}
 use Rattle.api_correspond.specs.inner.Members.{OfSome}
 use Rattle.api_correspond.proofs.Growing.{grows_none, grows_one, grows_as, grows_both, of_none}
 use Rattle.api_correspond.proofs.Lookups.{first_member, member_first}
+use Rattle.api_breaks.proofs.DecidedRules.{has_text, same_texts, kind_decided, constant_decided}
 use Rattle.api_breaks.specs.declared.broken.Break.{Break}
 use Rattle.api_breaks.specs.declared.broken.Sort.{Sort}
 use Rattle.api_breaks.specs.declared.broken.Lost.TheVariants as lost
@@ -188,6 +189,29 @@ module _ (old new : Packages) (world : IsWorld old) where
           g.complete d (path, x.shown, of_object path p.0 q.0 a d p.1 q.1 t p.2 x.exported None (not_kept path q.0 a t q.1 x.exported n (first_with object_name q.0.objects a.name) refl) r)
       back d (object_of_other_kind path a c x y same n r) = of_two path a c d x y same (inl (n, r))
       back d (constant_apart path a c x y same n r) = of_two path a c d x y same (inr (n, r))
+
+  -- where nothing is told, all is kept
+  module _ (later : IsWorld new) (none : (b : Break) → IsPackageBreak old new b → ⊥) where
+    name_same : (path : List ℕ) (p q : Package) → IsPublic old path → IsPublic new path → package_at old path ≡ Some p → package_at new path ≡ Some q → q.name ≡ p.name
+    name_same path p q s t e f = elim (same_texts q.name p.name) [ inl x ↦ x | inr n ↦ absurd (none (broken path (lost.Name q.name)) (package_renamed path p q s t e f n refl)) ]
+
+    object_kept : (path : List ℕ) (a : Object) → Exports old path a → (t : IsPublic new path) → (q : Package) → package_at new path ≡ Some q → (o : Option Object) → first_with object_name q.objects a.name ≡ o → KeepsObject new path a
+    object_kept path a x t q f None r = absurd (none (broken (qualified path a.name) lost.Removed) (object_gone path a x t (λ k. none_some (first_with object_name q.objects a.name) k.0 r (ap (first_with object_name q.objects) (sym k.2) ∙ object_back (package_at new path) q k.0 k.0.name f k.1.there)) refl))
+    object_kept path a x t q f (Some c) r =
+        let same : c.name ≡ a.name = first_key object_name q.objects a.name c (sym r) in
+        (c, record { shown = t; exported = subst IsExportedName (sym same) x.exported; there = object_there (package_at new path) q c c.name f (ap (first_with object_name q.objects) same ∙ r) }, same)
+
+    pub path_keeps : (path : List ℕ) → IsPublic old path → KeepsPath old new path
+    path_keeps path s = record {
+      package_kept = elim (has_text new.publics path) [ inl x ↦ x | inr n ↦ absurd (none (broken path lost.Package) (package_gone path s n refl)) ];
+      name_kept = λ t p q e f. name_same path p q s t e f;
+      objects = λ a x t. (let q = found_package new later path t in object_kept path a x t q.0 q.1 (first_with object_name q.0.objects a.name) refl);
+      kinds = λ a c x y e. elim (kind_decided a.entity c.entity) [ inl k ↦ k | inr n ↦ absurd (none (broken (qualified path a.name) (lost.Kind (sort_of a.entity) (sort_of c.entity))) (object_of_other_kind path a c x y e n refl)) ];
+      constants = λ a c x y e. elim (constant_decided a.entity c.entity) [ inl k ↦ k | inr n ↦ absurd (none (broken (qualified path a.name) (lost.Constant a.entity c.entity)) (constant_apart path a c x y e n refl)) ];
+    }
+
+pub paths_kept : (old new : Packages) → IsWorld old → IsWorld new → (bs : List Break) → ((b : Break) → Has bs b ↔ IsPackageBreak old new b) → bs ≡ [] → (path : List ℕ) → IsPublic old path → KeepsPath old new path
+paths_kept old new world later bs x e path s = path_keeps old new world later (λ b k. subst (λ (w : List Break). Has w b) e ((x b).1 k)) path s
 
 pub paths_begun : (old new : Packages) (bs : List Break) → bs ≡ [] → Grows (OfSome (IsOfPath old new) []) [] bs
 paths_begun old new bs e = subst (Grows (OfSome (IsOfPath old new) []) []) (sym e) (of_none (IsOfPath old new) [])

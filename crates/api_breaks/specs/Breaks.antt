@@ -1,10 +1,13 @@
--- What is broken: each of eleven rules that a new world doesn't keep, with the package or the object that it is reported for.
+-- What is broken: each rule that a new world doesn't keep, with the package or the object that it is reported for.
 -- Public source: README of golang.org/x/exp/apidiff, "Compatibility, Types and Names"; the words for what is lost are own.
-use Rattle.std.specs.Prelude.{◌≡◌, ◌&&◌, ℕ, true, List, Some}
+use Rattle.std.specs.Prelude.{◌≡◌, ◌≤◌, ◌&&◌, ℕ, true, List, Some}
 use Rattle.go_base.specs.Lists.{Has}
 use Rattle.go_model.specs.types.Members.{field_sel}
 use Rattle.go_model.specs.types.Underlying.{under, fields_of, methods_of}
-use Rattle.go_model.specs.types.MethodSets.{InSet, method_sel}
+use Rattle.go_model.specs.types.MethodSets.{InSet, Implements, method_sel}
+use Rattle.go_model.specs.types.Selectors.{Finds}
+use Rattle.go_model.specs.declared.types.found.Found.TheVariants.{FieldAt}
+use Rattle.go_model.specs.declared.types.found.FieldFound.{FieldFound}
 use Rattle.go_model.specs.types.Terms.{pointer_to}
 use Rattle.go_model.specs.worlds.Worlds.{Packages}
 use Rattle.go_model.specs.declared.types.package.Package.{Package}
@@ -17,10 +20,9 @@ use Rattle.go_model.specs.declared.types.term.Field.{Field}
 use Rattle.go_model.specs.declared.types.names.Sel.{Sel}
 use Rattle.go_model.specs.declared.types.term.Method.{Method}
 use Rattle.go_model.specs.declared.types.term.Signature.{Signature}
-use Rattle.api_correspond.specs.declared.pair.OwnedPair.{OwnedPair}
 use Rattle.api_correspond.specs.Publics.{types_of, package_at, IsPublic, IsExported, Exports, qualified}
-use Rattle.api_correspond.specs.OwnedPairs.{Owned, are_of_module, pair_of}
-use Rattle.api_correspond.specs.Rules.{KeepsPackage, KeepsObject, KeepsKind, KeepsConstant, KeepsType, KeepsUnderlying, KeepsField, KeepsComparable, KeepsSealing, KeepsInterfaceMethod, KeepsClosed, IsSealed, Counts, have_structs, have_interfaces, have_method_sets, KeepsInSet}
+use Rattle.api_correspond.specs.OwnedPairs.{Owned, are_of_module}
+use Rattle.api_correspond.specs.Rules.{KeepsPackage, KeepsObject, KeepsKind, KeepsConstant, KeepsType, KeepsUnderlying, KeepsField, KeepsComparable, KeepsSealing, KeepsInterfaceMethod, KeepsClosed, IsSealed, Counts, have_structs, have_interfaces, have_method_sets, KeepsInSet, KeepsSelectable, KeepsApart, IsSealedPair, IsOwned}
 use Rattle.api_breaks.specs.declared.broken.Sort.{Sort}
 use Rattle.api_breaks.specs.declared.broken.Sort.TheVariants as sort
 use Rattle.api_breaks.specs.declared.broken.Lost.{Lost}
@@ -44,25 +46,27 @@ pub data IsPackageBreak (old new : Packages) (b : Break) : Type 0 where
   object_of_other_kind : (path : List ℕ) (a c : Object) → Exports old path a → Exports new path c → c.name ≡ a.name → (KeepsKind a.entity c.entity → ⊥) → broken (qualified path a.name) (lost.Kind (sort_of a.entity) (sort_of c.entity)) ≡ b → IsPackageBreak old new b
   constant_apart : (path : List ℕ) (a c : Object) → Exports old path a → Exports new path c → c.name ≡ a.name → (KeepsConstant a.entity c.entity → ⊥) → broken (qualified path a.name) (lost.Constant a.entity c.entity) ≡ b → IsPackageBreak old new b
 
--- what the types of an owned pair lose
-pub data IsPairBreak (old new : Packages) (owner : List ℕ) (p : TypePair) (b : Break) : Type 0 where
-  types_apart : (KeepsType old new p → ⊥) → broken owner (lost.Type p.old p.new) ≡ b → IsPairBreak old new owner p b
-  underlying_apart : are_of_module old new p ≡ true → (KeepsUnderlying old new p → ⊥) → broken owner (lost.Underlying (roll-Term (under (types_of old) p.old)) (roll-Term (under (types_of new) p.new))) ≡ b → IsPairBreak old new owner p b
-  field_gone : (f : Field) → (are_of_module old new p && have_structs old new p) ≡ true → Has (fields_of (under (types_of old) p.old)) f → IsExported (field_sel f) → (KeepsField new p f → ⊥) → broken owner (lost.Field (field_sel f).name) ≡ b → IsPairBreak old new owner p b
-  not_comparable : (KeepsComparable old new p → ⊥) → broken owner lost.Comparable ≡ b → IsPairBreak old new owner p b
-  sealing_apart : (are_of_module old new p && have_interfaces old new p) ≡ true → (KeepsSealing old new p → ⊥) → broken owner lost.Sealing ≡ b → IsPairBreak old new owner p b
-  interface_method_gone : (m : Method) → (are_of_module old new p && have_interfaces old new p) ≡ true → Has (methods_of (under (types_of old) p.old)) m → Counts old (method_sel m) → (KeepsInterfaceMethod new p m → ⊥) → broken owner (lost.InterfaceMethod (method_sel m)) ≡ b → IsPairBreak old new owner p b
-  interface_method_new : (n : Method) → (are_of_module old new p && have_interfaces old new p) ≡ true → (IsSealed old p.old → ⊥) → (IsSealed new p.new → ⊥) → Has (methods_of (under (types_of new) p.new)) n → (KeepsClosed old p n → ⊥) → broken owner (lost.InterfaceMethod (method_sel n)) ≡ b → IsPairBreak old new owner p b
-  method_gone : (s : Sel) (g : Signature) → have_method_sets old new p ≡ true → Counts old s → InSet (types_of old) p.old s g → (KeepsInSet old new p.old p.new s g → ⊥) → broken owner (lost.Method s) ≡ b → IsPairBreak old new owner p b
-  pointer_method_gone : (s : Sel) (g : Signature) → have_method_sets old new p ≡ true → Counts old s → InSet (types_of old) (pointer_to p.old) s g → (KeepsInSet old new (pointer_to p.old) (pointer_to p.new) s g → ⊥) → broken owner (lost.Method s) ≡ b → IsPairBreak old new owner p b
+-- what a pair of types loses, by the rules on one pair
+pub data IsLoss (old new : Packages) (p : TypePair) (l : Lost) : Type 0 where
+  types_apart : (KeepsType old new p → ⊥) → lost.Type p.old p.new ≡ l → IsLoss old new p l
+  underlying_apart : are_of_module old new p ≡ true → (KeepsUnderlying old new p → ⊥) → lost.Underlying (roll-Term (under (types_of old) p.old)) (roll-Term (under (types_of new) p.new)) ≡ l → IsLoss old new p l
+  field_gone : (f : Field) → (are_of_module old new p && have_structs old new p) ≡ true → Has (fields_of (under (types_of old) p.old)) f → IsExported (field_sel f) → (KeepsField new p f → ⊥) → lost.Field (field_sel f).name ≡ l → IsLoss old new p l
+  not_selectable : (s : Sel) (f : FieldFound) → have_structs old new p ≡ true → IsExported s → Finds (types_of old) s p.old (FieldAt f) → 1 ≤ f.depth → (KeepsSelectable new p s f → ⊥) → lost.Selectable s.name ≡ l → IsLoss old new p l
+  not_comparable : (KeepsComparable old new p → ⊥) → lost.Comparable ≡ l → IsLoss old new p l
+  sealing_apart : (are_of_module old new p && have_interfaces old new p) ≡ true → (KeepsSealing old new p → ⊥) → lost.Sealing ≡ l → IsLoss old new p l
+  interface_method_gone : (m : Method) → (are_of_module old new p && have_interfaces old new p) ≡ true → Has (methods_of (under (types_of old) p.old)) m → Counts old (method_sel m) → (KeepsInterfaceMethod old new p m → ⊥) → lost.InterfaceMethod (method_sel m) ≡ l → IsLoss old new p l
+  interface_method_new : (n : Method) → (are_of_module old new p && have_interfaces old new p) ≡ true → (IsSealed old p.old → ⊥) → (IsSealed new p.new → ⊥) → Has (methods_of (under (types_of new) p.new)) n → (KeepsClosed old p n → ⊥) → lost.InterfaceMethod (method_sel n) ≡ l → IsLoss old new p l
+  method_gone : (s : Sel) (g : Signature) → have_method_sets old new p ≡ true → Counts old s → InSet (types_of old) p.old s g → (KeepsInSet old new p.old p.new s g → ⊥) → lost.Method s ≡ l → IsLoss old new p l
+  pointer_method_gone : (s : Sel) (g : Signature) → have_method_sets old new p ≡ true → Counts old s → InSet (types_of old) (pointer_to p.old) s g → (KeepsInSet old new (pointer_to p.old) (pointer_to p.new) s g → ⊥) → lost.Method s ≡ l → IsLoss old new p l
 
-abbrev pub IsBreakOf : Packages → Packages → OwnedPair → Break → Type 0
-IsBreakOf old new r = IsPairBreak old new r.owner (pair_of r)
+-- what it loses by the rules on it and another pair
+pub data IsLossAmong (old new : Packages) (p : TypePair) (l : Lost) : Type 0 where
+  not_implementing : (i : TypePair) → IsSealedPair old new i → Implements (types_of old) p.old i.old → (Implements (types_of new) p.new i.new → ⊥) → lost.Implements i.old ≡ l → IsLossAmong old new p l
+  pointer_not_implementing : (i : TypePair) → IsSealedPair old new i → Implements (types_of old) (pointer_to p.old) i.old → (Implements (types_of new) (pointer_to p.new) i.new → ⊥) → lost.Implements i.old ≡ l → IsLossAmong old new p l
+  not_apart : (q : TypePair) → IsOwned old new q → are_of_module old new p ≡ true → (KeepsApart p q → ⊥) → lost.OneToOne p.old p.new ≡ l → IsLossAmong old new p l
 
-abbrev pub AreBreaksOf : Packages → Packages → List OwnedPair → Break → Type 0
-AreBreaksOf old new rs b = (r : OwnedPair) × Has rs r × IsBreakOf old new r b
-
--- what is broken, by these rules
+-- what is broken, by all rules
 pub data IsBreak (old new : Packages) (b : Break) : Type 0 where
   of_packages : IsPackageBreak old new b → IsBreak old new b
-  of_pair : (owner : List ℕ) (p : TypePair) → Owned old new owner p → IsPairBreak old new owner p b → IsBreak old new b
+  of_pair : (owner : List ℕ) (p : TypePair) (l : Lost) → Owned old new owner p → IsLoss old new p l → broken owner l ≡ b → IsBreak old new b
+  of_pairs : (owner : List ℕ) (p : TypePair) (l : Lost) → Owned old new owner p → IsLossAmong old new p l → broken owner l ≡ b → IsBreak old new b

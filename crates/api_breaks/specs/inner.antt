@@ -2,3 +2,5 @@ pub mod Interfaces
 pub mod MethodSets
 pub mod Objects
 pub mod Pairs
+pub mod Selecting
+pub mod Telling

@@ -1,5 +1,5 @@
 //! What is broken, and for whom.
-ghost use Rattle.std.specs.Prelude.{◌≡◌, ◌++◌, ◌∷◌, [], OnOk};
+ghost use Rattle.std.specs.Prelude.{◌≡◌, ◌++◌, ◌∷◌, [], IfOk, OnOk};
 ghost use Rattle.api_breaks.specs.Breaks.{broken};
 
 use go_base::memory::NoMemory;
@@ -36,6 +36,8 @@ pub enum Lost {
     Underlying(Term, Term),
     /// A field at the top level of a struct is gone: its name.
     Field(Text),
+    /// What was a field below the top level of a struct is none, or isn't found through a pointer any more: its name.
+    Selectable(Text),
     /// A type can't be compared any more.
     Comparable,
     /// One of two interfaces alone has unexported methods.
@@ -44,6 +46,10 @@ pub enum Lost {
     InterfaceMethod(Sel),
     /// A method of a type that isn't an interface is gone.
     Method(Sel),
+    /// A type doesn't implement an interface any more that no other package can implement: the old interface.
+    Implements(Term),
+    /// A type corresponds to several types, or one of several types to it: the old and the new type.
+    OneToOne(Term, Term),
 }
 
 impl Drop for Lost {
@@ -57,10 +63,38 @@ impl Drop for Lost {
             Lost::Type(_, _) => {}
             Lost::Underlying(_, _) => {}
             Lost::Field(_) => {}
+            Lost::Selectable(_) => {}
             Lost::Comparable => {}
             Lost::Sealing => {}
             Lost::InterfaceMethod(_) => {}
             Lost::Method(_) => {}
+            Lost::Implements(_) => {}
+            Lost::OneToOne(_, _) => {}
+        }
+    }
+}
+
+impl Lost {
+    /// The same, copied.
+    pub fn copy(&self, alloc: Global) -> Result<Lost, NoMemory>
+        ensures { IfOk result (λ copied. copied ≡ self.now) }
+    {
+        match self {
+            Lost::Package => Ok(Lost::Package),
+            Lost::Name(name) => Ok(Lost::Name(Text::of(alloc, name.bytes())?)),
+            Lost::Removed => Ok(Lost::Removed),
+            Lost::Kind(old, new) => Ok(Lost::Kind(*old, *new)),
+            Lost::Constant(old, new) => Ok(Lost::Constant(old.copy(alloc)?, new.copy(alloc)?)),
+            Lost::Type(old, new) => Ok(Lost::Type(old.copy(alloc)?, new.copy(alloc)?)),
+            Lost::Underlying(old, new) => Ok(Lost::Underlying(old.copy(alloc)?, new.copy(alloc)?)),
+            Lost::Field(name) => Ok(Lost::Field(Text::of(alloc, name.bytes())?)),
+            Lost::Selectable(name) => Ok(Lost::Selectable(Text::of(alloc, name.bytes())?)),
+            Lost::Comparable => Ok(Lost::Comparable),
+            Lost::Sealing => Ok(Lost::Sealing),
+            Lost::InterfaceMethod(sel) => Ok(Lost::InterfaceMethod(sel.copy(alloc)?)),
+            Lost::Method(sel) => Ok(Lost::Method(sel.copy(alloc)?)),
+            Lost::Implements(interface) => Ok(Lost::Implements(interface.copy(alloc)?)),
+            Lost::OneToOne(old, new) => Ok(Lost::OneToOne(old.copy(alloc)?, new.copy(alloc)?)),
         }
     }
 }

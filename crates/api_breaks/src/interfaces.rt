@@ -1,28 +1,33 @@
 //! What interfaces of the module lose.
-ghost use Rattle.std.specs.Prelude.{◌≡◌, ◌↔◌, ◌++◌, ◌∷◌, [], IsTrue, OnOk};
-ghost use Rattle.go_base.specs.Growing.{Grows};
+ghost use Rattle.std.specs.Prelude.{◌≡◌, ◌↔◌, ◌++◌, ◌∷◌, [], map, IsTrue, OnOk};
 ghost use Rattle.go_base.specs.Keys.{item_of};
+ghost use Rattle.go_model.specs.types.MethodSets.{method_sel};
 ghost use Rattle.go_model.specs.types.Underlying.{methods_of};
 ghost use Rattle.go_model.specs.types.Terms.{error_type};
 ghost use Rattle.go_model.specs.declared.types.term.Term.{out-Term};
 ghost use Rattle.go_selectors.specs.Answers.{Decides};
 ghost use Rattle.api_correspond.specs.Publics.{of_std};
 ghost use Rattle.api_correspond.specs.Rules.{is_sealing, is_std_sel, Counts};
-ghost use Rattle.api_breaks.specs.inner.Interfaces.{HasSealing, Serves, HasServing, HasSel, IsMethodGone, AreMethodsGone, IsMethodNew, AreMethodsNew, IsSealedApart, IsNewWhere, IsOfMethods, IsInterfaceBreak, lost_method};
-ghost use Rattle.api_breaks.specs.Breaks.{broken};
+ghost use Rattle.api_correspond.specs.inner.BySel.{ArePlaces};
+ghost use Rattle.api_correspond.specs.inner.Tables.{ItemAt};
+ghost use Rattle.api_breaks.specs.inner.Interfaces.{HasSealing, Serves, HasServing, ServesAt, HasSel, KeepsMethod, IsMethodGone, AreMethodsGone, WasMethod, IsMethodNew, AreMethodsNew, IsSealedApart, KeepsOpen, IsNewWhere, KeepsMethods, IsOfMethods, KeepsInterface, IsInterfaceLoss, lost_method};
+ghost use Rattle.api_breaks.specs.inner.Telling.{Tells, KeptBy};
 
-use crate::broken::{Break, Lost, push};
-use crate::pairs::{are_interfaces, are_of_module, is_exported, under};
-use api_correspond::pair::OwnedPair;
+use crate::broken::Lost;
+use crate::pairs::{are_interfaces, are_of_module, is_empty, under};
+use api_correspond::by_sel::{method_places, places_at};
+use api_correspond::embedded::is_exported;
+use api_correspond::pair::TypePair;
 use api_correspond::publics::has_module_path;
+use go_base::list::List;
 use go_base::memory::NoMemory;
-use go_base::text::Text;
 use go_model::types::names::Sel;
 use go_model::types::package::{Defined, Package};
 use go_model::types::term::{Method, Term};
 use go_model::types::world::World;
 use go_selectors::identity::{same_sel, same_signature};
 use std::alloc::Global;
+use std::collections::BTreeMap;
 
 fn methods_of(term: &Term) -> &[Method]
     ensures { result.now ≡ methods_of (out-Term term.now) }
@@ -96,38 +101,57 @@ fn serves(world: &World, other: &Method, method: &Method) -> bool
     is_same(other, method)
 }
 
-fn has_serving(world: &World, methods: &[Method], method: &Method) -> bool
+fn method_at(methods: &[Method], at: usize) -> Option<&Method>
+    ensures { ItemAt methods.now at result }
+{
+    match methods.get(at) {
+        Some(method) => Some(method),
+        None => None,
+    }
+}
+
+// Whether the method at a place stands for another one.
+fn serves_at(world: &World, methods: &[Method], at: usize, method: &Method) -> bool
+    ensures { Decides (ServesAt world.now methods.now method.now at) result }
+{
+    match method_at(methods, at) {
+        None => false,
+        Some(other) => serves(world, other, method),
+    }
+}
+
+// Whether one of the methods at places stands for another one.
+fn has_serving(
+    world: &World,
+    methods: &[Method],
+    places: &BTreeMap<Sel, List<usize>>,
+    method: &Method,
+) -> bool
+    requires { ArePlaces (map method_sel methods.now) places.now }
     ensures { Decides (HasServing world.now methods.now method.now) result }
 {
-    for other in methods {
-        if serves(world, other, method) {
+    let same = places_at(places, &method.sel);
+    for at in same {
+        if serves_at(world, methods, *at, method) {
             return true;
         }
     }
     false
 }
 
-fn has_sel(methods: &[Method], sel: &Sel) -> bool
+// Whether a method of this selector stands among methods.
+fn has_sel(methods: &[Method], places: &BTreeMap<Sel, List<usize>>, sel: &Sel) -> bool
+    requires { ArePlaces (map method_sel methods.now) places.now }
     ensures { Decides (HasSel methods.now sel.now) result }
 {
-    for method in methods {
-        if same_sel(&method.sel, sel) {
-            return true;
-        }
-    }
-    false
+    !is_empty(places_at(places, sel))
 }
 
-fn push_method(
-    alloc: Global,
-    owner: &Text,
-    method: &Method,
-    breaks: &mut Vec<Break>,
-) -> Result<(), NoMemory>
-    ensures { OnOk result (breaks.new.items ≡ breaks.old.items ++ broken owner.now (lost_method method.now) ∷ []) }
+fn push_method(alloc: Global, method: &Method, losses: &mut Vec<Lost>) -> Result<(), NoMemory>
+    ensures { OnOk result (losses.new.items ≡ losses.old.items ++ lost_method method.now ∷ []) }
 {
     let sel = method.sel.copy(alloc)?;
-    push(alloc, owner, Lost::InterfaceMethod(sel), breaks)?;
+    losses.push(Lost::InterfaceMethod(sel))?;
     Ok(())
 }
 
@@ -135,37 +159,36 @@ fn push_method(
 fn push_gone(
     alloc: Global,
     old: &World,
-    new: &World,
-    owner: &Text,
     method: &Method,
     after: &[Method],
-    breaks: &mut Vec<Break>,
+    places: &BTreeMap<Sel, List<usize>>,
+    losses: &mut Vec<Lost>,
 ) -> Result<(), NoMemory>
-    ensures { OnOk result (Grows (IsMethodGone old.now new.now owner.now after.now method.now) breaks.old.items breaks.new.items) }
+    requires { ArePlaces (map method_sel after.now) places.now }
+    ensures { OnOk result (Tells (KeepsMethod old.now after.now method.now) (IsMethodGone old.now after.now method.now) losses.old.items losses.new.items) }
 {
     if !counts(old, &method.sel) {
         return Ok(());
     }
-    if has_serving(new, after, method) {
+    if has_serving(old, after, places, method) {
         return Ok(());
     }
-    push_method(alloc, owner, method, breaks)?;
+    push_method(alloc, method, losses)?;
     Ok(())
 }
 
 fn push_all_gone(
     alloc: Global,
     old: &World,
-    new: &World,
-    owner: &Text,
     before: &[Method],
     after: &[Method],
-    breaks: &mut Vec<Break>,
+    losses: &mut Vec<Lost>,
 ) -> Result<(), NoMemory>
-    ensures { OnOk result (Grows (AreMethodsGone old.now new.now owner.now before.now after.now) breaks.old.items breaks.new.items) }
+    ensures { OnOk result (Tells (KeptBy (KeepsMethod old.now after.now) before.now) (AreMethodsGone old.now before.now after.now) losses.old.items losses.new.items) }
 {
+    let places = method_places(alloc, after)?;
     for method in before {
-        push_gone(alloc, old, new, owner, method, after, breaks)?;
+        push_gone(alloc, old, method, after, &places, losses)?;
     }
     Ok(())
 }
@@ -173,31 +196,32 @@ fn push_all_gone(
 // Adds that a method is new.
 fn push_new(
     alloc: Global,
-    owner: &Text,
     before: &[Method],
+    places: &BTreeMap<Sel, List<usize>>,
     method: &Method,
-    breaks: &mut Vec<Break>,
+    losses: &mut Vec<Lost>,
 ) -> Result<(), NoMemory>
-    ensures { OnOk result (Grows (IsMethodNew owner.now before.now method.now) breaks.old.items breaks.new.items) }
+    requires { ArePlaces (map method_sel before.now) places.now }
+    ensures { OnOk result (Tells (WasMethod before.now method.now) (IsMethodNew before.now method.now) losses.old.items losses.new.items) }
 {
-    if has_sel(before, &method.sel) {
+    if has_sel(before, places, &method.sel) {
         return Ok(());
     }
-    push_method(alloc, owner, method, breaks)?;
+    push_method(alloc, method, losses)?;
     Ok(())
 }
 
 fn push_all_new(
     alloc: Global,
-    owner: &Text,
     before: &[Method],
     after: &[Method],
-    breaks: &mut Vec<Break>,
+    losses: &mut Vec<Lost>,
 ) -> Result<(), NoMemory>
-    ensures { OnOk result (Grows (AreMethodsNew owner.now before.now after.now) breaks.old.items breaks.new.items) }
+    ensures { OnOk result (Tells (KeptBy (WasMethod before.now) after.now) (AreMethodsNew before.now after.now) losses.old.items losses.new.items) }
 {
+    let places = method_places(alloc, before)?;
     for method in after {
-        push_new(alloc, owner, before, method, breaks)?;
+        push_new(alloc, before, &places, method, losses)?;
     }
     Ok(())
 }
@@ -205,14 +229,13 @@ fn push_all_new(
 // Adds the methods that are new, where neither interface has unexported methods.
 fn push_open(
     alloc: Global,
-    owner: &Text,
     first: bool,
     second: bool,
     before: &[Method],
     after: &[Method],
-    breaks: &mut Vec<Break>,
+    losses: &mut Vec<Lost>,
 ) -> Result<(), NoMemory>
-    ensures { OnOk result (Grows (IsNewWhere owner.now first second before.now after.now) breaks.old.items breaks.new.items) }
+    ensures { OnOk result (Tells (KeepsOpen first second before.now after.now) (IsNewWhere first second before.now after.now) losses.old.items losses.new.items) }
 {
     if first {
         return Ok(());
@@ -220,24 +243,18 @@ fn push_open(
     if second {
         return Ok(());
     }
-    push_all_new(alloc, owner, before, after, breaks)?;
+    push_all_new(alloc, before, after, losses)?;
     Ok(())
 }
 
 // Adds that one of two interfaces alone has unexported methods.
-fn push_sealing(
-    alloc: Global,
-    owner: &Text,
-    first: bool,
-    second: bool,
-    breaks: &mut Vec<Break>,
-) -> Result<(), NoMemory>
-    ensures { OnOk result (Grows (IsSealedApart owner.now first second) breaks.old.items breaks.new.items) }
+fn push_sealing(first: bool, second: bool, losses: &mut Vec<Lost>) -> Result<(), NoMemory>
+    ensures { OnOk result (Tells (first ≡ second) (IsSealedApart first second) losses.old.items losses.new.items) }
 {
     if first == second {
         return Ok(());
     }
-    push(alloc, owner, Lost::Sealing, breaks)?;
+    losses.push(Lost::Sealing)?;
     Ok(())
 }
 
@@ -245,18 +262,17 @@ fn push_methods(
     alloc: Global,
     old: &World,
     new: &World,
-    owner: &Text,
     before: &[Method],
     after: &[Method],
-    breaks: &mut Vec<Break>,
+    losses: &mut Vec<Lost>,
 ) -> Result<(), NoMemory>
-    ensures { OnOk result (Grows (IsOfMethods old.now new.now owner.now before.now after.now) breaks.old.items breaks.new.items) }
+    ensures { OnOk result (Tells (KeepsMethods old.now new.now before.now after.now) (IsOfMethods old.now new.now before.now after.now) losses.old.items losses.new.items) }
 {
     let first = has_sealing(old, before);
     let second = has_sealing(new, after);
-    push_sealing(alloc, owner, first, second, breaks)?;
-    push_all_gone(alloc, old, new, owner, before, after, breaks)?;
-    push_open(alloc, owner, first, second, before, after, breaks)?;
+    push_sealing(first, second, losses)?;
+    push_all_gone(alloc, old, before, after, losses)?;
+    push_open(alloc, first, second, before, after, losses)?;
     Ok(())
 }
 
@@ -266,11 +282,11 @@ pub(crate) fn push_interfaces<'a>(
     error: &'a Defined,
     old: &'a World,
     new: &'a World,
-    pair: &'a OwnedPair,
-    breaks: &mut Vec<Break>,
+    pair: &'a TypePair,
+    losses: &mut Vec<Lost>,
 ) -> Result<(), NoMemory>
     requires { error.now ≡ error_type }
-    ensures { OnOk result (Grows (IsInterfaceBreak old.now new.now pair.now) breaks.old.items breaks.new.items) }
+    ensures { OnOk result (Tells (KeepsInterface old.now new.now pair.now) (IsInterfaceLoss old.now new.now pair.now) losses.old.items losses.new.items) }
 {
     if !are_of_module(old, new, pair) {
         return Ok(());
@@ -282,6 +298,6 @@ pub(crate) fn push_interfaces<'a>(
     }
     let before = methods_of(first);
     let after = methods_of(second);
-    push_methods(alloc, old, new, &pair.owner, before, after, breaks)?;
+    push_methods(alloc, old, new, before, after, losses)?;
     Ok(())
 }

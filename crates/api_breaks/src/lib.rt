@@ -1,10 +1,10 @@
-//! What is broken where a new world takes the place of an old one, by rule.
+//! What is broken where a new world takes the place of an old one: what its packages lose, and what the types of a pair lose.
 #![tactic(auto)]
 
-pub mod breaks;
 pub mod broken;
 mod interfaces;
 mod kinds;
 mod method_sets;
-mod packages;
-mod pairs;
+pub mod packages;
+pub mod pairs;
+mod selectable;

@@ -1,24 +1,21 @@
 //! What method sets lose.
-ghost use Rattle.std.specs.Prelude.{◌≡◌, ◌++◌, ◌∷◌, [], IfOk, OnOk};
-ghost use Rattle.go_base.specs.Growing.{Grows};
+ghost use Rattle.std.specs.Prelude.{◌≡◌, IfOk, OnOk};
 ghost use Rattle.go_model.specs.types.MethodSets.{IsMethodSet};
 ghost use Rattle.go_model.specs.types.Terms.{error_type, pointer_to};
 ghost use Rattle.go_selectors.specs.Answers.{Decides};
 ghost use Rattle.go_selectors.specs.Candidates.{Candidates, HoldMethodSet};
-ghost use Rattle.api_correspond.specs.OwnedPairs.{pair_of};
 ghost use Rattle.api_correspond.specs.Publics.{types_of};
 ghost use Rattle.api_correspond.specs.Rules.{have_method_sets};
-ghost use Rattle.api_breaks.specs.Breaks.{broken};
-ghost use Rattle.api_breaks.specs.inner.MethodSets.{KeptIn, lost_of, IsLostIn, AreLostIn, IsSetBreak, IsMethodSetBreak, are_plain};
+ghost use Rattle.api_breaks.specs.inner.MethodSets.{KeptIn, KeepsCalled, IsLostIn, AreLostIn, KeepsSet, IsSetLoss, KeepsSets, IsMethodSetLoss, are_plain};
+ghost use Rattle.api_breaks.specs.inner.Telling.{Tells, KeptBy};
 
-use crate::broken::{Break, Lost, push};
+use crate::broken::Lost;
 use crate::interfaces::{counts, is_std_sel};
 use crate::pairs::{are_of_module, are_structs, is_interface, under};
-use api_correspond::pair::OwnedPair;
+use api_correspond::pair::TypePair;
 use go_base::boxed::Box;
 use go_base::list::List;
 use go_base::memory::NoMemory;
-use go_base::text::Text;
 use go_model::types::names::Sel;
 use go_model::types::package::Defined;
 use go_model::types::term::{Method, Term};
@@ -49,12 +46,11 @@ fn keeps_method(old: &World, callable: &BTreeMap<Sel, Candidate<'_>>, method: &M
 fn push_lost(
     alloc: Global,
     old: &World,
-    owner: &Text,
     callable: &BTreeMap<Sel, Candidate<'_>>,
     method: &Method,
-    breaks: &mut Vec<Break>,
+    losses: &mut Vec<Lost>,
 ) -> Result<(), NoMemory>
-    ensures { OnOk result (Grows (IsLostIn old.now owner.now callable.now method.now) breaks.old.items breaks.new.items) }
+    ensures { OnOk result (Tells (KeepsCalled old.now callable.now method.now) (IsLostIn old.now callable.now method.now) losses.old.items losses.new.items) }
 {
     if !counts(old, &method.sel) {
         return Ok(());
@@ -63,22 +59,21 @@ fn push_lost(
         return Ok(());
     }
     let sel = method.sel.copy(alloc)?;
-    push(alloc, owner, Lost::Method(sel), breaks)?;
+    losses.push(Lost::Method(sel))?;
     Ok(())
 }
 
 fn push_all_lost(
     alloc: Global,
     old: &World,
-    owner: &Text,
     callable: &BTreeMap<Sel, Candidate<'_>>,
     methods: &[Method],
-    breaks: &mut Vec<Break>,
+    losses: &mut Vec<Lost>,
 ) -> Result<(), NoMemory>
-    ensures { OnOk result (Grows (AreLostIn old.now owner.now callable.now methods.now) breaks.old.items breaks.new.items) }
+    ensures { OnOk result (Tells (KeptBy (KeepsCalled old.now callable.now) methods.now) (AreLostIn old.now callable.now methods.now) losses.old.items losses.new.items) }
 {
     for method in methods {
-        push_lost(alloc, old, owner, callable, method, breaks)?;
+        push_lost(alloc, old, callable, method, losses)?;
     }
     Ok(())
 }
@@ -102,17 +97,16 @@ fn push_uncalled<'a>(
     error: &'a Defined,
     old: &World,
     new: &'a World,
-    owner: &Text,
     after: &'a Term,
     methods: &[Method],
-    breaks: &mut Vec<Break>,
+    losses: &mut Vec<Lost>,
 ) -> Result<(), NoMemory>
     requires { error.now ≡ error_type }
-    ensures { OnOk result ((callable : Candidates) × HoldMethodSet (types_of new.now) after.now callable × Grows (AreLostIn old.now owner.now callable methods.now) breaks.old.items breaks.new.items) }
+    ensures { OnOk result ((callable : Candidates) × HoldMethodSet (types_of new.now) after.now callable × Tells (KeptBy (KeepsCalled old.now callable) methods.now) (AreLostIn old.now callable methods.now) losses.old.items losses.new.items) }
 {
     let types = Lookup::new(new, error);
     let callable = candidates(alloc, &types, after)?;
-    push_all_lost(alloc, old, owner, &callable, methods, breaks)?;
+    push_all_lost(alloc, old, &callable, methods, losses)?;
     Ok(())
 }
 
@@ -122,25 +116,15 @@ fn push_set(
     error: &Defined,
     old: &World,
     new: &World,
-    owner: &Text,
     before: &Term,
     after: &Term,
-    breaks: &mut Vec<Break>,
+    losses: &mut Vec<Lost>,
 ) -> Result<(), NoMemory>
     requires { error.now ≡ error_type }
-    ensures { OnOk result (Grows (IsSetBreak old.now new.now owner.now before.now after.now) breaks.old.items breaks.new.items) }
+    ensures { OnOk result (Tells (KeepsSet old.now new.now before.now after.now) (IsSetLoss old.now new.now before.now after.now) losses.old.items losses.new.items) }
 {
     let methods = method_set(alloc, error, old, before)?;
-    push_uncalled(
-        alloc,
-        error,
-        old,
-        new,
-        owner,
-        after,
-        methods.items(),
-        breaks,
-    )?;
+    push_uncalled(alloc, error, old, new, after, methods.items(), losses)?;
     Ok(())
 }
 
@@ -156,22 +140,22 @@ fn push_pointers(
     error: &Defined,
     old: &World,
     new: &World,
-    pair: &OwnedPair,
-    breaks: &mut Vec<Break>,
+    pair: &TypePair,
+    losses: &mut Vec<Lost>,
 ) -> Result<(), NoMemory>
     requires { error.now ≡ error_type }
-    ensures { OnOk result (Grows (IsSetBreak old.now new.now pair.now.owner (pointer_to pair.now.old) (pointer_to pair.now.new)) breaks.old.items breaks.new.items) }
+    ensures { OnOk result (Tells (KeepsSet old.now new.now (pointer_to pair.now.old) (pointer_to pair.now.new)) (IsSetLoss old.now new.now (pointer_to pair.now.old) (pointer_to pair.now.new)) losses.old.items losses.new.items) }
 {
     let before = pointer_to(alloc, &pair.old)?;
     let after = pointer_to(alloc, &pair.new)?;
-    push_set(alloc, error, old, new, &pair.owner, &before, &after, breaks)?;
+    push_set(alloc, error, old, new, &before, &after, losses)?;
     Ok(())
 }
 
 // Whether both types are of the module and neither is an interface.
-fn are_plain<'a>(error: &'a Defined, old: &'a World, new: &'a World, pair: &'a OwnedPair) -> bool
+fn are_plain<'a>(error: &'a Defined, old: &'a World, new: &'a World, pair: &'a TypePair) -> bool
     requires { error.now ≡ error_type }
-    ensures { result ≡ are_plain old.now new.now (pair_of pair.now) }
+    ensures { result ≡ are_plain old.now new.now pair.now }
 {
     let of_module = are_of_module(old, new, pair);
     let before = is_interface(under(error, old, &pair.old));
@@ -179,9 +163,9 @@ fn are_plain<'a>(error: &'a Defined, old: &'a World, new: &'a World, pair: &'a O
     of_module && !before && !after
 }
 
-fn have_method_sets(error: &Defined, old: &World, new: &World, pair: &OwnedPair) -> bool
+fn have_method_sets(error: &Defined, old: &World, new: &World, pair: &TypePair) -> bool
     requires { error.now ≡ error_type }
-    ensures { result ≡ have_method_sets old.now new.now (pair_of pair.now) }
+    ensures { result ≡ have_method_sets old.now new.now pair.now }
 {
     are_plain(error, old, new, pair) || are_structs(&pair.old, &pair.new)
 }
@@ -192,25 +176,16 @@ pub(crate) fn push_method_sets(
     error: &Defined,
     old: &World,
     new: &World,
-    pair: &OwnedPair,
-    breaks: &mut Vec<Break>,
+    pair: &TypePair,
+    losses: &mut Vec<Lost>,
 ) -> Result<(), NoMemory>
     requires { error.now ≡ error_type }
-    ensures { OnOk result (Grows (IsMethodSetBreak old.now new.now pair.now) breaks.old.items breaks.new.items) }
+    ensures { OnOk result (Tells (KeepsSets old.now new.now pair.now) (IsMethodSetLoss old.now new.now pair.now) losses.old.items losses.new.items) }
 {
     if !have_method_sets(error, old, new, pair) {
         return Ok(());
     }
-    push_set(
-        alloc,
-        error,
-        old,
-        new,
-        &pair.owner,
-        &pair.old,
-        &pair.new,
-        breaks,
-    )?;
-    push_pointers(alloc, error, old, new, pair, breaks)?;
+    push_set(alloc, error, old, new, &pair.old, &pair.new, losses)?;
+    push_pointers(alloc, error, old, new, pair, losses)?;
     Ok(())
 }

@@ -1,33 +1,38 @@
-//! What the types of an owned pair lose.
-ghost use Rattle.std.specs.Prelude.{◌≡◌, ◌&&◌, IfOk, OnOk};
-ghost use Rattle.go_base.specs.Growing.{Grows};
+//! What the types of a pair lose.
+ghost use Rattle.std.specs.Prelude.{◌≡◌, ◌&&◌, [], map, IfOk, OnOk};
 ghost use Rattle.go_model.specs.types.Members.{field_sel};
 ghost use Rattle.go_model.specs.types.Terms.{error_type};
 ghost use Rattle.go_model.specs.types.Underlying.{under, fields_of};
 ghost use Rattle.go_model.specs.declared.types.term.Term.{out-Term};
 ghost use Rattle.go_selectors.specs.Answers.{Decides};
-ghost use Rattle.api_correspond.specs.OwnedPairs.{are_of_module, struct_layer, interface_layer, pair_of};
-ghost use Rattle.api_correspond.specs.Publics.{types_of, IsExported};
-ghost use Rattle.api_correspond.specs.Rules.{KeepsComparable};
-ghost use Rattle.api_breaks.specs.inner.Pairs.{KeepsLayer, same_form, IsTypesBreak, IsUnderlyingBreak, IsComparableBreak, HasField, IsFieldGone, AreFieldsGone, IsFieldsBreak};
-ghost use Rattle.api_breaks.specs.Breaks.{IsBreakOf, AreBreaksOf};
+ghost use Rattle.api_correspond.specs.OwnedPairs.{are_of_module, struct_layer, interface_layer};
+ghost use Rattle.api_correspond.specs.Publics.{types_of};
+ghost use Rattle.api_correspond.specs.Rules.{KeepsType, KeepsComparable, KeepsPair};
+ghost use Rattle.api_correspond.specs.inner.BySel.{ArePlaces};
+ghost use Rattle.api_breaks.specs.Breaks.{IsLoss};
+ghost use Rattle.api_breaks.specs.inner.Pairs.{KeepsLayer, KeepsUnderneath, KeepsIn, KeepsFields, same_form, IsTypesLoss, IsUnderlyingLoss, IsComparableLoss, HasField, IsFieldGone, AreFieldsGone, IsFieldsLoss};
+ghost use Rattle.api_breaks.specs.inner.Telling.{Tells, KeptBy};
 
-use crate::broken::{Break, Lost, push};
+use crate::broken::Lost;
 use crate::interfaces::push_interfaces;
 use crate::method_sets::push_method_sets;
+use crate::selectable::push_selectable;
+use api_correspond::by_sel::{field_places, places_at};
+use api_correspond::embedded::is_exported;
 use api_correspond::matching::types_match;
-use api_correspond::pair::OwnedPair;
+use api_correspond::pair::TypePair;
 use api_correspond::publics::is_of_module;
+use go_base::list::List;
 use go_base::memory::NoMemory;
 use go_base::text::Text;
 use go_model::types::names::Sel;
 use go_model::types::package::Defined;
 use go_model::types::term::{Field, Term};
 use go_model::types::world::World;
-use go_selectors::identity::same_sel;
-use go_selectors::lookup::{Lookup, error_type};
+use go_selectors::lookup::Lookup;
 use go_types::comparison::comparable;
 use std::alloc::Global;
+use std::collections::BTreeMap;
 
 pub(crate) fn under<'a>(error: &'a Defined, world: &'a World, term: &'a Term) -> &'a Term
     requires { error.now ≡ error_type }
@@ -66,8 +71,8 @@ fn have_same_form(before: &Term, after: &Term) -> bool
     are_structs(before, after) || are_interfaces(before, after)
 }
 
-pub(crate) fn are_of_module(old: &World, new: &World, pair: &OwnedPair) -> bool
-    ensures { result ≡ are_of_module old.now new.now (pair_of pair.now) }
+pub(crate) fn are_of_module(old: &World, new: &World, pair: &TypePair) -> bool
+    ensures { result ≡ are_of_module old.now new.now pair.now }
 {
     is_of_module(old, &pair.old) && is_of_module(new, &pair.new)
 }
@@ -77,17 +82,17 @@ fn push_types(
     alloc: Global,
     old: &World,
     new: &World,
-    pair: &OwnedPair,
-    breaks: &mut Vec<Break>,
+    pair: &TypePair,
+    losses: &mut Vec<Lost>,
 ) -> Result<(), NoMemory>
-    ensures { OnOk result (Grows (IsTypesBreak old.now new.now pair.now) breaks.old.items breaks.new.items) }
+    ensures { OnOk result (Tells (KeepsType old.now new.now pair.now) (IsTypesLoss old.now new.now pair.now) losses.old.items losses.new.items) }
 {
     if types_match(old, new, &pair.old, &pair.new) {
         return Ok(());
     }
     let before = pair.old.copy(alloc)?;
     let after = pair.new.copy(alloc)?;
-    push(alloc, &pair.owner, Lost::Type(before, after), breaks)?;
+    losses.push(Lost::Type(before, after))?;
     Ok(())
 }
 
@@ -107,11 +112,11 @@ fn push_underlying<'a>(
     error: &'a Defined,
     old: &'a World,
     new: &'a World,
-    pair: &'a OwnedPair,
-    breaks: &mut Vec<Break>,
+    pair: &'a TypePair,
+    losses: &mut Vec<Lost>,
 ) -> Result<(), NoMemory>
     requires { error.now ≡ error_type }
-    ensures { OnOk result (Grows (IsUnderlyingBreak old.now new.now pair.now) breaks.old.items breaks.new.items) }
+    ensures { OnOk result (Tells (KeepsUnderneath old.now new.now pair.now) (IsUnderlyingLoss old.now new.now pair.now) losses.old.items losses.new.items) }
 {
     if !are_of_module(old, new, pair) {
         return Ok(());
@@ -123,7 +128,7 @@ fn push_underlying<'a>(
     }
     let first = before.copy(alloc)?;
     let second = after.copy(alloc)?;
-    push(alloc, &pair.owner, Lost::Underlying(first, second), breaks)?;
+    losses.push(Lost::Underlying(first, second))?;
     Ok(())
 }
 
@@ -132,9 +137,9 @@ fn keeps_comparable(
     alloc: Global,
     old: &World,
     new: &World,
-    pair: &OwnedPair,
+    pair: &TypePair,
 ) -> Result<bool, NoMemory>
-    ensures { IfOk result (Decides (KeepsComparable old.now new.now (pair_of pair.now))) }
+    ensures { IfOk result (Decides (KeepsComparable old.now new.now pair.now)) }
 {
     if !types_match(old, new, &pair.old, &pair.new) {
         return Ok(true);
@@ -152,96 +157,68 @@ fn push_comparable(
     alloc: Global,
     old: &World,
     new: &World,
-    pair: &OwnedPair,
-    breaks: &mut Vec<Break>,
+    pair: &TypePair,
+    losses: &mut Vec<Lost>,
 ) -> Result<(), NoMemory>
-    ensures { OnOk result (Grows (IsComparableBreak old.now new.now pair.now) breaks.old.items breaks.new.items) }
+    ensures { OnOk result (Tells (KeepsComparable old.now new.now pair.now) (IsComparableLoss old.now new.now pair.now) losses.old.items losses.new.items) }
 {
     let keeps = keeps_comparable(alloc, old, new, pair)?;
     if keeps {
         return Ok(());
     }
-    push(alloc, &pair.owner, Lost::Comparable, breaks)?;
+    losses.push(Lost::Comparable)?;
     Ok(())
 }
 
-pub(crate) fn is_exported(sel: &Sel) -> bool
-    ensures { Decides (IsExported sel.now) result }
+/// Whether a selector stands at no place.
+pub(crate) fn is_empty(places: &[usize]) -> bool
+    ensures { Decides (places.now ≡ []) result }
 {
-    sel.package.bytes().is_empty()
+    places.is_empty()
 }
 
 // Whether a field of this selector stands among fields.
-fn has_field(fields: &[Field], sel: &Sel) -> bool
+fn has_field(fields: &[Field], places: &BTreeMap<Sel, List<usize>>, sel: &Sel) -> bool
+    requires { ArePlaces (map field_sel fields.now) places.now }
     ensures { Decides (HasField fields.now sel.now) result }
 {
-    for field in fields {
-        if same_sel(&field.sel, sel) {
-            return true;
-        }
-    }
-    false
+    !is_empty(places_at(places, sel))
 }
 
 // Adds that an exported field is gone.
 fn push_field(
     alloc: Global,
-    owner: &Text,
     field: &Field,
     after: &[Field],
-    breaks: &mut Vec<Break>,
+    places: &BTreeMap<Sel, List<usize>>,
+    losses: &mut Vec<Lost>,
 ) -> Result<(), NoMemory>
-    ensures { OnOk result (Grows (IsFieldGone owner.now after.now field.now) breaks.old.items breaks.new.items) }
+    requires { ArePlaces (map field_sel after.now) places.now }
+    ensures { OnOk result (Tells (KeepsIn after.now field.now) (IsFieldGone after.now field.now) losses.old.items losses.new.items) }
 {
     if !is_exported(&field.sel) {
         return Ok(());
     }
-    if has_field(after, &field.sel) {
+    if has_field(after, places, &field.sel) {
         return Ok(());
     }
     let name = Text::of(alloc, field.sel.name.bytes())?;
-    push(alloc, owner, Lost::Field(name), breaks)?;
+    losses.push(Lost::Field(name))?;
     Ok(())
 }
 
 fn push_all_fields(
     alloc: Global,
-    owner: &Text,
     before: &[Field],
     after: &[Field],
-    breaks: &mut Vec<Break>,
+    losses: &mut Vec<Lost>,
 ) -> Result<(), NoMemory>
-    ensures { OnOk result (Grows (AreFieldsGone owner.now after.now before.now) breaks.old.items breaks.new.items) }
+    ensures { OnOk result (Tells (KeptBy (KeepsIn after.now) before.now) (AreFieldsGone after.now before.now) losses.old.items losses.new.items) }
 {
+    let places = field_places(alloc, after)?;
     for field in before {
-        push_field(alloc, owner, field, after, breaks)?;
+        push_field(alloc, field, after, &places, losses)?;
     }
-    Ok(())
-}
-
-// Adds the exported fields at the top level of a struct that are gone.
-fn push_fields<'a>(
-    alloc: Global,
-    error: &'a Defined,
-    old: &'a World,
-    new: &'a World,
-    pair: &'a OwnedPair,
-    breaks: &mut Vec<Break>,
-) -> Result<(), NoMemory>
-    requires { error.now ≡ error_type }
-    ensures { OnOk result (Grows (IsFieldsBreak old.now new.now pair.now) breaks.old.items breaks.new.items) }
-{
-    if !are_of_module(old, new, pair) {
-        return Ok(());
-    }
-    let first = under(error, old, &pair.old);
-    let second = under(error, new, &pair.new);
-    if !are_structs(first, second) {
-        return Ok(());
-    }
-    let before = fields_of(first);
-    let after = fields_of(second);
-    push_all_fields(alloc, &pair.owner, before, after, breaks)?;
     Ok(())
 }
 
@@ -254,40 +231,50 @@ fn fields_of(term: &Term) -> &[Field]
     }
 }
 
-// Adds what the types of a pair lose.
-fn push_pair(
+// Adds the exported fields at the top level of a struct that are gone.
+fn push_fields<'a>(
+    alloc: Global,
+    error: &'a Defined,
+    old: &'a World,
+    new: &'a World,
+    pair: &'a TypePair,
+    losses: &mut Vec<Lost>,
+) -> Result<(), NoMemory>
+    requires { error.now ≡ error_type }
+    ensures { OnOk result (Tells (KeepsFields old.now new.now pair.now) (IsFieldsLoss old.now new.now pair.now) losses.old.items losses.new.items) }
+{
+    if !are_of_module(old, new, pair) {
+        return Ok(());
+    }
+    let first = under(error, old, &pair.old);
+    let second = under(error, new, &pair.new);
+    if !are_structs(first, second) {
+        return Ok(());
+    }
+    let before = fields_of(first);
+    let after = fields_of(second);
+    push_all_fields(alloc, before, after, losses)?;
+    Ok(())
+}
+
+/// Adds what the types of a pair lose, by the rules on one pair.
+pub fn push_pair(
     alloc: Global,
     error: &Defined,
     old: &World,
     new: &World,
-    pair: &OwnedPair,
-    breaks: &mut Vec<Break>,
+    pair: &TypePair,
+    losses: &mut Vec<Lost>,
 ) -> Result<(), NoMemory>
     requires { error.now ≡ error_type }
-    ensures { OnOk result (Grows (IsBreakOf old.now new.now pair.now) breaks.old.items breaks.new.items) }
+    ensures { OnOk result (Tells (KeepsPair old.now new.now pair.now) (IsLoss old.now new.now pair.now) losses.old.items losses.new.items) }
 {
-    push_types(alloc, old, new, pair, breaks)?;
-    push_underlying(alloc, error, old, new, pair, breaks)?;
-    push_fields(alloc, error, old, new, pair, breaks)?;
-    push_comparable(alloc, old, new, pair, breaks)?;
-    push_interfaces(alloc, error, old, new, pair, breaks)?;
-    push_method_sets(alloc, error, old, new, pair, breaks)?;
-    Ok(())
-}
-
-/// Adds what the types of pairs lose, each pair by itself.
-pub(crate) fn push_pairs(
-    alloc: Global,
-    old: &World,
-    new: &World,
-    pairs: &[OwnedPair],
-    breaks: &mut Vec<Break>,
-) -> Result<(), NoMemory>
-    ensures { OnOk result (Grows (AreBreaksOf old.now new.now pairs.now) breaks.old.items breaks.new.items) }
-{
-    let error = error_type(alloc)?;
-    for pair in pairs {
-        push_pair(alloc, &error, old, new, pair, breaks)?;
-    }
+    push_types(alloc, old, new, pair, losses)?;
+    push_underlying(alloc, error, old, new, pair, losses)?;
+    push_fields(alloc, error, old, new, pair, losses)?;
+    push_selectable(alloc, error, old, new, pair, losses)?;
+    push_comparable(alloc, old, new, pair, losses)?;
+    push_interfaces(alloc, error, old, new, pair, losses)?;
+    push_method_sets(alloc, error, old, new, pair, losses)?;
     Ok(())
 }

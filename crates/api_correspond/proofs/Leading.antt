@@ -1,5 +1,5 @@
 -- The ways in which a pair leads to others are all of them.
-use Rattle.std.proofs.Common.{◌≡◌, ◌↔◌, ◌≤◌, ◌<◌, ◌⊎◌, inl, inr, ℕ, Bool, true, false, not, List, [], ◌∷◌, ◌++◌, length, take, refl, sym, ap, ◌∙◌, subst, arith, Option, None, Some}
+use Rattle.std.proofs.Common.{◌≡◌, ◌↔◌, ◌≤◌, ◌<◌, ◌⊎◌, inl, inr, ℕ, Bool, true, false, not, List, [], ◌∷◌, ◌++◌, length, take, map, get_or, refl, sym, ap, ◌∙◌, subst, arith, Option, None, Some}
 use mathlib.Core.Bool.{true≢false}
 use Rattle.go_base.specs.Lists.{Has}
 use Rattle.go_base.specs.Growing.{Grows}
@@ -25,8 +25,12 @@ use Rattle.api_correspond.specs.Publics.{types_of, IsExported}
 use Rattle.api_correspond.specs.Outermost.{Match, parts, pair, side_by_side, function_type, field_type, method_type}
 use Rattle.api_correspond.specs.OwnedPairs.{is_structured, are_of_module, have_members, receiver, Leads, to_part, to_part_underneath, to_field, to_promoted_field, to_method}
 use Rattle.api_correspond.specs.inner.Members.{OfSome}
-use Rattle.api_correspond.specs.inner.Leading.{IsPart, IsPartUnderneath, AreSameField, IsFoundAfter, IsPromotedBy, IsCommonField, IsTopField, FieldTerm, IsFieldFound, FieldOf, IsFoundField, IsPromotedField, ArePromoted, IsCalledIn, AreCalledIn, IsCommonMethod, IsMember, HoldDeepFields}
+use Rattle.api_correspond.specs.inner.Leading.{IsPart, IsPartUnderneath, IsFieldAt, AreFieldsAt, IsExportedWith, IsFoundAfter, IsPromotedBy, IsCommonField, IsTopField, FieldTerm, IsFieldFound, FieldOf, IsFoundField, IsPromotedField, ArePromoted, IsCalledIn, AreCalledIn, IsCommonMethod, IsMember, HoldDeepFields}
 use Rattle.api_correspond.specs.inner.Spreading.{IsSelOf}
+use Rattle.api_correspond.specs.inner.BySel.{PlaceTable, places_at, ArePlaces}
+use Rattle.api_correspond.specs.inner.Tables.{At}
+use Rattle.api_correspond.proofs.Places.{at_within, at_same, at_get, at_has}
+use Rattle.api_correspond.proofs.Selected.{placed_item, item_placed}
 use Rattle.api_correspond.proofs.Growing.{grows_none, grows_one, grows_all, grows_both, grows_as}
 
 module _ (old new : Packages) (p : TypePair) where
@@ -141,8 +145,27 @@ module _ (S T : Table) (p : TypePair) where
   promoted_by sels xs ys h g = grows_as xs ys (λ q k. (k.0, k.2.0, k.2.1)) (λ q k. (k.0, h k.0 k.2.0.0 k.1 k.2.0.1 k.2.0.2, (k.1, k.2))) g
 
 -- single pushes
-pub same_pushed : (f g : Field) (xs ys : List TypePair) → field_sel g ≡ field_sel f → ys ≡ xs ++ pair (field_type f) (field_type g) ∷ [] → Grows (AreSameField f g) xs ys
-same_pushed f g xs ys s e = grows_one xs ys (pair (field_type f) (field_type g)) e (s, refl) (λ q h. h.1)
+pub at_none : (f : Field) (gs : List Field) (at : ℕ) (xs : List TypePair) → length gs ≤ at → Grows (IsFieldAt f gs at) xs xs
+at_none f gs at xs l = grows_none xs (λ q h. let k = at_within gs at h.0 h.1 in absurd (omega (arith, k, l)))
+
+pub at_pushed : (f g : Field) (gs : List Field) (at : ℕ) (xs ys : List TypePair) → at < length gs → g ≡ get_or gs at g → ys ≡ xs ++ pair (field_type f) (field_type g) ∷ [] → Grows (IsFieldAt f gs at) xs ys
+at_pushed f g gs at xs ys l e h = let k = at_get gs at g l e in grows_one xs ys (pair (field_type f) (field_type g)) h (g, k, refl) (λ q m. ap (λ (x : Field). pair (field_type f) (field_type x)) (at_same gs at g m.0 k m.1) ∙ m.2)
+
+pub fields_hidden : (f : Field) (gs : List Field) (xs : List TypePair) → (IsExported (field_sel f) → ⊥) → Grows (IsExportedWith gs f) xs xs
+fields_hidden f gs xs n = grows_none xs (λ q h. n h.0)
+
+-- the fields at the places of a selector are those with it
+pub fields_placed : (f : Field) (gs : List Field) (m : PlaceTable) (places : List ℕ) (xs ys : List TypePair) → ArePlaces (map field_sel gs) m → places ≡ places_at m (field_sel f) → IsExported (field_sel f) → Grows (AreFieldsAt f gs places) xs ys → Grows (IsExportedWith gs f) xs ys
+fields_placed f gs m places xs ys p e x g = grows_as xs ys to back (subst (λ (w : List ℕ). Grows (AreFieldsAt f gs w) xs ys) e g)
+  where
+    to : (q : TypePair) → AreFieldsAt f gs (places_at m (field_sel f)) q → IsExportedWith gs f q
+    to q h =
+        let k = placed_item field_sel gs m (field_sel f) h.0 p h.1 in
+        let s : k.0 ≡ h.2.0 = at_same gs h.0 k.0 h.2.0 k.1 h.2.1 in
+        (x, (h.2.0, at_has gs h.0 h.2.0 h.2.1, (ap field_sel (sym s) ∙ k.2, h.2.2)))
+
+    back : (q : TypePair) → IsExportedWith gs f q → AreFieldsAt f gs (places_at m (field_sel f)) q
+    back q h = let k = item_placed field_sel gs m (field_sel f) h.1.0 p h.1.1 h.1.2.0 in (k.0, k.1, (h.1.0, k.2, h.1.2.1))
 
 signature_same : (g : Signature) (o : Option Signature) (h : Signature) → Some g ≡ o → o ≡ Some h → g ≡ h
 signature_same g o h e f = cc

@@ -5,6 +5,7 @@ pub mod Lookups
 pub mod Places
 pub mod PrefixFree
 pub mod Putting
+pub mod Selected
 pub mod Spreading
 pub mod Tabling
 pub mod Trees

@@ -6,7 +6,7 @@ use Rattle.std.specs.List.{list_any}
 use Rattle.std.proofs.lemmas.Slice.Eq.{bytes_eq-Decides}
 use Rattle.indexmap.specs.IndexSet.{insert_key}
 use Rattle.go_base.specs.Lists.{Has, Once}
-use Rattle.go_base.proofs.Members.{found_has, has_found}
+use Rattle.go_base.proofs.Members.{found_has, has_found, has_split}
 use Rattle.api_correspond.specs.declared.pair.TypePair.{TypePair}
 use Rattle.api_correspond.specs.Codes.{Code, code_of_pair}
 use Rattle.api_correspond.specs.inner.Tables.{At, AddsAt, KeepsTexts, InStep, AddsPair, AddsPairs}
@@ -74,12 +74,13 @@ pair_known codes longer pairs p c at fresh s e a f =
 pub record Adding (whole rest : List TypePair) (old new : List TypePair) (numbers : List ℕ) : Type 0 where
   pub more : List TypePair
   pub grown : new ≡ old ++ more
+  pub only : (p : TypePair) → Has more p → Has whole p
   pub within : (p : TypePair) → Has rest p → Has whole p
   pub sound : (j : ℕ) → Has numbers j → (p : TypePair) × Has whole p × At new j p
   pub pending : (p : TypePair) → Has whole p → Has rest p ⊎ ((j : ℕ) × Has numbers j × At new j p)
 
 pub adding_none : (whole old : List TypePair) → Adding whole whole old old []
-adding_none whole old = record { more = []; grown = sym (append_nil old); within = λ p h. h; sound = λ j h. absurd h; pending = λ p h. inl h }
+adding_none whole old = record { more = []; grown = sym (append_nil old); only = λ p h. absurd h; within = λ p h. h; sound = λ j h. absurd h; pending = λ p h. inl h }
 
 split_last : {A : Type 0} (xs : List A) (y x : A) → Has (xs ++ y ∷ []) x → Has xs x ⊎ (y ≡ x)
 split_last [] y x (inl e) = inr e
@@ -100,6 +101,7 @@ pub adding_more : (whole rest less : List TypePair) (old mid new : List TypePair
 adding_more whole rest less old mid new numbers longer p at e a b f = record {
   more = a.more ++ b.more;
   grown = b.grown ∙ ap (λ w. w ++ b.more) a.grown ∙ append_assoc old a.more b.more;
+  only = λ q h. elim (has_split a.more b.more q h) [ inl x ↦ a.only q x | inr y ↦ subst (Has whole) (sym (b.only q y)) (a.within p (subst (λ (w : List TypePair). Has w p) (sym e) (last_of less p))) ];
   within = λ q h. a.within q (subst (λ (w : List TypePair). Has w q) (sym e) (left_of less (p ∷ []) q h));
   sound = λ j h. elim (split_last numbers at j (subst (λ (w : List ℕ). Has w j) f h)) [
     | inl x ↦ (let k = a.sound j x in (k.0, k.1, subst (λ (w : List TypePair). At w j k.0) (sym b.grown) (at_left mid b.more j k.0 k.2)))
@@ -115,4 +117,4 @@ adding_more whole rest less old mid new numbers longer p at e a b f = record {
 }
 
 pub adding_all : (whole old new : List TypePair) (numbers : List ℕ) → Adding whole [] old new numbers → AddsPairs old new whole numbers
-adding_all whole old new numbers a = record { more = a.more; grown = a.grown; sound = a.sound; complete = λ p h. elim (a.pending p h) [ inl x ↦ absurd x | inr k ↦ k ] }
+adding_all whole old new numbers a = record { more = a.more; grown = a.grown; only = a.only; sound = a.sound; complete = λ p h. elim (a.pending p h) [ inl x ↦ absurd x | inr k ↦ k ] }

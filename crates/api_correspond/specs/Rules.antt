@@ -100,9 +100,9 @@ Counts w s = IsExported s ⊎ (is_std_sel w s ≡ true)
 abbrev pub IsSealed : Packages → Term → Type 0
 IsSealed w t = (m : Method) × Has (methods_of (under (types_of w) t)) m × (is_sealing w (method_sel m) ≡ true)
 
--- the interface has a method of the selector; an unexported one of std has an identical signature
-abbrev pub HasAsMethod : Packages → Term → Method → Type 0
-HasAsMethod w t m = (n : Method) × Has (methods_of (under (types_of w) t)) n × (method_sel n ≡ method_sel m) × (is_std_sel w (method_sel m) ≡ true → n ≡ m)
+-- the new interface has a method of the selector; one that is an unexported one of std in the old world has an identical signature
+abbrev pub HasAsMethod : Packages → Packages → Term → Method → Type 0
+HasAsMethod old new t m = (n : Method) × Has (methods_of (under (types_of new) t)) n × (method_sel n ≡ method_sel m) × (is_std_sel old (method_sel m) ≡ true → n ≡ m)
 
 -- `interface-methods`: of types of the module with interfaces, both have unexported methods or neither
 pub record KeepsSealing (old new : Packages) (p : TypePair) : Type 0 where
@@ -110,8 +110,8 @@ pub record KeepsSealing (old new : Packages) (p : TypePair) : Type 0 where
   pub not_new : IsSealed new p.new → IsSealed old p.old
 
 -- each method that counts is kept
-abbrev pub KeepsInterfaceMethod : Packages → TypePair → Method → Type 0
-KeepsInterfaceMethod new p m = HasAsMethod new p.new m
+abbrev pub KeepsInterfaceMethod : Packages → Packages → TypePair → Method → Type 0
+KeepsInterfaceMethod old new p m = HasAsMethod old new p.new m
 
 -- and without unexported methods none is new
 abbrev pub KeepsClosed : Packages → TypePair → Method → Type 0
@@ -136,22 +136,44 @@ pub record KeepsApart (p q : TypePair) : Type 0 where
   pub same_old : q.old ≡ p.old → q.new ≡ p.new
   pub same_new : q.new ≡ p.new → q.old ≡ p.old
 
+-- what a path that is public in the old world keeps: its package, the name and the objects of that
+pub record KeepsPath (old new : Packages) (path : List ℕ) : Type 0 where
+  pub package_kept : KeepsPackage old new path
+  pub name_kept : IsPublic new path → KeepsName old new path
+  pub objects : (a : Object) → Exports old path a → IsPublic new path → KeepsObject new path a
+  pub kinds : (a b : Object) → Exports old path a → Exports new path b → b.name ≡ a.name → KeepsKind a.entity b.entity
+  pub constants : (a b : Object) → Exports old path a → Exports new path b → b.name ≡ a.name → KeepsConstant a.entity b.entity
+
+-- what a pair of types keeps, by the rules on one pair
+pub record KeepsPair (old new : Packages) (p : TypePair) : Type 0 where
+  pub types : KeepsType old new p
+  pub underlying : are_of_module old new p ≡ true → KeepsUnderlying old new p
+  pub fields : (f : Field) → (are_of_module old new p && have_structs old new p) ≡ true → Has (fields_of (under (types_of old) p.old)) f → IsExported (field_sel f) → KeepsField new p f
+  pub selectable : (s : Sel) (f : FieldFound) → have_structs old new p ≡ true → IsExported s → Finds (types_of old) s p.old (FieldAt f) → 1 ≤ f.depth → KeepsSelectable new p s f
+  pub comparable : KeepsComparable old new p
+  pub sealing : (are_of_module old new p && have_interfaces old new p) ≡ true → KeepsSealing old new p
+  pub interface_methods : (m : Method) → (are_of_module old new p && have_interfaces old new p) ≡ true → Has (methods_of (under (types_of old) p.old)) m → Counts old (method_sel m) → KeepsInterfaceMethod old new p m
+  pub closed_interfaces : (n : Method) → (are_of_module old new p && have_interfaces old new p) ≡ true → (IsSealed old p.old → ⊥) → (IsSealed new p.new → ⊥) → Has (methods_of (under (types_of new) p.new)) n → KeepsClosed old p n
+  pub method_sets : (s : Sel) (g : Signature) → have_method_sets old new p ≡ true → Counts old s → InSet (types_of old) p.old s g → KeepsInSet old new p.old p.new s g
+  pub pointer_sets : (s : Sel) (g : Signature) → have_method_sets old new p ≡ true → Counts old s → InSet (types_of old) (pointer_to p.old) s g → KeepsInSet old new (pointer_to p.old) (pointer_to p.new) s g
+
+-- an owned interface that no other package can implement, to which a new interface corresponds
+pub record IsSealedPair (old new : Packages) (i : TypePair) : Type 0 where
+  pub owner : List ℕ
+  pub owned : Owned old new owner i
+  pub closed : IsSealed old i.old
+  pub still : interface_layer (under (types_of new) i.new) ≡ true
+
+-- a pair that some object owns
+abbrev pub IsOwned : Packages → Packages → TypePair → Type 0
+IsOwned old new p = (owner : List ℕ) × Owned old new owner p
+
+-- what a pair of types keeps, by the rules on it and another pair
+pub record KeepsAmong (old new : Packages) (p : TypePair) : Type 0 where
+  pub implements : (i : TypePair) → IsSealedPair old new i → KeepsImplementing old new p i
+  pub one_to_one : (q : TypePair) → IsOwned old new q → are_of_module old new p ≡ true → KeepsApart p q
+
 -- nothing of the old world is lost
 pub record Compatible (old new : Packages) : Type 0 where
-  pub packages : (path : List ℕ) → IsPublic old path → KeepsPackage old new path
-  pub names : (path : List ℕ) → IsPublic old path → IsPublic new path → KeepsName old new path
-  pub objects : (path : List ℕ) (a : Object) → Exports old path a → IsPublic new path → KeepsObject new path a
-  pub kinds : (path : List ℕ) (a b : Object) → Exports old path a → Exports new path b → b.name ≡ a.name → KeepsKind a.entity b.entity
-  pub constants : (path : List ℕ) (a b : Object) → Exports old path a → Exports new path b → b.name ≡ a.name → KeepsConstant a.entity b.entity
-  pub types : (o : List ℕ) (p : TypePair) → Owned old new o p → KeepsType old new p
-  pub underlying : (o : List ℕ) (p : TypePair) → Owned old new o p → are_of_module old new p ≡ true → KeepsUnderlying old new p
-  pub fields : (o : List ℕ) (p : TypePair) (f : Field) → Owned old new o p → (are_of_module old new p && have_structs old new p) ≡ true → Has (fields_of (under (types_of old) p.old)) f → IsExported (field_sel f) → KeepsField new p f
-  pub selectable : (o : List ℕ) (p : TypePair) (s : Sel) (f : FieldFound) → Owned old new o p → have_structs old new p ≡ true → IsExported s → Finds (types_of old) s p.old (FieldAt f) → 1 ≤ f.depth → KeepsSelectable new p s f
-  pub comparable : (o : List ℕ) (p : TypePair) → Owned old new o p → KeepsComparable old new p
-  pub sealing : (o : List ℕ) (p : TypePair) → Owned old new o p → (are_of_module old new p && have_interfaces old new p) ≡ true → KeepsSealing old new p
-  pub interface_methods : (o : List ℕ) (p : TypePair) (m : Method) → Owned old new o p → (are_of_module old new p && have_interfaces old new p) ≡ true → Has (methods_of (under (types_of old) p.old)) m → Counts old (method_sel m) → KeepsInterfaceMethod new p m
-  pub closed_interfaces : (o : List ℕ) (p : TypePair) (n : Method) → Owned old new o p → (are_of_module old new p && have_interfaces old new p) ≡ true → (IsSealed old p.old → ⊥) → (IsSealed new p.new → ⊥) → Has (methods_of (under (types_of new) p.new)) n → KeepsClosed old p n
-  pub method_sets : (o : List ℕ) (p : TypePair) (s : Sel) (g : Signature) → Owned old new o p → have_method_sets old new p ≡ true → Counts old s → InSet (types_of old) p.old s g → KeepsInSet old new p.old p.new s g
-  pub pointer_sets : (o : List ℕ) (p : TypePair) (s : Sel) (g : Signature) → Owned old new o p → have_method_sets old new p ≡ true → Counts old s → InSet (types_of old) (pointer_to p.old) s g → KeepsInSet old new (pointer_to p.old) (pointer_to p.new) s g
-  pub implements : (o k : List ℕ) (p i : TypePair) → Owned old new o p → Owned old new k i → IsSealed old i.old → interface_layer (under (types_of new) i.new) ≡ true → KeepsImplementing old new p i
-  pub one_to_one : (o k : List ℕ) (p q : TypePair) → Owned old new o p → Owned old new k q → are_of_module old new p ≡ true → KeepsApart p q
+  pub paths : (path : List ℕ) → IsPublic old path → KeepsPath old new path
+  pub pairs : (p : TypePair) → IsOwned old new p → KeepsPair old new p × KeepsAmong old new p

@@ -1,3 +1,4 @@
+pub mod BySel
 pub mod Leading
 pub mod Members
 pub mod Names

@@ -2,6 +2,7 @@
 //! the pairs of types to which a pair leads.
 #![tactic(auto)]
 
+pub mod by_sel;
 mod codes;
 pub mod embedded;
 pub mod leads;

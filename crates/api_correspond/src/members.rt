@@ -1,14 +1,18 @@
 //! Fields and methods that an old and a new type both have.
-ghost use Rattle.std.specs.Prelude.{◌≡◌, ◌++◌, ◌∷◌, [], IfOk, OnOk};
+ghost use Rattle.std.specs.Prelude.{◌≡◌, ◌++◌, ◌∷◌, [], map, IfOk, OnOk};
 ghost use Rattle.go_base.specs.Growing.{Grows};
+ghost use Rattle.go_model.specs.types.Members.{field_sel};
 ghost use Rattle.go_model.specs.types.MethodSets.{IsMethodSet};
 ghost use Rattle.go_model.specs.types.Terms.{error_type};
 ghost use Rattle.go_selectors.specs.Candidates.{Candidates, HoldMethodSet};
 ghost use Rattle.api_correspond.specs.OwnedPairs.{receiver};
 ghost use Rattle.api_correspond.specs.Outermost.{pair, function_type};
 ghost use Rattle.api_correspond.specs.Publics.{types_of};
-ghost use Rattle.api_correspond.specs.inner.Leading.{AreSameField, IsFieldWith, IsExportedWith, IsCommonField, IsFoundAfter, IsPromotedBy, IsPromotedField, IsCalledIn, AreCalledIn, IsCommonMethod, FieldTerm, FieldOf};
+ghost use Rattle.api_correspond.specs.inner.BySel.{ArePlaces};
+ghost use Rattle.api_correspond.specs.inner.Tables.{ItemAt};
+ghost use Rattle.api_correspond.specs.inner.Leading.{IsFieldAt, AreFieldsAt, IsExportedWith, IsCommonField, IsFoundAfter, IsPromotedBy, IsPromotedField, IsCalledIn, AreCalledIn, IsCommonMethod, FieldTerm, FieldOf};
 
+use crate::by_sel::{field_places, places_at};
 use crate::embedded::{deep_fields, is_exported};
 use crate::pair::TypePair;
 use go_base::boxed::Box;
@@ -21,7 +25,6 @@ use go_model::types::term::{Field, Method, Signature, Term};
 use go_model::types::world::World;
 use go_selectors::candidate::Candidate;
 use go_selectors::candidates::{called_at, candidates};
-use go_selectors::identity::same_sel;
 use go_selectors::lookup::Lookup;
 use std::alloc::Global;
 use std::collections::BTreeMap;
@@ -40,50 +43,66 @@ fn push_types(
     Ok(())
 }
 
-// Adds the types of two fields with one selector.
-fn push_same(
-    alloc: Global,
-    field: &Field,
-    other: &Field,
-    pairs: &mut Vec<TypePair>,
-) -> Result<(), NoMemory>
-    ensures { OnOk result (Grows (AreSameField field.now other.now) pairs.old.items pairs.new.items) }
+fn field_at(fields: &[Field], at: usize) -> Option<&Field>
+    ensures { ItemAt fields.now at result }
 {
-    if !same_sel(&other.sel, &field.sel) {
-        return Ok(());
+    match fields.get(at) {
+        Some(field) => Some(field),
+        None => None,
     }
-    push_types(alloc, &field.term, &other.term, pairs)?;
-    Ok(())
 }
 
-// Adds the types of a field and of those with its selector.
+// Adds the types of a field and of the one at a place.
+fn push_at(
+    alloc: Global,
+    field: &Field,
+    after: &[Field],
+    at: usize,
+    pairs: &mut Vec<TypePair>,
+) -> Result<(), NoMemory>
+    ensures { OnOk result (Grows (IsFieldAt field.now after.now at) pairs.old.items pairs.new.items) }
+{
+    match field_at(after, at) {
+        None => Ok(()),
+        Some(other) => {
+            push_types(alloc, &field.term, &other.term, pairs)?;
+            Ok(())
+        }
+    }
+}
+
+// Adds the types of a field and of those at places.
 fn push_field(
     alloc: Global,
     field: &Field,
     after: &[Field],
+    places: &[usize],
     pairs: &mut Vec<TypePair>,
 ) -> Result<(), NoMemory>
-    ensures { OnOk result (Grows (IsFieldWith field.now after.now) pairs.old.items pairs.new.items) }
+    ensures { OnOk result (Grows (AreFieldsAt field.now after.now places.now) pairs.old.items pairs.new.items) }
 {
-    for other in after {
-        push_same(alloc, field, other, pairs)?;
+    for at in places {
+        push_at(alloc, field, after, *at, pairs)?;
     }
     Ok(())
 }
 
-// The same of an exported field.
+// Adds the types of an exported field and of those with its selector.
 fn push_exported(
     alloc: Global,
     field: &Field,
     after: &[Field],
+    places: &BTreeMap<Sel, List<usize>>,
     pairs: &mut Vec<TypePair>,
 ) -> Result<(), NoMemory>
+    requires { ArePlaces (map field_sel after.now) places.now }
     ensures { OnOk result (Grows (IsExportedWith after.now field.now) pairs.old.items pairs.new.items) }
 {
     if !is_exported(&field.sel) {
         return Ok(());
     }
-    push_field(alloc, field, after, pairs)?;
+    let same = places_at(places, &field.sel);
+    push_field(alloc, field, after, same, pairs)?;
     Ok(())
 }
 
@@ -96,8 +115,9 @@ pub(crate) fn push_common_fields(
 ) -> Result<(), NoMemory>
     ensures { OnOk result (Grows (IsCommonField before.now after.now) pairs.old.items pairs.new.items) }
 {
+    let places = field_places(alloc, after)?;
     for field in before {
-        push_exported(alloc, field, after, pairs)?;
+        push_exported(alloc, field, after, &places, pairs)?;
     }
     Ok(())
 }

@@ -10,10 +10,12 @@ use Rattle.api_correspond.specs.declared.pair.TypePair.{TypePair}
 use Rattle.api_correspond.specs.declared.pair.OwnedPair.{OwnedPair}
 use Rattle.api_forced.specs.declared.claims.Claim.{Claim}
 use Rattle.api_correspond.specs.Publics.{IsOwner, by_name, by_leader, qualified}
-use Rattle.api_correspond.specs.OwnedPairs.{Leads, Owned, from_object, led_to, AreOwnedPairs, pair_of}
+use Rattle.api_correspond.specs.OwnedPairs.{FromObject, Leads, Owned, from_object, led_to, AreOwnedPairs, pair_of}
+use Rattle.api_correspond.specs.Rules.{IsOwned}
+use Rattle.api_forced.specs.Ownerships.{IsOwnership}
 use Rattle.api_correspond.specs.inner.Members.{OfSome}
 use Rattle.api_correspond.specs.inner.Tables.{At}
-use Rattle.api_forced.specs.inner.Graphs.{IsClosed, OwnName, OwnNames, FromObjects}
+use Rattle.api_forced.specs.inner.Graphs.{IsClosed, OwnName, OwnNames, FromObjects, Reached, at_start, led_on}
 use Rattle.api_forced.specs.inner.Claims.{AddsClaims, owner_by, IsClaimOf, LedClaims, RootClaims, LedBy, Claimed, by_root, by_claim, HoldClaims, IsTaken, TakesAll}
 use Rattle.api_correspond.proofs.Places.{at_left, at_within, at_same, at_has, at_some, has_at, at_get}
 use Rattle.api_forced.proofs.Naming.{own_at}
@@ -145,13 +147,43 @@ module _ (old new : Packages) (texts : List (List ℕ)) (pairs : List TypePair) 
       let j = f.2.complete q (subst (λ (z : TypePair). Leads old new z q) same l) in
       claim_of c.0.owner leader owner j.0 q c.2 j.2 o (λ d k. by_claim c.1 (ns.0, ns.1, (j.0, j.1, k)))
 
--- the pairs of the claims are the owned pairs
+  some_owner : (leader : ℕ) (name : List ℕ) (j : ℕ) (q : TypePair) → At texts leader name → At pairs j q → (owner : List ℕ) × IsOwner old name q.old owner
+  some_owner leader name j q h i = let n = own_at old texts pairs own j q names i in let t = owner_told leader name q.old n.0 n.2 h in (t.0, t.2)
+
+  -- each pair that is reached from those of objects is owned
+  pub reached_owned : (start : List TypePair) → ((p : TypePair) → Has start p → (name : List ℕ) × FromObject old new name p) → (p : TypePair) → Reached old new start p → IsOwned old new p
+  reached_owned start s p (at_start h) = let f = s p h in let r = from.complete f.0 p f.1 in let o = some_owner r.0.owner f.0 r.0.pair p r.2 r.3 in (o.0, from_object f.1 o.1)
+  reached_owned start s q (led_on {p = p} m l) =
+      let o = reached_owned start s p m in
+      let c = all_claimed o.0 p o.1 in
+      let w = at_within pairs c.0.pair p c.3 in
+      let d = closed.1 in
+      let ns = at_some next c.0.pair (omega (arith, w, d)) in
+      let f = closed.0.each c.0.pair ns.0 ns.1 in
+      let same : p ≡ f.0 = at_same pairs c.0.pair p f.0 c.3 f.1 in
+      let j = f.2.complete q (subst (λ (z : TypePair). Leads old new z q) same l) in
+      let k = some_owner c.0.owner o.0 j.0 q c.2 j.2 in
+      (k.0, led_to {owner = k.0} o.1 l k.1)
+
+-- the claims are exactly the owned pairs
 module _ (old new : Packages) (texts : List (List ℕ)) (pairs : List TypePair) (own : List (Option ℕ)) (next : List (List ℕ)) (roots claims : List Claim) (names : OwnNames old texts pairs own) (closed : IsClosed old new pairs next) (from : FromObjects old new texts pairs roots) (hold : HoldClaims own next roots claims) where
-  pub all_owned : (rs : List OwnedPair) → Once texts → Once pairs → TakesAll texts pairs claims rs → AreOwnedPairs old new rs
-  all_owned rs o p t = record {
-    once = t.once o p hold.once;
-    sound = λ r h. (let s = t.sound r h in let w = owned old new texts pairs own next roots names closed from s.0 (hold.sound s.0 s.1) in told r s.0 s.2 w);
-    complete = λ r h. (let c = all_claimed old new texts pairs own next roots names closed from r.owner (pair_of r) h in t.complete r (c.0, hold.complete c.0 c.1, (c.2, c.3)));
+  pub all_claims : (start : List TypePair) → ((p : TypePair) → Has start p → (name : List ℕ) × FromObject old new name p) → ((p : TypePair) → Has pairs p → Reached old new start p) → Once texts → Once pairs → IsOwnership old new texts pairs claims
+  all_claims start s r o p = record {
+    once_owners = o;
+    once_pairs = p;
+    once_claims = hold.once;
+    sound = λ c h. owned old new texts pairs own next roots names closed from c (hold.sound c h);
+    complete = λ owner q h. (let c = all_claimed old new texts pairs own next roots names closed from owner q h in (c.0, hold.complete c.0 c.1, c.2, c.3));
+    owned = λ q h. reached_owned old new texts pairs own next roots names closed from start s q (r q h);
+  }
+
+-- the pairs of the claims are the owned pairs
+module _ (old new : Packages) (texts : List (List ℕ)) (pairs : List TypePair) (claims : List Claim) where
+  pub all_owned : (rs : List OwnedPair) → IsOwnership old new texts pairs claims → TakesAll texts pairs claims rs → AreOwnedPairs old new rs
+  all_owned rs o t = record {
+    once = t.once o.once_owners o.once_pairs o.once_claims;
+    sound = λ r h. (let s = t.sound r h in told r s.0 s.2 (o.sound s.0 s.1));
+    complete = λ r h. (let c = o.complete r.owner (pair_of r) h in t.complete r (c.0, c.1, (c.2, c.3)));
   }
     where
       told : (r : OwnedPair) (c : Claim) → IsTaken texts pairs c r → (owner : List ℕ) × (q : TypePair) × At texts c.owner owner × At pairs c.pair q × Owned old new owner q → Owned old new r.owner (pair_of r)

@@ -1,13 +1,13 @@
 -- Named pairs are entered one by one.
 use Rattle.std.proofs.Common.{◌≡◌, ◌⊎◌, inl, inr, ℕ, Bool, List, [], ◌∷◌, ◌++◌, length, arith, sym, subst}
 use Rattle.go_base.specs.Lists.{Has}
-use Rattle.go_selectors.proofs.Lists.{has-left, has-last, has-back}
+use Rattle.go_selectors.proofs.Lists.{has-left, has-split, has-last, has-back}
 use Rattle.api_correspond.specs.declared.pair.TypePair.{TypePair}
 use Rattle.api_correspond.specs.declared.pair.OwnedPair.{OwnedPair}
 use Rattle.api_forced.specs.declared.claims.Claim.{Claim}
 use Rattle.api_correspond.specs.OwnedPairs.{pair_of}
 use Rattle.api_correspond.specs.inner.Tables.{At, AddsAt, AddsPair, KeepsTexts}
-use Rattle.api_forced.specs.inner.Graphs.{Entered}
+use Rattle.api_forced.specs.inner.Graphs.{Entered, AreEntered}
 use Rattle.api_correspond.proofs.Places.{at_left}
 use Rattle.api_correspond.proofs.Tabling.{keeps_place, keeps_at, stands_at}
 
@@ -19,9 +19,10 @@ pub record Entering (whole rest : List OwnedPair) (texts : List (List ℕ)) (pai
   pub within : (r : OwnedPair) → Has rest r → Has whole r
   pub sound : (c : Claim) → Has roots c → (r : OwnedPair) × Has whole r × Stands texts pairs c r
   pub pending : (r : OwnedPair) → Has whole r → Has rest r ⊎ ((c : Claim) × Has roots c × Stands texts pairs c r)
+  pub only : AreEntered whole pairs
 
-pub entering_none : (whole : List OwnedPair) (texts : List (List ℕ)) (pairs : List TypePair) → Entering whole whole texts pairs []
-entering_none whole texts pairs = record { within = λ r h. h; sound = λ c h. absurd h; pending = λ r h. inl h }
+pub entering_none : (whole : List OwnedPair) (texts : List (List ℕ)) (pairs : List TypePair) → pairs ≡ [] → Entering whole whole texts pairs []
+entering_none whole texts pairs e = record { within = λ r h. h; sound = λ c h. absurd h; pending = λ r h. inl h; only = λ p h. absurd (subst (λ (w : List TypePair). Has w p) e h) }
 
 stands_on : (texts more : List (List ℕ)) (pairs grown : List TypePair) (c : Claim) (r : OwnedPair) → KeepsTexts texts more → (extra : List TypePair) → grown ≡ pairs ++ extra → Stands texts pairs c r → Stands more grown c r
 stands_on texts more pairs grown c r k extra e s = (keeps_place texts more c.owner r.owner k s.0, subst (λ (w : List TypePair). At w c.pair (pair_of r)) (sym e) (at_left pairs extra c.pair (pair_of r) s.1))
@@ -40,6 +41,10 @@ entering_more whole rest less texts more pairs grown roots longer r c e n k a p 
     ]
     | inr s ↦ inr (s.0, subst (λ (w : List Claim). Has w s.0) (sym f) (has-left roots (c ∷ []) s.0 s.1), stands_on texts more pairs grown s.0 q k p.more p.grown s.2)
   ];
+  only = λ q h. elim (has-split pairs p.more q (subst (λ (w : List TypePair). Has w q) p.grown h)) [
+    | inl x ↦ n.only q x
+    | inr y ↦ (r, n.within r (subst (λ (w : List OwnedPair). Has w r) (sym e) (has-last less r)), sym (p.only q y))
+  ];
 }
 
 pub entering_all : (whole : List OwnedPair) (texts : List (List ℕ)) (pairs : List TypePair) (roots : List Claim) → Entering whole [] texts pairs roots → Entered whole texts pairs roots
@@ -52,8 +57,8 @@ entered_on rs texts more pairs grown roots k extra e n = record {
   complete = λ r h. let s = n.complete r h in (let t = stands_on texts more pairs grown s.0 r k extra e (s.2, s.3) in (s.0, s.1, t.0, t.1));
 }
 
-pub entering_begun : (whole : List OwnedPair) (texts : List (List ℕ)) (pairs : List TypePair) (roots : List Claim) → roots ≡ [] → Entering whole whole texts pairs roots
-entering_begun whole texts pairs roots e = subst (Entering whole whole texts pairs) (sym e) (entering_none whole texts pairs)
+pub entering_begun : (whole : List OwnedPair) (texts : List (List ℕ)) (pairs : List TypePair) (roots : List Claim) → pairs ≡ [] → roots ≡ [] → Entering whole whole texts pairs roots
+entering_begun whole texts pairs roots f e = subst (Entering whole whole texts pairs) (sym e) (entering_none whole texts pairs f)
 
 -- a pair that was popped is entered, with its name
 pub entering_next : (whole rest less : List OwnedPair) (texts more : List (List ℕ)) (pairs grown : List TypePair) (roots longer : List Claim) (r : OwnedPair) (name : List ℕ) (p : TypePair) (owner : ℕ) (fresh : Bool) (at : ℕ) → rest ≡ less ++ r ∷ [] → Entering whole rest texts pairs roots → name ≡ r.owner → p ≡ pair_of r → AddsAt texts more name owner fresh → AddsPair pairs grown p at → longer ≡ roots ++ record { owner = owner; pair = at } ∷ [] → Entering whole less more grown longer

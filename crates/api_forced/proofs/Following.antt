@@ -1,11 +1,13 @@
 -- Pairs are followed one after another, until all are.
 use Rattle.std.proofs.Common.{◌≡◌, ◌≤◌, ◌+◌, inl, inr, ℕ, Some, List, [], ◌∷◌, ◌++◌, length, refl, sym, ap, ◌∙◌, subst, arith, length-append, append_assoc, append-nil}
+use Rattle.go_base.specs.Lists.{Has}
+use Rattle.go_selectors.proofs.Lists.{has-split}
 use Rattle.go_model.specs.worlds.Worlds.{Packages}
 use Rattle.api_correspond.specs.declared.pair.TypePair.{TypePair}
 use Rattle.api_correspond.specs.inner.Tables.{At, AddsPairs}
-use Rattle.api_forced.specs.inner.Graphs.{LeadsTo, Followed, IsClosed, FollowedBy, Extends}
+use Rattle.api_forced.specs.inner.Graphs.{LeadsTo, Followed, IsClosed, FollowedBy, Extends, Reached, at_start, led_on}
 use Rattle.api_correspond.proofs.Tabling.{Adding, adding_none, adding_all}
-use Rattle.api_correspond.proofs.Places.{at_left, at_back, at_within}
+use Rattle.api_correspond.proofs.Places.{at_left, at_back, at_within, at_has}
 
 pub extends_none : {A : Type 0} (xs : List A) → Extends xs xs
 extends_none xs = ([], sym (append-nil xs))
@@ -35,9 +37,10 @@ module _ (old new : Packages) where
     pub followed : Followed old new pairs next
     pub done : length next ≡ at
     pub within : at ≤ length pairs
+    pub reached : (p : TypePair) → Has pairs p → Reached old new start p
 
   pub following_none : (start : List TypePair) → Following start 0 start []
-  following_none start = record { extends = extends_none start; followed = record { each = λ i numbers h. absurd h }; done = refl; within = omega arith }
+  following_none start = record { extends = extends_none start; followed = record { each = λ i numbers h. absurd h }; done = refl; within = omega arith; reached = λ p h. at_start h }
 
   pub following_begun : (start : List TypePair) (next : List (List ℕ)) → next ≡ [] → Following start 0 start next
   following_begun start next e = subst (Following start 0 start) (sym e) (following_none start)
@@ -63,6 +66,10 @@ module _ (old new : Packages) where
         };
         done = ap length e ∙ length-append next (numbers ∷ []) ∙ ap (λ n. n + 1) f.done;
         within = (let w = at_within pairs at p b.1 in let g = ap length a.grown in let l = length-append pairs a.more in omega (arith, w, g, l));
+        reached = λ q h. elim (has-split pairs a.more q (subst (λ (w : List TypePair). Has w q) a.grown h)) [
+          | inl x ↦ f.reached q x
+          | inr y ↦ led_on (f.reached p (at_has pairs at p b.1)) ((b.2 q).0 (a.only q y))
+        ];
       }
 
   pub following_all : (start : List TypePair) (at : ℕ) (pairs : List TypePair) (next : List (List ℕ)) → Following start at pairs next → length pairs ≤ at → IsClosed old new pairs next

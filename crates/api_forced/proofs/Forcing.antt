@@ -4,12 +4,13 @@ use Rattle.go_base.specs.Lists.{Has, Once}
 use Rattle.go_model.specs.worlds.Worlds.{Packages}
 use Rattle.api_correspond.specs.declared.pair.TypePair.{TypePair}
 use Rattle.api_correspond.specs.declared.pair.OwnedPair.{OwnedPair}
-use Rattle.api_correspond.specs.OwnedPairs.{FromObject, AreOwnedPairs, pair_of}
+use Rattle.api_correspond.specs.OwnedPairs.{FromObject, pair_of}
+use Rattle.api_forced.specs.Ownerships.{IsOwnership}
 use Rattle.api_correspond.specs.inner.Tables.{KeepsTexts}
 use Rattle.api_forced.specs.declared.claims.Claim.{Claim}
-use Rattle.api_forced.specs.inner.Claims.{HoldClaims, TakesAll}
-use Rattle.api_forced.specs.inner.Graphs.{Entered, Extends, IsClosed, OwnNames, FromObjects}
-use Rattle.api_forced.proofs.Claiming.{all_owned}
+use Rattle.api_forced.specs.inner.Claims.{HoldClaims}
+use Rattle.api_forced.specs.inner.Graphs.{Entered, AreEntered, Extends, IsClosed, OwnNames, FromObjects, Reached}
+use Rattle.api_forced.proofs.Claiming.{all_claims}
 use Rattle.api_forced.proofs.Entering.{entered_on}
 
 module _ (old new : Packages) where
@@ -20,8 +21,8 @@ module _ (old new : Packages) where
     complete = λ name p f. e.complete (record { owner = name; old = p.old; new = p.new }) (c (record { owner = name; old = p.old; new = p.new }) f);
   }
 
-  pub forced_exact : (found : List OwnedPair) (none texts more : List (List ℕ)) (pairs grown : List TypePair) (roots : List Claim) (own : List (Option ℕ)) (next : List (List ℕ)) (claims : List Claim) (rs : List OwnedPair) → ((r : OwnedPair) → Has found r → FromObject old new r.owner (pair_of r)) → ((r : OwnedPair) → FromObject old new r.owner (pair_of r) → Has found r) → none ≡ [] → KeepsTexts none texts → Entered found texts pairs roots → Extends pairs grown → Once grown → IsClosed old new grown next → KeepsTexts texts more → OwnNames old more grown own → HoldClaims own next roots claims → TakesAll more grown claims rs → AreOwnedPairs old new rs
-  forced_exact found none texts more pairs grown roots own next claims rs s c z k e x o d l n h t =
-      all_owned old new more grown own next roots claims n d
+  pub ownership_exact : (found : List OwnedPair) (none texts more : List (List ℕ)) (pairs grown : List TypePair) (roots : List Claim) (own : List (Option ℕ)) (next : List (List ℕ)) (claims : List Claim) → ((r : OwnedPair) → Has found r → FromObject old new r.owner (pair_of r)) → ((r : OwnedPair) → FromObject old new r.owner (pair_of r) → Has found r) → none ≡ [] → KeepsTexts none texts → Entered found texts pairs roots → AreEntered found pairs → Extends pairs grown → Once grown → IsClosed old new grown next → ((p : TypePair) → Has grown p → Reached old new pairs p) → KeepsTexts texts more → OwnNames old more grown own → HoldClaims own next roots claims → IsOwnership old new more grown claims
+  ownership_exact found none texts more pairs grown roots own next claims s c z k e a x o d t l n h =
+      all_claims old new more grown own next roots claims n d
       (from_entered found more grown roots s c (entered_on found texts more pairs grown roots l x.0 x.1 e))
-      h rs (l.once (k.once (subst Once (sym z) tt))) o t
+      h pairs (λ p i. let r = a p i in (r.0.owner, subst (FromObject old new r.0.owner) r.2 (s r.0 r.1))) t (l.once (k.once (subst Once (sym z) tt))) o

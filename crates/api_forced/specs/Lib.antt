@@ -1,1 +1,2 @@
+pub mod Ownerships
 pub mod inner

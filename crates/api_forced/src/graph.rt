@@ -2,7 +2,9 @@
 ghost use Rattle.std.specs.Prelude.{◌≡◌, option_map, IfOk, OnOk};
 ghost use Rattle.go_model.specs.types.Terms.{error_type};
 ghost use Rattle.api_correspond.specs.inner.Tables.{InStep, AddsPairs};
-ghost use Rattle.api_forced.specs.inner.Graphs.{IsClosed, FollowedBy, Extends};
+ghost use Rattle.go_base.specs.Lists.{Has};
+ghost use Rattle.api_correspond.specs.declared.pair.TypePair.{TypePair as Pair};
+ghost use Rattle.api_forced.specs.inner.Graphs.{IsClosed, FollowedBy, Extends, Reached};
 
 use api_correspond::leads::leads;
 use api_correspond::pair::TypePair;
@@ -72,6 +74,7 @@ pub(crate) fn close(
     ensures in_step { IfOk result (λ graph. InStep graph.table.codes.keys graph.table.pairs.items) }
     ensures extends { IfOk result (λ graph. Extends table.pairs.items graph.table.pairs.items) }
     ensures closed { IfOk result (λ graph. IsClosed old.now new.now graph.table.pairs.items graph.next.items) }
+    ensures reached { IfOk result (λ graph. (p : Pair) → Has graph.table.pairs.items p → Reached old.now new.now table.pairs.items p) }
 {
     let mut next = Vec::new(alloc);
     for at in 0..usize::MAX {

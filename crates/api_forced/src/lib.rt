@@ -1,7 +1,7 @@
 //! The pairs of old and new types of two worlds that have to correspond, for each exported object that owns them.
 #![tactic(auto)]
 
-mod claims;
+pub mod claims;
 pub mod forced;
 mod graph;
 mod objects;

@@ -7,15 +7,15 @@ use Rattle.go_model.specs.types.Underlying.{under, methods_of}
 use Rattle.go_model.specs.worlds.Worlds.{Packages}
 use Rattle.go_model.specs.declared.types.names.Sel.{Sel}
 use Rattle.go_model.specs.declared.types.term.Method.{Method}
-use Rattle.api_correspond.specs.declared.pair.OwnedPair.{OwnedPair}
-use Rattle.api_correspond.specs.OwnedPairs.{are_of_module, pair_of}
+use Rattle.api_correspond.specs.declared.pair.TypePair.{TypePair}
+use Rattle.api_correspond.specs.OwnedPairs.{are_of_module}
 use Rattle.api_correspond.specs.Publics.{types_of}
 use Rattle.api_correspond.specs.Rules.{is_sealing, is_std_sel, Counts, have_interfaces}
 use Rattle.api_correspond.specs.inner.Members.{OfSome}
-use Rattle.api_breaks.specs.declared.broken.Break.{Break}
+use Rattle.api_correspond.specs.inner.Tables.{At}
 use Rattle.api_breaks.specs.declared.broken.Lost.{Lost}
 use Rattle.api_breaks.specs.declared.broken.Lost.TheVariants as lost
-use Rattle.api_breaks.specs.Breaks.{broken}
+use Rattle.api_breaks.specs.inner.Telling.{KeptBy}
 
 -- one of the methods is unexported, of the module
 abbrev pub HasSealing : Packages → List Method → Type 0
@@ -28,43 +28,64 @@ Serves w m n = (method_sel n ≡ method_sel m) × (is_std_sel w (method_sel m) �
 abbrev pub HasServing : Packages → List Method → Method → Type 0
 HasServing w ns m = (n : Method) × Has ns n × (method_sel n ≡ method_sel m) × (is_std_sel w (method_sel m) ≡ true → n ≡ m)
 
+-- the method at a place stands for another one
+abbrev pub ServesAt : Packages → List Method → Method → ℕ → Type 0
+ServesAt w ns m i = (n : Method) × At ns i n × Serves w m n
+
 abbrev pub HasSel : List Method → Sel → Type 0
 HasSel ms s = (m : Method) × Has ms m × (method_sel m ≡ s)
 
 abbrev pub lost_method : Method → Lost
 lost_method m = lost.InterfaceMethod (method_sel m)
 
--- a method that counts is gone
-abbrev pub IsMethodGone : Packages → Packages → List ℕ → List Method → Method → Break → Type 0
-IsMethodGone old new owner ns m b = Counts old (method_sel m) × (HasServing new ns m → ⊥) × (broken owner (lost_method m) ≡ b)
+-- a method that counts is kept or gone
+abbrev pub KeepsMethod : Packages → List Method → Method → Type 0
+KeepsMethod old ns m = Counts old (method_sel m) → HasServing old ns m
 
-abbrev pub AreMethodsGone : Packages → Packages → List ℕ → List Method → List Method → Break → Type 0
-AreMethodsGone old new owner ms ns = OfSome (IsMethodGone old new owner ns) ms
+abbrev pub IsMethodGone : Packages → List Method → Method → Lost → Type 0
+IsMethodGone old ns m l = Counts old (method_sel m) × (HasServing old ns m → ⊥) × (lost_method m ≡ l)
 
--- a method is new
-abbrev pub IsMethodNew : List ℕ → List Method → Method → Break → Type 0
-IsMethodNew owner ms n b = (HasSel ms (method_sel n) → ⊥) × (broken owner (lost_method n) ≡ b)
+abbrev pub AreMethodsGone : Packages → List Method → List Method → Lost → Type 0
+AreMethodsGone old ms ns = OfSome (IsMethodGone old ns) ms
 
-abbrev pub AreMethodsNew : List ℕ → List Method → List Method → Break → Type 0
-AreMethodsNew owner ms ns = OfSome (IsMethodNew owner ms) ns
+-- a method was there or is new
+abbrev pub WasMethod : List Method → Method → Type 0
+WasMethod ms n = HasSel ms (method_sel n)
+
+abbrev pub IsMethodNew : List Method → Method → Lost → Type 0
+IsMethodNew ms n l = (HasSel ms (method_sel n) → ⊥) × (lost_method n ≡ l)
+
+abbrev pub AreMethodsNew : List Method → List Method → Lost → Type 0
+AreMethodsNew ms ns = OfSome (IsMethodNew ms) ns
 
 -- one of two interfaces alone has unexported methods
-abbrev pub IsSealedApart : List ℕ → Bool → Bool → Break → Type 0
-IsSealedApart owner first second b = ((first ≡ second) → ⊥) × (broken owner lost.Sealing ≡ b)
+abbrev pub IsSealedApart : Bool → Bool → Lost → Type 0
+IsSealedApart first second l = ((first ≡ second) → ⊥) × (lost.Sealing ≡ l)
 
 -- methods are new where neither has
-abbrev pub IsNewWhere : List ℕ → Bool → Bool → List Method → List Method → Break → Type 0
-IsNewWhere owner first second ms ns b = (first ≡ false) × (second ≡ false) × AreMethodsNew owner ms ns b
+abbrev pub KeepsOpen : Bool → Bool → List Method → List Method → Type 0
+KeepsOpen first second ms ns = first ≡ false → second ≡ false → KeptBy (WasMethod ms) ns
+
+abbrev pub IsNewWhere : Bool → Bool → List Method → List Method → Lost → Type 0
+IsNewWhere first second ms ns l = (first ≡ false) × (second ≡ false) × AreMethodsNew ms ns l
 
 -- both have unexported methods, or neither
 abbrev pub AreSealedAlike : Packages → Packages → List Method → List Method → Type 0
 AreSealedAlike old new ms ns = (HasSealing old ms → HasSealing new ns) × (HasSealing new ns → HasSealing old ms)
 
--- what the methods of two interfaces lose
-pub data IsOfMethods (old new : Packages) (owner : List ℕ) (ms ns : List Method) (b : Break) : Type 0 where
-  sealed_apart : (AreSealedAlike old new ms ns → ⊥) → broken owner lost.Sealing ≡ b → IsOfMethods old new owner ms ns b
-  methods_gone : AreMethodsGone old new owner ms ns b → IsOfMethods old new owner ms ns b
-  methods_new : (HasSealing old ms → ⊥) → (HasSealing new ns → ⊥) → AreMethodsNew owner ms ns b → IsOfMethods old new owner ms ns b
+-- what two interfaces keep of their methods, and what they lose
+pub record KeepsMethods (old new : Packages) (ms ns : List Method) : Type 0 where
+  pub alike : AreSealedAlike old new ms ns
+  pub methods : KeptBy (KeepsMethod old ns) ms
+  pub closed : (HasSealing old ms → ⊥) → (HasSealing new ns → ⊥) → KeptBy (WasMethod ms) ns
 
-abbrev pub IsInterfaceBreak : Packages → Packages → OwnedPair → Break → Type 0
-IsInterfaceBreak old new r b = ((are_of_module old new (pair_of r) && have_interfaces old new (pair_of r)) ≡ true) × IsOfMethods old new r.owner (methods_of (under (types_of old) r.old)) (methods_of (under (types_of new) r.new)) b
+pub data IsOfMethods (old new : Packages) (ms ns : List Method) (l : Lost) : Type 0 where
+  sealed_apart : (AreSealedAlike old new ms ns → ⊥) → lost.Sealing ≡ l → IsOfMethods old new ms ns l
+  methods_gone : AreMethodsGone old ms ns l → IsOfMethods old new ms ns l
+  methods_new : (HasSealing old ms → ⊥) → (HasSealing new ns → ⊥) → AreMethodsNew ms ns l → IsOfMethods old new ms ns l
+
+abbrev pub KeepsInterface : Packages → Packages → TypePair → Type 0
+KeepsInterface old new p = (are_of_module old new p && have_interfaces old new p) ≡ true → KeepsMethods old new (methods_of (under (types_of old) p.old)) (methods_of (under (types_of new) p.new))
+
+abbrev pub IsInterfaceLoss : Packages → Packages → TypePair → Lost → Type 0
+IsInterfaceLoss old new p l = ((are_of_module old new p && have_interfaces old new p) ≡ true) × IsOfMethods old new (methods_of (under (types_of old) p.old)) (methods_of (under (types_of new) p.new)) l

@@ -1,6 +1,6 @@
 -- What method sets lose, method by method.
 -- Own: words of the contracts inside this crate.
-use Rattle.std.specs.Prelude.{◌≡◌, ◌⊎◌, ◌&&◌, ℕ, not, Bool, true, List, Some}
+use Rattle.std.specs.Prelude.{◌≡◌, ◌⊎◌, ◌&&◌, not, Bool, true, List, Some}
 use Rattle.go_model.specs.types.MethodSets.{InSet, method_sel}
 use Rattle.go_model.specs.types.Terms.{pointer_to}
 use Rattle.go_model.specs.types.Underlying.{under}
@@ -10,16 +10,13 @@ use Rattle.go_model.specs.declared.types.term.Term.{Term}
 use Rattle.go_model.specs.declared.types.term.Method.{Method, out-Method}
 use Rattle.go_model.specs.declared.types.term.Signature.{Signature}
 use Rattle.go_selectors.specs.Candidates.{Candidates, called_at}
-use Rattle.api_correspond.specs.declared.pair.OwnedPair.{OwnedPair}
 use Rattle.api_correspond.specs.declared.pair.TypePair.{TypePair}
-use Rattle.api_correspond.specs.OwnedPairs.{are_of_module, interface_layer, pair_of}
+use Rattle.api_correspond.specs.OwnedPairs.{are_of_module, interface_layer}
 use Rattle.api_correspond.specs.Publics.{types_of}
 use Rattle.api_correspond.specs.Rules.{is_std_sel, Counts, KeepsInSet, have_method_sets}
 use Rattle.api_correspond.specs.inner.Members.{OfSome}
-use Rattle.api_breaks.specs.declared.broken.Break.{Break}
 use Rattle.api_breaks.specs.declared.broken.Lost.{Lost}
 use Rattle.api_breaks.specs.declared.broken.Lost.TheVariants as lost
-use Rattle.api_breaks.specs.Breaks.{broken}
 
 -- the method can be called; an unexported one of the standard library with an identical signature
 abbrev pub KeptIn : Packages → Candidates → Method → Type 0
@@ -28,18 +25,27 @@ KeptIn w callable m = (h : Signature) × (called_at callable (method_sel m) ≡ 
 abbrev pub lost_of : Sel → Lost
 lost_of s = lost.Method s
 
-abbrev pub IsLostIn : Packages → List ℕ → Candidates → Method → Break → Type 0
-IsLostIn w owner callable m b = Counts w (method_sel m) × (KeptIn w callable m → ⊥) × (broken owner (lost_of (method_sel m)) ≡ b)
+abbrev pub KeepsCalled : Packages → Candidates → Method → Type 0
+KeepsCalled w callable m = Counts w (method_sel m) → KeptIn w callable m
 
-abbrev pub AreLostIn : Packages → List ℕ → Candidates → List Method → Break → Type 0
-AreLostIn w owner callable ms = OfSome (IsLostIn w owner callable) ms
+abbrev pub IsLostIn : Packages → Candidates → Method → Lost → Type 0
+IsLostIn w callable m l = Counts w (method_sel m) × (KeptIn w callable m → ⊥) × (lost_of (method_sel m) ≡ l)
 
--- a method of an old type that counts isn't kept in the set of a new one
-abbrev pub IsSetBreak : Packages → Packages → List ℕ → Term → Term → Break → Type 0
-IsSetBreak old new owner t u b = (s : Sel) × (g : Signature) × Counts old s × InSet (types_of old) t s g × (KeepsInSet old new t u s g → ⊥) × (broken owner (lost_of s) ≡ b)
+abbrev pub AreLostIn : Packages → Candidates → List Method → Lost → Type 0
+AreLostIn w callable ms = OfSome (IsLostIn w callable) ms
+
+-- the methods of an old type that count are kept in the set of a new one, and one isn't
+abbrev pub KeepsSet : Packages → Packages → Term → Term → Type 0
+KeepsSet old new t u = (s : Sel) (g : Signature) → Counts old s → InSet (types_of old) t s g → KeepsInSet old new t u s g
+
+abbrev pub IsSetLoss : Packages → Packages → Term → Term → Lost → Type 0
+IsSetLoss old new t u l = (s : Sel) × (g : Signature) × Counts old s × InSet (types_of old) t s g × (KeepsInSet old new t u s g → ⊥) × (lost_of s ≡ l)
 
 abbrev pub are_plain : Packages → Packages → TypePair → Bool
 are_plain old new p = are_of_module old new p && not (interface_layer (under (types_of old) p.old)) && not (interface_layer (under (types_of new) p.new))
 
-abbrev pub IsMethodSetBreak : Packages → Packages → OwnedPair → Break → Type 0
-IsMethodSetBreak old new r b = (have_method_sets old new (pair_of r) ≡ true) × (IsSetBreak old new r.owner r.old r.new b ⊎ IsSetBreak old new r.owner (pointer_to r.old) (pointer_to r.new) b)
+abbrev pub KeepsSets : Packages → Packages → TypePair → Type 0
+KeepsSets old new p = have_method_sets old new p ≡ true → KeepsSet old new p.old p.new × KeepsSet old new (pointer_to p.old) (pointer_to p.new)
+
+abbrev pub IsMethodSetLoss : Packages → Packages → TypePair → Lost → Type 0
+IsMethodSetLoss old new p l = (have_method_sets old new p ≡ true) × (IsSetLoss old new p.old p.new l ⊎ IsSetLoss old new (pointer_to p.old) (pointer_to p.new) l)

@@ -1,6 +1,6 @@
--- What the types of an owned pair lose, rule by rule.
+-- What the types of a pair lose, rule by rule.
 -- Own: words of the contracts inside this crate.
-use Rattle.std.specs.Prelude.{◌≡◌, ◌⊎◌, ◌&&◌, ◌||◌, ℕ, Bool, true, List}
+use Rattle.std.specs.Prelude.{◌≡◌, ◌⊎◌, ◌&&◌, ◌||◌, Bool, true, List}
 use Rattle.go_base.specs.Lists.{Has}
 use Rattle.go_model.specs.types.Terms.{Layer}
 use Rattle.go_model.specs.types.Members.{field_sel}
@@ -9,15 +9,14 @@ use Rattle.go_model.specs.worlds.Worlds.{Packages}
 use Rattle.go_model.specs.declared.types.names.Sel.{Sel}
 use Rattle.go_model.specs.declared.types.term.Term.{roll-Term}
 use Rattle.go_model.specs.declared.types.term.Field.{Field}
-use Rattle.api_correspond.specs.declared.pair.OwnedPair.{OwnedPair}
+use Rattle.api_correspond.specs.declared.pair.TypePair.{TypePair}
 use Rattle.api_correspond.specs.Outermost.{Match}
-use Rattle.api_correspond.specs.OwnedPairs.{struct_layer, interface_layer, are_of_module, pair_of}
+use Rattle.api_correspond.specs.OwnedPairs.{struct_layer, interface_layer, are_of_module}
 use Rattle.api_correspond.specs.Publics.{types_of, IsExported}
-use Rattle.api_correspond.specs.Rules.{KeepsType, KeepsUnderlying, KeepsComparable, have_structs}
+use Rattle.api_correspond.specs.Rules.{KeepsType, KeepsUnderlying, KeepsField, KeepsComparable, have_structs}
 use Rattle.api_correspond.specs.inner.Members.{OfSome}
-use Rattle.api_breaks.specs.declared.broken.Break.{Break}
+use Rattle.api_breaks.specs.declared.broken.Lost.{Lost}
 use Rattle.api_breaks.specs.declared.broken.Lost.TheVariants as lost
-use Rattle.api_breaks.specs.Breaks.{broken}
 
 -- both are structs, or both interfaces
 abbrev pub same_form : Layer → Layer → Bool
@@ -27,25 +26,34 @@ same_form k l = (struct_layer k && struct_layer l) || (interface_layer k && inte
 abbrev pub KeepsLayer : Packages → Packages → Layer → Layer → Type 0
 KeepsLayer old new k l = Match old new k l ⊎ (same_form k l ≡ true)
 
-abbrev pub IsTypesBreak : Packages → Packages → OwnedPair → Break → Type 0
-IsTypesBreak old new r b = (KeepsType old new (pair_of r) → ⊥) × (broken r.owner (lost.Type r.old r.new) ≡ b)
+abbrev pub IsTypesLoss : Packages → Packages → TypePair → Lost → Type 0
+IsTypesLoss old new p l = (KeepsType old new p → ⊥) × (lost.Type p.old p.new ≡ l)
 
-abbrev pub IsUnderlyingBreak : Packages → Packages → OwnedPair → Break → Type 0
-IsUnderlyingBreak old new r b = (are_of_module old new (pair_of r) ≡ true) × (KeepsUnderlying old new (pair_of r) → ⊥) × (broken r.owner (lost.Underlying (roll-Term (under (types_of old) r.old)) (roll-Term (under (types_of new) r.new))) ≡ b)
+abbrev pub KeepsUnderneath : Packages → Packages → TypePair → Type 0
+KeepsUnderneath old new p = are_of_module old new p ≡ true → KeepsUnderlying old new p
 
-abbrev pub IsComparableBreak : Packages → Packages → OwnedPair → Break → Type 0
-IsComparableBreak old new r b = (KeepsComparable old new (pair_of r) → ⊥) × (broken r.owner lost.Comparable ≡ b)
+abbrev pub IsUnderlyingLoss : Packages → Packages → TypePair → Lost → Type 0
+IsUnderlyingLoss old new p l = (are_of_module old new p ≡ true) × (KeepsUnderlying old new p → ⊥) × (lost.Underlying (roll-Term (under (types_of old) p.old)) (roll-Term (under (types_of new) p.new)) ≡ l)
+
+abbrev pub IsComparableLoss : Packages → Packages → TypePair → Lost → Type 0
+IsComparableLoss old new p l = (KeepsComparable old new p → ⊥) × (lost.Comparable ≡ l)
 
 -- a field of the selector stands among fields
 abbrev pub HasField : List Field → Sel → Type 0
 HasField fs s = (f : Field) × Has fs f × (field_sel f ≡ s)
 
--- an exported field of the old fields is none of the new ones
-abbrev pub IsFieldGone : List ℕ → List Field → Field → Break → Type 0
-IsFieldGone owner gs f b = IsExported (field_sel f) × (HasField gs (field_sel f) → ⊥) × (broken owner (lost.Field (field_sel f).name) ≡ b)
+-- an exported field of the old fields is one of the new ones, or none
+abbrev pub KeepsIn : List Field → Field → Type 0
+KeepsIn gs f = IsExported (field_sel f) → HasField gs (field_sel f)
 
-abbrev pub AreFieldsGone : List ℕ → List Field → List Field → Break → Type 0
-AreFieldsGone owner gs fs = OfSome (IsFieldGone owner gs) fs
+abbrev pub IsFieldGone : List Field → Field → Lost → Type 0
+IsFieldGone gs f l = IsExported (field_sel f) × (HasField gs (field_sel f) → ⊥) × (lost.Field (field_sel f).name ≡ l)
 
-abbrev pub IsFieldsBreak : Packages → Packages → OwnedPair → Break → Type 0
-IsFieldsBreak old new r b = ((are_of_module old new (pair_of r) && have_structs old new (pair_of r)) ≡ true) × AreFieldsGone r.owner (fields_of (under (types_of new) r.new)) (fields_of (under (types_of old) r.old)) b
+abbrev pub AreFieldsGone : List Field → List Field → Lost → Type 0
+AreFieldsGone gs fs = OfSome (IsFieldGone gs) fs
+
+abbrev pub KeepsFields : Packages → Packages → TypePair → Type 0
+KeepsFields old new p = (f : Field) → (are_of_module old new p && have_structs old new p) ≡ true → Has (fields_of (under (types_of old) p.old)) f → IsExported (field_sel f) → KeepsField new p f
+
+abbrev pub IsFieldsLoss : Packages → Packages → TypePair → Lost → Type 0
+IsFieldsLoss old new p l = ((are_of_module old new p && have_structs old new p) ≡ true) × AreFieldsGone (fields_of (under (types_of new) p.new)) (fields_of (under (types_of old) p.old)) l

@@ -22,6 +22,7 @@ use Rattle.api_correspond.specs.declared.pair.TypePair.{TypePair}
 use Rattle.api_correspond.specs.Publics.{IsExported, types_of}
 use Rattle.api_correspond.specs.Outermost.{Match, function_type, field_type, method_type, parts, pair, side_by_side}
 use Rattle.api_correspond.specs.inner.Members.{OfSome}
+use Rattle.api_correspond.specs.inner.Tables.{At}
 use Rattle.api_correspond.specs.OwnedPairs.{receiver, is_structured, are_of_module, have_members}
 
 -- the parts at one place, where the outermost constructors match
@@ -35,6 +36,13 @@ IsPartUnderneath old new p q = (are_of_module old new p ≡ true) × (is_structu
 -- the types of two fields with one selector
 abbrev pub AreSameField : Field → Field → TypePair → Type 0
 AreSameField f g q = (field_sel g ≡ field_sel f) × (pair (field_type f) (field_type g) ≡ q)
+
+-- the types of a field and of the one at a place, and at some of these places
+abbrev pub IsFieldAt : Field → List Field → ℕ → TypePair → Type 0
+IsFieldAt f gs at q = (g : Field) × At gs at g × (pair (field_type f) (field_type g) ≡ q)
+
+abbrev pub AreFieldsAt : Field → List Field → List ℕ → TypePair → Type 0
+AreFieldsAt f gs places = OfSome (IsFieldAt f gs) places
 
 -- the types of a field and of one with its selector
 abbrev pub IsFieldWith : Field → List Field → TypePair → Type 0

@@ -45,5 +45,6 @@ ItemAt xs at (Some x) = (at < length xs) × (x.now ≡ get_or xs at x.now)
 pub record AddsPairs (old new ps : List TypePair) (numbers : List ℕ) : Type 0 where
   pub more : List TypePair
   pub grown : new ≡ old ++ more
+  pub only : (p : TypePair) → Has more p → Has ps p
   pub sound : (j : ℕ) → Has numbers j → (p : TypePair) × Has ps p × At new j p
   pub complete : (p : TypePair) → Has ps p → (j : ℕ) × Has numbers j × At new j p

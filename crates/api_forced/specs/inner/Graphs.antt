@@ -42,6 +42,11 @@ OwnNames w texts [] [] = Unit {0}
 OwnNames w texts (p ∷ ps) (o ∷ os) = OwnName w texts p.old o × OwnNames w texts ps os
 OwnNames w texts ps os = ⊥
 
+-- a pair that is reached from some, which are given
+pub data Reached (old new : Packages) (start : List TypePair) : TypePair → Type 0 where
+  at_start : {p : TypePair} → Has start p → Reached old new start p
+  led_on : {p q : TypePair} → Reached old new start p → Leads old new p q → Reached old new start q
+
 -- the pairs of the exported objects, with the numbers of the objects' names
 pub record FromObjects (old new : Packages) (texts : List (List ℕ)) (pairs : List TypePair) (roots : List Claim) : Type 0 where
   pub sound : (c : Claim) → Has roots c → (name : List ℕ) × (p : TypePair) × At texts c.owner name × At pairs c.pair p × FromObject old new name p
@@ -51,6 +56,10 @@ pub record FromObjects (old new : Packages) (texts : List (List ℕ)) (pairs : L
 pub record Entered (rs : List OwnedPair) (texts : List (List ℕ)) (pairs : List TypePair) (roots : List Claim) : Type 0 where
   pub sound : (c : Claim) → Has roots c → (r : OwnedPair) × Has rs r × At texts c.owner r.owner × At pairs c.pair (pair_of r)
   pub complete : (r : OwnedPair) → Has rs r → (c : Claim) × Has roots c × At texts c.owner r.owner × At pairs c.pair (pair_of r)
+
+-- no other pairs were entered
+abbrev pub AreEntered : List OwnedPair → List TypePair → Type 0
+AreEntered rs pairs = (p : TypePair) → Has pairs p → (r : OwnedPair) × Has rs r × (pair_of r ≡ p)
 
 -- the list goes on from another one
 abbrev pub Extends : {A : Type 0} → List A → List A → Type 0

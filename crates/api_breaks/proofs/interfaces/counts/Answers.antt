@@ -2,7 +2,7 @@ use Rattle.std.proofs.Common.{subst, inl}
 use Rattle.go_selectors.specs.Answers.{Decides}
 use Rattle.api_correspond.specs.Publics.{IsExported}
 use Rattle.api_correspond.specs.Rules.{is_std_sel}
-use Rattle.api_breaks.proofs.PairBreaks.{either_told}
+use Rattle.api_breaks.proofs.PairLosses.{either_told}
 use Rattle.api_breaks.proofs.interfaces.counts.Goals as goal
 
 pub returns-then-is_exported : goal.returns-then-is_exported

@@ -1,7 +1,7 @@
 use Rattle.std.proofs.Common.{take, ◌+◌, sym, ◌∙◌}
 use mathlib.Core.Bool.{true≢false}
 use Rattle.go_selectors.proofs.Lists.{taken_next, item_has}
-use Rattle.api_breaks.proofs.InterfaceBreaks.{is_sealing_method, none_yet, none_at_all}
+use Rattle.api_breaks.proofs.InterfaceLosses.{is_sealing_method, none_yet, none_at_all}
 use Rattle.api_breaks.proofs.interfaces.has_sealing.Goals as goal
 
 pub loop-method-init : goal.loop-method-init

@@ -1,18 +1,18 @@
-use Rattle.std.proofs.Common.{take, ◌+◌, subst}
-use Rattle.go_selectors.proofs.Lists.{taken_next, item_has}
+use Rattle.std.proofs.Common.{take, ◌+◌, get_or, subst}
+use Rattle.std.proofs.lemmas.List.{take_more}
 use Rattle.go_selectors.specs.Answers.{Decides}
-use Rattle.api_breaks.specs.inner.Interfaces.{Serves}
-use Rattle.api_breaks.proofs.InterfaceBreaks.{no_serving_yet, no_serving_at_all}
+use Rattle.api_breaks.specs.inner.Interfaces.{ServesAt}
+use Rattle.api_breaks.proofs.InterfaceLosses.{no_place_yet, serving_found, no_serving}
 use Rattle.api_breaks.proofs.interfaces.has_serving.Goals as goal
 
-pub loop-other-init : goal.loop-other-init
-loop-other-init c = λ h. h.1
+pub loop-at-init : goal.loop-at-init
+loop-at-init c = λ h. h.1
 
-pub returns-then-serves : goal.returns-then-serves
-returns-then-serves c = let s : Serves c.args.world.now c.args.method.now c.other-item.result = subst (Decides (Serves c.args.world.now c.args.method.now c.other-item.result)) c.if-serves.true c.serves.ensures in (c.other-item.result, item_has c.args.methods.now c.loop-other.other-index c.other-item.result c.loop-other-test.true c.other-item.is, s.0, s.1)
+pub returns-then-serves_at : goal.returns-then-serves_at
+returns-then-serves_at c = serving_found c.args.world.now c.args.methods.now c.args.method.now (get_or c.places_at-same.result.now c.loop-at.at-index 0) (subst (Decides (ServesAt c.args.world.now c.args.methods.now c.args.method.now (get_or c.places_at-same.result.now c.loop-at.at-index 0))) c.if-serves_at.true c.serves_at.ensures)
 
-pub loop-other-preserved : goal.loop-other-preserved
-loop-other-preserved c = no_serving_yet c.args.world.now (take c.loop-other.other-index c.args.methods.now) (take (c.loop-other.other-index + 1) c.args.methods.now) c.args.method.now c.other-item.result (taken_next c.args.methods.now c.loop-other.other-index c.other-item.result c.loop-other-test.true c.other-item.is) c.loop-other.invariant (subst (Decides (Serves c.args.world.now c.args.method.now c.other-item.result)) c.if-serves.false c.serves.ensures)
+pub loop-at-preserved : goal.loop-at-preserved
+loop-at-preserved c = no_place_yet c.args.world.now c.args.methods.now c.args.method.now (take c.loop-at.at-index c.places_at-same.result.now) (take (c.loop-at.at-index + 1) c.places_at-same.result.now) (get_or c.places_at-same.result.now c.loop-at.at-index 0) (take_more c.places_at-same.result.now c.loop-at.at-index 0 c.loop-at-test.true) c.loop-at.invariant (subst (Decides (ServesAt c.args.world.now c.args.methods.now c.args.method.now (get_or c.places_at-same.result.now c.loop-at.at-index 0))) c.if-serves_at.false c.serves_at.ensures)
 
 pub returns : goal.returns
-returns c = no_serving_at_all c.args.world.now c.args.methods.now c.args.method.now c.loop-other.other-index c.loop-other-test.false c.loop-other.invariant
+returns c = no_serving c.args.world.now c.args.methods.now c.args.method.now c.args.places.now c.places_at-same.result.now c.loop-at.at-index c.requires c.places_at-same.ensures c.loop-at-test.false c.loop-at.invariant

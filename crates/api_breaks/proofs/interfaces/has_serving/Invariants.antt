@@ -1,6 +1,6 @@
 use Rattle.std.proofs.Common.{take}
-use Rattle.api_breaks.specs.inner.Interfaces.{HasServing}
+use Rattle.api_breaks.proofs.InterfaceLosses.{ServesSome}
 use Rattle.api_breaks.proofs.interfaces.has_serving.Given as goal
 
-abbrev pub invariant-loop-other : goal.invariant-loop-other
-invariant-loop-other l = HasServing l.world (take l.other-index l.methods) l.method → ⊥
+abbrev pub invariant-loop-at : goal.invariant-loop-at
+invariant-loop-at l = ServesSome l.world l.methods l.method (take l.at-index l.same) → ⊥

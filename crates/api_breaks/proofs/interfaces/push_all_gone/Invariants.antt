@@ -1,7 +1,8 @@
 use Rattle.std.proofs.Common.{take}
-use Rattle.go_base.specs.Growing.{Grows}
-use Rattle.api_breaks.specs.inner.Interfaces.{AreMethodsGone}
+use Rattle.api_breaks.specs.inner.Interfaces.{KeepsMethod, IsMethodGone}
+use Rattle.api_correspond.specs.inner.Members.{OfSome}
+use Rattle.api_breaks.specs.inner.Telling.{Tells, KeptBy}
 use Rattle.api_breaks.proofs.interfaces.push_all_gone.Given as goal
 
 abbrev pub invariant-loop-method : goal.invariant-loop-method
-invariant-loop-method l = Grows (AreMethodsGone l.old l.new l.owner (take l.method-index l.before) l.after) l.fn.breaks.items l.breaks.items
+invariant-loop-method l = Tells (KeptBy (KeepsMethod l.old l.after) (take l.method-index l.before)) (OfSome (IsMethodGone l.old l.after) (take l.method-index l.before)) l.fn.losses.items l.losses.items

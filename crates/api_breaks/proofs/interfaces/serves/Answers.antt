@@ -1,6 +1,6 @@
 use Rattle.std.proofs.Common.{sym, ◌∙◌, ◌≡◌}
 use mathlib.Core.Bool.{true≢false}
-use Rattle.api_breaks.proofs.InterfaceBreaks.{serves_not, serves_any, serves_itself, decided}
+use Rattle.api_breaks.proofs.InterfaceLosses.{serves_not, serves_any, serves_itself, decided}
 use Rattle.api_breaks.proofs.interfaces.serves.Goals as goal
 
 pub returns-then-not-same_sel : goal.returns-then-not-same_sel

@@ -1,4 +1,4 @@
-use Rattle.api_breaks.proofs.MethodSetBreaks.{kept_nowhere, kept_anyhow, kept_alike}
+use Rattle.api_breaks.proofs.MethodSetLosses.{kept_nowhere, kept_anyhow, kept_alike}
 use Rattle.api_breaks.proofs.method_sets.keeps_method.Goals as goal
 
 pub returns-in-None : goal.returns-in-None

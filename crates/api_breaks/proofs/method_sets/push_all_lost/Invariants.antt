@@ -1,7 +1,8 @@
 use Rattle.std.proofs.Common.{take}
-use Rattle.go_base.specs.Growing.{Grows}
-use Rattle.api_breaks.specs.inner.MethodSets.{AreLostIn}
+use Rattle.api_breaks.specs.inner.MethodSets.{KeepsCalled, IsLostIn}
+use Rattle.api_correspond.specs.inner.Members.{OfSome}
+use Rattle.api_breaks.specs.inner.Telling.{Tells, KeptBy}
 use Rattle.api_breaks.proofs.method_sets.push_all_lost.Given as goal
 
 abbrev pub invariant-loop-method : goal.invariant-loop-method
-invariant-loop-method l = Grows (AreLostIn l.old l.owner l.callable (take l.method-index l.methods)) l.fn.breaks.items l.breaks.items
+invariant-loop-method l = Tells (KeptBy (KeepsCalled l.old l.callable) (take l.method-index l.methods)) (OfSome (IsLostIn l.old l.callable) (take l.method-index l.methods)) l.fn.losses.items l.losses.items

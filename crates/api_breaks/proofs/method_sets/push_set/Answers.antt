@@ -1,5 +1,5 @@
-use Rattle.api_breaks.proofs.MethodSetBreaks.{set_lost}
+use Rattle.api_breaks.proofs.MethodSetLosses.{set_lost}
 use Rattle.api_breaks.proofs.method_sets.push_set.Goals as goal
 
 pub returns : goal.returns
-returns c = set_lost c.args.old.now c.args.new.now c.args.owner.now c.args.before.now c.args.after.now c.in_ok-methods.methods c.items.result.now c.in_ok-push_uncalled.ensures.0 c.args.breaks.now.items c.push_uncalled.new.breaks.items c.in_ok-methods.ensures c.in_ok-push_uncalled.ensures.1 c.items.ensures c.in_ok-push_uncalled.ensures.2
+returns c = set_lost c.args.old.now c.args.new.now c.args.before.now c.args.after.now c.in_ok-methods.methods c.items.result.now c.in_ok-push_uncalled.ensures.0 c.args.losses.now.items c.push_uncalled.new.losses.items c.in_ok-methods.ensures c.in_ok-push_uncalled.ensures.1 c.items.ensures c.in_ok-push_uncalled.ensures.2

@@ -5,7 +5,7 @@ use Rattle.go_model.specs.declared.types.term.Term.{out-Term}
 use Rattle.go_selectors.specs.Answers.{Decides}
 use Rattle.api_correspond.specs.Outermost.{Match}
 use Rattle.api_correspond.specs.Publics.{types_of}
-use Rattle.api_breaks.proofs.PairBreaks.{implied_told}
+use Rattle.api_breaks.proofs.PairLosses.{implied_told}
 use Rattle.api_breaks.proofs.pairs.keeps_comparable.Goals as goal
 
 pub returns-then-not-types_match : goal.returns-then-not-types_match

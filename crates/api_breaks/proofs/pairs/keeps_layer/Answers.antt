@@ -3,7 +3,7 @@ use mathlib.Core.Bool.{true≢false}
 use Rattle.go_model.specs.declared.types.term.Term.{out-Term}
 use Rattle.api_correspond.specs.Outermost.{Match}
 use Rattle.api_breaks.specs.inner.Pairs.{same_form}
-use Rattle.api_breaks.proofs.PairBreaks.{either_told}
+use Rattle.api_breaks.proofs.PairLosses.{either_told}
 use Rattle.api_breaks.proofs.pairs.keeps_layer.Goals as goal
 
 pub returns-then-types_match : goal.returns-then-types_match

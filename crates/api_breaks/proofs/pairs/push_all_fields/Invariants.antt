@@ -1,7 +1,8 @@
 use Rattle.std.proofs.Common.{take}
-use Rattle.go_base.specs.Growing.{Grows}
-use Rattle.api_breaks.specs.inner.Pairs.{AreFieldsGone}
+use Rattle.api_breaks.specs.inner.Pairs.{KeepsIn, IsFieldGone}
+use Rattle.api_correspond.specs.inner.Members.{OfSome}
+use Rattle.api_breaks.specs.inner.Telling.{Tells, KeptBy}
 use Rattle.api_breaks.proofs.pairs.push_all_fields.Given as goal
 
 abbrev pub invariant-loop-field : goal.invariant-loop-field
-invariant-loop-field l = Grows (AreFieldsGone l.owner l.after (take l.field-index l.before)) l.fn.breaks.items l.breaks.items
+invariant-loop-field l = Tells (KeptBy (KeepsIn l.after) (take l.field-index l.before)) (OfSome (IsFieldGone l.after) (take l.field-index l.before)) l.fn.losses.items l.losses.items

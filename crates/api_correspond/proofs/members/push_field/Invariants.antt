@@ -1,7 +1,7 @@
 use Rattle.std.proofs.Common.{take}
 use Rattle.go_base.specs.Growing.{Grows}
-use Rattle.api_correspond.specs.inner.Leading.{IsFieldWith}
+use Rattle.api_correspond.specs.inner.Leading.{AreFieldsAt}
 use Rattle.api_correspond.proofs.members.push_field.Given as goal
 
-abbrev pub invariant-loop-other : goal.invariant-loop-other
-invariant-loop-other l = Grows (IsFieldWith l.field (take l.other-index l.after)) l.fn.pairs.items l.pairs.items
+abbrev pub invariant-loop-at : goal.invariant-loop-at
+invariant-loop-at l = Grows (AreFieldsAt l.field l.after (take l.at-index l.places)) l.fn.pairs.items l.pairs.items

@@ -1,5 +1,4 @@
-use Rattle.std.proofs.Common.{subst, Option, None, Some}
-use Rattle.go_model.specs.declared.types.term.Term.{Term}
+use Rattle.std.proofs.Common.{subst}
 use Rattle.go_selectors.proofs.UniqueFind.{found_once}
 use Rattle.api_correspond.specs.Publics.{types_of}
 use Rattle.api_correspond.specs.inner.Leading.{FieldOf}

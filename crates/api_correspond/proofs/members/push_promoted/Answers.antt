@@ -1,4 +1,4 @@
-use Rattle.std.proofs.Common.{subst, Option, None, Some}
+use Rattle.std.proofs.Common.{subst}
 use Rattle.go_selectors.specs.Answers.{Decides}
 use Rattle.go_selectors.proofs.UniqueFind.{found_once}
 use Rattle.api_correspond.specs.Publics.{types_of, IsExported}

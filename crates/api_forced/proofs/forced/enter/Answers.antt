@@ -4,7 +4,7 @@ use Rattle.api_forced.proofs.Entering.{entering_begun, entering_next, entering_l
 use Rattle.api_forced.proofs.forced.enter.Goals as goal
 
 pub loop-one-init : goal.loop-one-init
-loop-one-init c = record { step = c.requires; keeps = keeps_none c.args.texts.now.keys; entering = entering_begun c.args.found.now.items c.args.texts.now.keys c.args.table.now.pairs.items c.new-roots.result.items c.new-roots.ensures.items }
+loop-one-init c = record { step = c.requires.in_step; keeps = keeps_none c.args.texts.now.keys; entering = entering_begun c.args.found.now.items c.args.texts.now.keys c.args.table.now.pairs.items c.new-roots.result.items c.requires.none c.new-roots.ensures.items }
 
 pub loop-one-preserved : goal.loop-one-preserved
 loop-one-preserved c = record {
@@ -15,3 +15,6 @@ loop-one-preserved c = record {
 
 pub returns-clause-roots : goal.returns-clause-roots
 returns-clause-roots c = entering_last c.args.found.now.items c.loop-one.found.items c.loop-one.texts.keys c.loop-one.table.pairs.items c.loop-one.roots.items (let k = c.loop-one.found.ok in let z = c.in_default.ensures.cases.0 in omega (arith, k, z)) c.loop-one.invariant.entering
+
+pub returns-clause-only : goal.returns-clause-only
+returns-clause-only c = c.loop-one.invariant.entering.only

@@ -21,3 +21,6 @@ returns-in-None-clause-extends c = c.loop-at.invariant.following.extends
 
 pub returns-in-None-clause-closed : goal.returns-in-None-clause-closed
 returns-in-None-clause-closed c = following_all c.args.old.now c.args.new.now c.args.table.pairs.items c.loop-at.at c.loop-at.table.pairs.items c.loop-at.next.items c.loop-at.invariant.following (subst (λ f. FollowedBy c.args.old.now c.args.new.now c.loop-at.table.pairs.items c.loop-at.at (option_map (λ v. v.items) f)) c.in-None.is c.in_ok-found.ensures)
+
+pub returns-in-None-clause-reached : goal.returns-in-None-clause-reached
+returns-in-None-clause-reached c = c.loop-at.invariant.following.reached

@@ -1,0 +1,5 @@
+pub mod AllBreaks
+pub mod Implementers
+pub mod Indexing
+pub mod NoBreak
+pub mod SharedNames

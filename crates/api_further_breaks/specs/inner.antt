@@ -1,0 +1,4 @@
+pub mod Implementing
+pub mod Losses
+pub mod Partners
+pub mod Sealed

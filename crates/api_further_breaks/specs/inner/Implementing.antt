@@ -1,0 +1,61 @@
+-- Which interfaces types don't implement any more, place by place.
+-- Own: words of the contracts inside this crate.
+use Rattle.std.specs.Prelude.{◌≡◌, ◌⊎◌, ℕ, List}
+use Rattle.go_model.specs.types.MethodSets.{Implements, method_sel}
+use Rattle.go_model.specs.types.Terms.{pointer_to}
+use Rattle.go_model.specs.types.Underlying.{under, methods_of}
+use Rattle.go_model.specs.worlds.Worlds.{Packages}
+use Rattle.go_model.specs.declared.types.term.Term.{Term}
+use Rattle.go_model.specs.declared.types.term.Method.{Method}
+use Rattle.go_selectors.specs.Candidates.{Candidates, AreCandidates}
+use Rattle.api_correspond.specs.declared.pair.TypePair.{TypePair}
+use Rattle.api_correspond.specs.Publics.{types_of}
+use Rattle.api_correspond.specs.inner.BySel.{PlaceTable, places_at}
+use Rattle.api_correspond.specs.inner.Members.{OfSome}
+use Rattle.api_correspond.specs.inner.Tables.{At}
+use Rattle.api_breaks.specs.declared.broken.Lost.{Lost}
+use Rattle.api_breaks.specs.declared.broken.Lost.TheVariants as lost
+use Rattle.api_breaks.specs.inner.Telling.{KeptBy}
+use Rattle.api_further_breaks.specs.inner.Sealed.{AreSealed}
+
+module _ (old new : Packages) (pairs : List TypePair) where
+  -- what was called has the methods of the old interface, and what is called those of the new one
+  abbrev pub HasOld : Candidates → TypePair → Type 0
+  HasOld callable i = AreCandidates callable (methods_of (under (types_of old) i.old))
+
+  abbrev pub HasNew : Candidates → TypePair → Type 0
+  HasNew called i = AreCandidates called (methods_of (under (types_of new) i.new))
+
+  -- the first leads to the second, or not, of the pair at a place
+  abbrev pub KeepsAt : Candidates → Candidates → ℕ → Type 0
+  KeepsAt callable called at = (i : TypePair) → At pairs at i → HasOld callable i → HasNew called i
+
+  abbrev pub IsLostAt : Candidates → Candidates → ℕ → Lost → Type 0
+  IsLostAt callable called at l = (i : TypePair) × At pairs at i × HasOld callable i × (HasNew called i → ⊥) × (lost.Implements i.old ≡ l)
+
+  abbrev pub IsLostOf : Candidates → Candidates → List ℕ → Lost → Type 0
+  IsLostOf callable called places = OfSome (IsLostAt callable called) places
+
+  -- of the pairs that stand at the selector of a method
+  abbrev pub KeepsOf : PlaceTable → Candidates → Candidates → Method → Type 0
+  KeepsOf index callable called m = KeptBy (KeepsAt callable called) (places_at index (method_sel m))
+
+  abbrev pub IsLostBy : PlaceTable → Candidates → Candidates → Method → Lost → Type 0
+  IsLostBy index callable called m = IsLostOf callable called (places_at index (method_sel m))
+
+  abbrev pub IsLostBySome : PlaceTable → Candidates → Candidates → List Method → Lost → Type 0
+  IsLostBySome index callable called ms = OfSome (IsLostBy index callable called) ms
+
+  -- of all sealed pairs, for an old and a new type
+  abbrev pub KeepsSet : Term → Term → Type 0
+  KeepsSet t u = (at : ℕ) (i : TypePair) → At pairs at i → AreSealed old new i → Implements (types_of old) t i.old → Implements (types_of new) u i.new
+
+  abbrev pub IsSetLoss : Term → Term → Lost → Type 0
+  IsSetLoss t u l = (at : ℕ) × (i : TypePair) × At pairs at i × AreSealed old new i × Implements (types_of old) t i.old × (Implements (types_of new) u i.new → ⊥) × (lost.Implements i.old ≡ l)
+
+  -- for the types of a pair, and the pointers to them
+  abbrev pub KeepsBoth : TypePair → Type 0
+  KeepsBoth p = KeepsSet p.old p.new × KeepsSet (pointer_to p.old) (pointer_to p.new)
+
+  abbrev pub IsImplementingLoss : TypePair → Lost → Type 0
+  IsImplementingLoss p l = IsSetLoss p.old p.new l ⊎ IsSetLoss (pointer_to p.old) (pointer_to p.new) l
