@@ -174,11 +174,7 @@ fn push_path(
 }
 
 /// What the public packages of the old world and their exported objects lose.
-pub fn package_breaks(
-    alloc: Global,
-    old: &World,
-    new: &World,
-) -> Result<Vec<Break>, NoMemory>
+pub fn package_breaks(alloc: Global, old: &World, new: &World) -> Result<Vec<Break>, NoMemory>
     ensures exact { IfOk result (λ breaks. (b : Break) → Has breaks.items b ↔ IsPackageBreak old.now new.now b) }
     ensures kept { IfOk result (λ breaks. breaks.items ≡ [] → (path : Sequence ℕ) → IsPublic old.now path → KeepsPath old.now new.now path) }
 {

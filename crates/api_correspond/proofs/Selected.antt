@@ -67,10 +67,10 @@ places_more sels k n old new at p a = record { sound = sound; complete = complet
     complete s i l h = elim (cases_lt i n) [
       | inl x ↦ back s i (kept_by s i (same_sel k s) (p.complete s i x h))
       | inr y ↦ (
-        let e : n ≡ i = omega arith in
-        let f : k ≡ s = at_same sels n k s at (subst (λ (j : ℕ). At sels j s) (sym e) h) in
-        back s i (subst (λ (b : Bool). Has (if b then places_at old s ++ n ∷ [] else places_at old s) i) (sym (same_true s f)) (subst (λ (j : ℕ). Has (places_at old s ++ n ∷ []) j) e (has-last (places_at old s) n)))
-      )
+          let e : n ≡ i = omega arith in
+          let f : k ≡ s = at_same sels n k s at (subst (λ (j : ℕ). At sels j s) (sym e) h) in
+          back s i (subst (λ (b : Bool). Has (if b then places_at old s ++ n ∷ [] else places_at old s) i) (sym (same_true s f)) (subst (λ (j : ℕ). Has (places_at old s ++ n ∷ []) j) e (has-last (places_at old s) n)))
+          )
     ]
 
 length_map : {A B : Type 0} (f : A → B) (xs : List A) → length (map f xs) ≡ length xs

@@ -62,10 +62,7 @@ pub fn add_place(
 }
 
 /// The places of fields by their selectors.
-pub fn field_places(
-    alloc: Global,
-    fields: &[Field],
-) -> Result<BTreeMap<Sel, List<usize>>, NoMemory>
+pub fn field_places(alloc: Global, fields: &[Field]) -> Result<BTreeMap<Sel, List<usize>>, NoMemory>
     ensures { IfOk result (ArePlaces (map field_sel fields.now)) }
 {
     let mut places = BTreeMap::new(alloc);

@@ -147,10 +147,10 @@ module _ (old new : Packages) (owners : List (List ℕ)) (pairs : List TypePair)
         to e = record {
           paths = keeps (has_none first (λ b h. none e b (g.kept b h)));
           pairs = λ p w. (
-            let c = o.complete w.0 p w.1 in
-            let d = losses_of old new pairs lss c.0.pair p ls c.3 in
-            elim d.2.decided [ inl k ↦ k | inr k ↦ absurd (none e (broken w.0 k.0) (claimed (broken w.0 k.0) w.0 p k.0 w.1 k.1 refl)) ]
-          );
+              let c = o.complete w.0 p w.1 in
+              let d = losses_of old new pairs lss c.0.pair p ls c.3 in
+              elim d.2.decided [ inl k ↦ k | inr k ↦ absurd (none e (broken w.0 k.0) (claimed (broken w.0 k.0) w.0 p k.0 w.1 k.1 refl)) ]
+              );
         }
 
         back : Compatible old new → bs ≡ []

@@ -82,10 +82,10 @@ module _ (old new : Packages) (pairs : List TypePair) where
       complete j i l a s = elim (cases_lt j n) [
         | inl y ↦ (let c = x.complete j i y a s in (c.0, c.1, subst (λ (z : List ℕ). Has z j) (sym (h.3 c.0)) (kept c.0 j (same_sel sel c.0) c.2)))
         | inr y ↦ (
-          let e : n ≡ j = omega arith in
-          let f : p ≡ i = at_same pairs n p i at (subst (λ (z : ℕ). At pairs z i) (sym e) a) in
-          (sel, subst (λ (z : TypePair). SealsBy old z sel) f h.2, subst (Has (places_at k sel)) e last)
-        )
+            let e : n ≡ j = omega arith in
+            let f : p ≡ i = at_same pairs n p i at (subst (λ (z : ℕ). At pairs z i) (sym e) a) in
+            (sel, subst (λ (z : TypePair). SealsBy old z sel) f h.2, subst (Has (places_at k sel)) e last)
+            )
       ]
 
   pub index_all : (n : ℕ) (m : PlaceTable) → length pairs ≤ n → IsIndexBelow old new pairs n m → IsIndex old new pairs m

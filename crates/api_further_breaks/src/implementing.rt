@@ -128,7 +128,9 @@ fn push_method(
     ensures { OnOk result (Tells (KeepsOf old.now new.now pairs.now index.now callable.now called.now method.now) (IsLostBy old.now new.now pairs.now index.now callable.now called.now method.now) losses.old.items losses.new.items) }
 {
     let places = places_at(index, &method.sel);
-    push_places(alloc, error, old, new, pairs, callable, called, places, losses)?;
+    push_places(
+        alloc, error, old, new, pairs, callable, called, places, losses,
+    )?;
     Ok(())
 }
 

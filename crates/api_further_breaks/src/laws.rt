@@ -7,5 +7,4 @@ ghost use Rattle.api_breaks.specs.declared.broken.Break.{Break};
 /// Where a new world keeps all of an old one, nothing is broken.
 pub fn no_break()
     ensures { (old new : Packages) → Compatible old new → (b : Break) → IsBreak old new b → ⊥ }
-{
-}
+{}

@@ -106,11 +106,7 @@ fn are_of_module(old: &World, new: &World, pair: &TypePair) -> bool
 }
 
 // Whether the old type of a pair stands in several, or the new one.
-fn has_others<'a>(
-    olds: &IndexSet<Name<'a>>,
-    news: &IndexSet<Name<'a>>,
-    pair: &'a TypePair,
-) -> bool
+fn has_others<'a>(olds: &IndexSet<Name<'a>>, news: &IndexSet<Name<'a>>, pair: &'a TypePair) -> bool
     ensures { Decides (HasOthers olds.now.keys news.now.keys pair.now) result }
 {
     is_shared(olds, &pair.old) || is_shared(news, &pair.new)
