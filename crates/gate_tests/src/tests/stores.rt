@@ -25,7 +25,8 @@ fn words_of(alloc: Global, words: &[&str]) -> Result<Vec<String>, Fail> {
     Ok(all)
 }
 
-// Whether the features of a store end with this status, output and error output.
+// Whether the features of a store end with this status, output and error output. Where there is a report, one package is
+// checked, and else none.
 fn ends<R: Threads + Sync + AllocGlobal, F: Files>(
     rt: &R,
     files: &mut F,
@@ -42,7 +43,8 @@ fn ends<R: Threads + Sync + AllocGlobal, F: Files>(
         rt, alloc, &words, files, &mut out, &mut err, &OpenGate, &mut steps,
     );
     let checks = steps.end();
-    Ok(checks == 0 && status.code() == code && out.bytes() == report && err.bytes() == fault)
+    let packages = if code == 0 { 1 } else { 0 };
+    Ok(checks == packages && status.code() == code && out.bytes() == report && err.bytes() == fault)
 }
 
 // A store that tells nothing: everything is missing.
@@ -281,16 +283,16 @@ fn add_file(
 #[test]
 fn reads_syntax_up_to_a_height_of_256(rt: HostRuntime) -> Result<(), Fail> {
     let alloc = rt.alloc();
-    let not_built = b"apigate: input of a form not built yet\n".as_slice();
+    let report = b"pkg m/p, const X = 5\npkg m/p, const X ideal-int\n".as_slice();
     let refused =
         b"apigate: new linux-amd64: p/p.go: not in the grammar of this profile\n".as_slice();
-    for (pairs, fault) in [(256, not_built), (257, refused)] {
+    for (pairs, code, wanted, fault) in [(256, 0, report, b"".as_slice()), (257, 3, b"", refused)] {
         let source = in_parentheses(alloc, pairs)?;
         let mut files = List::new(alloc);
         add_file(alloc, &mut files, b"new/go.mod", b"module m\n")?;
         add_file(alloc, &mut files, b"new/p/p.go", &source)?;
         let mut store = MemoryFiles::new(alloc, files)?;
-        assert!(rt; ends(&rt, &mut store, 3, b"", fault)?);
+        assert!(rt; ends(&rt, &mut store, code, wanted, fault)?);
     }
     Ok(())
 }
