@@ -11,15 +11,15 @@ import (
 	"strings"
 )
 
-// An answer is a list of lines with the classes of differences that lead to it. Lost are the places that the refusal of a
-// declaration may tell, each with its file.
+// An answer is a list of lines with the classes of differences that lead to it, none where it is Go's own. Lost are the places of all
+// declarations that are lost.
 type answer struct {
 	Classes []string
 	Lines   []string
 	Lost    []string
 }
 
-// Answers are what Go says, and after it what is owed where the gate differs on purpose.
+// Answers are all that may be said, with Go's errors.
 type answers struct {
 	Case    string
 	Answers []answer
@@ -27,10 +27,12 @@ type answers struct {
 	Counts  map[string]int
 }
 
-// An outcome is what is said of a package: nothing where it is typed, or why it is refused, and the places of what is lost.
+// An outcome is what may be said of a package, by classes of differences: that it is typed, or why it is refused, and then the places
+// of all that is lost.
 type outcome struct {
-	line string
-	lost []string
+	classes []string
+	line    string
+	lost    []string
 }
 
 // typed is what Go's type checker says of a package.
@@ -61,9 +63,11 @@ func withUsed(file readFile, set *token.FileSet) *ast.File {
 	for _, use := range file.uses {
 		used[use.place] = true
 	}
+	var decls []ast.Decl
 	for _, decl := range file.tree.Decls {
 		group, is := decl.(*ast.GenDecl)
 		if !is || group.Tok != token.IMPORT {
+			decls = append(decls, decl)
 			continue
 		}
 		var kept []ast.Spec
@@ -72,35 +76,44 @@ func withUsed(file readFile, set *token.FileSet) *ast.File {
 				kept = append(kept, spec)
 			}
 		}
-		group.Specs = kept
+		if group.Specs = kept; len(kept) > 0 {
+			decls = append(decls, group)
+		}
 	}
+	file.tree.Decls = decls
 	return file.tree
 }
 
 const brokenAlias = "invalid use of type alias"
 
-func (t typed) isBroken() bool {
+// broken is how many aliases Go couldn't type for their order.
+func (t typed) broken() (count int) {
 	for _, one := range t.errors {
 		if strings.HasPrefix(one.Msg, brokenAlias) {
-			return true
+			count++
 		}
 	}
-	return false
+	return count
 }
 
 // checkInOrder types a package. Where Go can't type an alias in a circle in the order of the declarations, it is asked again in
-// others.
+// others, and that is taken in which the fewest are left.
 func (c *checking) checkInOrder(f *folder, files []*ast.File, counts map[string]int) typed {
 	done := c.check(f, files)
 	draw := rand.New(rand.NewSource(1))
-	for tries := 0; tries < 50 && done.isBroken(); tries++ {
+	for tries := 0; tries < 50 && done.broken() > 0; tries++ {
 		for _, file := range files {
 			draw.Shuffle(len(file.Decls), func(i, j int) { file.Decls[i], file.Decls[j] = file.Decls[j], file.Decls[i] })
+			for _, decl := range file.Decls {
+				if group, is := decl.(*ast.GenDecl); is && group.Tok == token.TYPE {
+					draw.Shuffle(len(group.Specs), func(i, j int) { group.Specs[i], group.Specs[j] = group.Specs[j], group.Specs[i] })
+				}
+			}
 		}
 		draw.Shuffle(len(files), func(i, j int) { files[i], files[j] = files[j], files[i] })
-		if again := c.check(f, files); !again.isBroken() {
+		if again := c.check(f, files); !again.failed && again.broken() < done.broken() {
 			counts["aliases in another order"]++
-			return again
+			done = again
 		}
 	}
 	return done
@@ -111,6 +124,7 @@ func (c *checking) check(f *folder, files []*ast.File) (done typed) {
 	defer func() {
 		if fault := recover(); fault != nil {
 			done.failed = true
+			done.errors = append(done.errors, types.Error{Fset: c.set, Msg: fmt.Sprint(fault)})
 		}
 	}()
 	done.info = &types.Info{
@@ -135,19 +149,16 @@ func (c *checking) told(f *folder, at token.Pos, what string) string {
 	return fmt.Sprintf("%s %s: %s at %d", f.path, file, what, offset)
 }
 
-var goOnly = map[string]string{
-	"duplicate key ":           twice,
-	"duplicate index ":         twice,
-	"initialization cycle for": variable,
-	"missing function body":    bodiless,
-	"invalid shift count":      far,
+var goOnly = []struct{ words, class string }{
+	{"duplicate key ", twice}, {"duplicate index ", twice}, {"initialization cycle for", variable}, {"missing function body", bodiless},
+	{"invalid shift count", far}, {brokenAlias, unordered},
 }
 
 // ofGo is the class of an error that only Go finds, or nothing.
 func ofGo(message string) string {
-	for start, class := range goOnly {
-		if strings.HasPrefix(message, start) {
-			return class
+	for _, one := range goOnly {
+		if strings.Contains(message, one.words) {
+			return one.class
 		}
 	}
 	return ""
@@ -226,10 +237,10 @@ func (c *checking) repeated(files []*ast.File, l *listing, done typed) token.Pos
 	return first
 }
 
-// judged is what the errors of a package, and classes of what is refused beyond them, make of it.
-func (c *checking) judged(f *folder, l *listing, done typed, faulty map[int]bool) outcome {
+// judged is the outcome where these declarations are faulty, by these classes.
+func (c *checking) judged(f *folder, l *listing, faulty map[int]bool, classes map[string]bool) outcome {
 	lost := l.lost(faulty)
-	found := outcome{}
+	found := outcome{classes: sortedKeys(classes)}
 	for at, d := range l.all {
 		if lost[at] {
 			line := c.told(f, d.place(), "no typing")
@@ -251,65 +262,75 @@ func sortedKeys(set map[string]bool) []string {
 	return keys
 }
 
-// verdicts are what Go says of a package, and what is owed where that differs, with the classes.
-func (c *checking) verdicts(f *folder, all *answers) (typed, outcome, outcome, []string) {
+// twiceDeclared are the outcomes of a package that declares a name twice, if it does.
+func (c *checking) twiceDeclared(f *folder, files []*ast.File, l *listing, done typed) (all []outcome) {
+	at, other := c.repeated(files, l, done), l.alike()
+	if at != token.NoPos {
+		all = append(all, outcome{line: c.told(f, at, "declared twice")})
+	}
+	if other == token.NoPos || at != token.NoPos && at <= other {
+		return all
+	}
+	if at == token.NoPos {
+		all = append(all, c.judged(f, l, l.faulty(done.errors), nil))
+	}
+	return append(all, outcome{classes: []string{baseless}, line: c.told(f, other, "declared twice")})
+}
+
+// unsound are the outcomes of a package by Go's errors: Go's own, those without the errors that Go alone finds, and those in which one
+// declaration more is faulty.
+func (c *checking) unsound(f *folder, l *listing, done typed) (all []outcome) {
+	var left []types.Error
+	ofGoAlone := map[string]bool{}
+	for _, one := range done.errors {
+		if class := ofGo(one.Msg); class != "" {
+			ofGoAlone[class] = true
+		} else {
+			left = append(left, one)
+		}
+	}
+	all = append(all, c.judged(f, l, l.faulty(done.errors), nil))
+	if len(ofGoAlone) > 0 {
+		all = append(all, c.judged(f, l, l.faulty(left), ofGoAlone))
+	}
+	for at := range l.all {
+		if classes := l.own(at, done.info, done.pack); len(classes) > 0 {
+			all = append(all, c.judged(f, l, map[int]bool{at: true}, classes))
+		}
+	}
+	return all
+}
+
+// outcomes are those of a package, Go's own first.
+func (c *checking) outcomes(f *folder, all *answers) []outcome {
 	var files []*ast.File
 	for _, file := range f.files {
 		files = append(files, withUsed(file, c.set))
 	}
 	l := listingOf(files)
 	done := c.check(f, files)
-	if done.failed {
-		return done, outcome{}, outcome{}, []string{failing}
-	}
 	for _, one := range done.errors {
 		if !strings.HasPrefix(one.Msg, "\t") {
 			all.Errors = append(all.Errors, fmt.Sprintf("%s: %s", c.set.Position(one.Pos), strings.Join(strings.Fields(one.Msg), " ")))
 		}
 	}
-	if at := c.repeated(files, l, done); at != token.NoPos {
-		line := outcome{line: c.told(f, at, "declared twice")}
-		return done, line, line, nil
+	c.known[f.path] = done.pack
+	if done.failed {
+		return []outcome{{classes: []string{failing}, line: "failed"}}
+	}
+	if found := c.twiceDeclared(f, files, l, done); len(found) > 0 {
+		return found
 	}
 	for _, file := range f.files {
 		for _, use := range file.uses {
 			if !c.found(f, use.path) {
-				line := outcome{line: fmt.Sprintf("%s %s: import not found at %d", f.path, file.path, use.place)}
-				return done, line, line, nil
+				return []outcome{{line: fmt.Sprintf("%s %s: import not found at %d", f.path, file.path, use.place)}}
 			}
 		}
 	}
 	done = c.checkInOrder(f, files, all.Counts)
-	classes := map[string]bool{}
-	faulty, owed := map[int]bool{}, map[int]bool{}
-	for _, one := range done.errors {
-		if strings.HasPrefix(one.Msg, "\t") {
-			continue
-		}
-		class := ofGo(one.Msg)
-		known := false
-		for at, d := range l.all {
-			if d.has(one.Pos) {
-				known = true
-				faulty[at] = true
-				if class == "" {
-					owed[at] = true
-				} else {
-					classes[class] = true
-				}
-			}
-		}
-		if !known {
-			panic(fmt.Sprintf("%s: %s stands in no declaration", c.set.Position(one.Pos), one.Msg))
-		}
-	}
-	for at := range l.all {
-		for class := range l.own(at, done.info, done.pack) {
-			classes[class] = true
-			owed[at] = true
-		}
-	}
-	return done, c.judged(f, l, done, faulty), c.judged(f, l, done, owed), sortedKeys(classes)
+	c.known[f.path] = done.pack
+	return c.unsound(f, l, done)
 }
 
 func isPublic(f *folder) bool {
@@ -354,6 +375,18 @@ func unread(order []*folder) string {
 	return ""
 }
 
+// once are lines in order, each once.
+func once(lines []string) []string {
+	sort.Strings(lines)
+	kept := []string{}
+	for at, line := range lines {
+		if at == 0 || line != lines[at-1] {
+			kept = append(kept, line)
+		}
+	}
+	return kept
+}
+
 // answersTo answers a question.
 func answersTo(asked question) answers {
 	all := answers{Answers: []answer{}, Counts: map[string]int{}}
@@ -369,37 +402,44 @@ func answersTo(asked question) answers {
 	_, architecture, _ := strings.Cut(asked.platform, "-")
 	c := &checking{r, map[string]*types.Package{}, types.SizesFor("gc", architecture)}
 	lines, met := []string{}, map[string]bool{}
-	isAnswered := false
 	for _, f := range order {
-		done, line, owed, classes := c.verdicts(f, &all)
-		for _, class := range classes {
-			met[class] = true
+		all.Counts["packages"]++
+		goesOn := false
+		var way []string
+		for i, one := range c.outcomes(f, &all) {
+			if one.line == "" {
+				if !goesOn || len(one.classes) < len(way) {
+					way = one.classes
+				}
+				goesOn = true
+				continue
+			}
+			if i == 0 || len(one.classes) > 0 {
+				all.Answers = append(all.Answers, answer{with(met, one.classes), []string{one.line}, one.lost})
+			}
 		}
-		if done.failed {
-			all.Answers = append(all.Answers, answer{sortedKeys(met), []string{"failed"}, nil})
+		if !goesOn {
 			return all
 		}
-		c.known[f.path] = done.pack
-		all.Counts["packages"]++
-		if line.line != "" && !isAnswered {
-			isAnswered = true
-			all.Answers = append(all.Answers, answer{[]string{}, []string{line.line}, line.lost})
-		}
-		if owed.line != "" {
-			all.Answers = append(all.Answers, answer{sortedKeys(met), []string{owed.line}, owed.lost})
-			if isAnswered {
-				return all
-			}
+		for _, class := range way {
+			met[class] = true
 		}
 		if isPublic(f) {
 			lines = append(lines, c.features(f, all.Counts)...)
 		}
 	}
-	sort.Strings(lines)
-	classes := []string{}
-	if isAnswered {
-		classes = sortedKeys(met)
-	}
-	all.Answers = append([]answer{{classes, lines, nil}}, all.Answers...)
+	all.Answers = append([]answer{{sortedKeys(met), once(lines), nil}}, all.Answers...)
 	return all
+}
+
+// with are classes and some more, in order.
+func with(met map[string]bool, more []string) []string {
+	all := map[string]bool{}
+	for class := range met {
+		all[class] = true
+	}
+	for _, class := range more {
+		all[class] = true
+	}
+	return sortedKeys(all)
 }

@@ -5,24 +5,31 @@ import (
 	"go/ast"
 	"go/token"
 	"go/types"
+	"strings"
 )
 
 // A declaration is a spec, a function or a method.
 type declaration struct {
-	file   int
-	names  []*ast.Ident
-	node   ast.Node   // what Go's errors in it stand in
-	trees  []ast.Node // the types, values and signatures that stand in it, also those that a spec repeats
-	method *ast.FuncDecl
-	kind   token.Token
-	alias  bool
-	leads  map[int]bool // the declarations on which it depends
+	file     int
+	names    []*ast.Ident
+	node     ast.Node   // what Go's errors in it stand in
+	trees    []ast.Node // the types, values and signatures that stand in it, also those that a spec repeats
+	method   *ast.FuncDecl
+	kind     token.Token
+	alias    bool
+	repeated ast.Expr     // the type that a spec of constants repeats
+	leads    map[int]bool // the declarations on which it depends
 }
 
 func (d *declaration) place() token.Pos { return d.names[0].Pos() }
 
 // has says whether an error at this position is the declaration's.
 func (d *declaration) has(at token.Pos) bool { return d.node.Pos() <= at && at <= d.node.End() }
+
+// repeats says whether an error at this position is in a type that the declaration repeats.
+func (d *declaration) repeats(at token.Pos) bool {
+	return d.repeated != nil && d.repeated.Pos() <= at && at <= d.repeated.End()
+}
 
 func exprs(list []ast.Expr) (trees []ast.Node) {
 	for _, one := range list {
@@ -58,7 +65,9 @@ func declarationsOf(files []*ast.File) (all []*declaration) {
 						if decl.Tok == token.CONST && spec.Type == nil && len(spec.Values) == 0 && before != nil {
 							from = before
 						}
-						before = from
+						if before = from; from != spec {
+							one.repeated = from.Type
+						}
 						one.names = spec.Names
 						if from.Type != nil {
 							one.trees = append(one.trees, from.Type)
@@ -192,6 +201,39 @@ func listingOf(files []*ast.File) *listing {
 	return l
 }
 
+// faulty are the declarations in which errors stand.
+func (l *listing) faulty(errors []types.Error) map[int]bool {
+	found := map[int]bool{}
+	for _, one := range errors {
+		known := strings.HasPrefix(one.Msg, "\t")
+		for at, d := range l.all {
+			if !strings.HasPrefix(one.Msg, "\t") && (d.has(one.Pos) || d.repeats(one.Pos)) {
+				found[at], known = true, true
+			}
+		}
+		if !known {
+			panic(one.Error() + " stands in no declaration")
+		}
+	}
+	return found
+}
+
+// alike is the place of the first method that was declared before for a receiver that is written alike, be that a type or not.
+func (l *listing) alike() token.Pos {
+	met, first := map[[2]string]bool{}, token.NoPos
+	for _, d := range l.all {
+		if d.method == nil || d.names[0].Name == "_" || receiverName(d.method) == "" {
+			continue
+		}
+		key := [2]string{receiverName(d.method), d.names[0].Name}
+		if met[key] && (first == token.NoPos || d.place() < first) {
+			first = d.place()
+		}
+		met[key] = true
+	}
+	return first
+}
+
 // lost are the declarations that depend on these, themselves too.
 func (l *listing) lost(faulty map[int]bool) map[int]bool {
 	into := make([][]int, len(l.all))
@@ -250,16 +292,19 @@ func (l *listing) nameLeadsTo(tree ast.Node, to int) bool {
 }
 
 const (
-	several  = "a spec of several names that leads back to itself"
-	circle   = "a circle through the methods of a type, a signature or an embedded interface"
-	aliased  = "a receiver that is written by an alias of a pointer type"
-	hidden   = "a method with the name of an unexported field of another package"
-	missing  = "a predeclared name that the profile hasn't"
-	outside  = "a form that the profile hasn't"
-	variable = "a circle of variables, one of them with a type"
-	bodiless = "a function init without a body"
-	choosing = "an interface that embeds a type other than interfaces"
-	pointing = "an embedded alias of a pointer type"
+	several   = "a spec of several names that leads back to itself"
+	circle    = "a circle through a method and an embedded interface"
+	measured  = "a length of an array that leads back to the declaration in which it stands"
+	aliased   = "a receiver that is written by an alias of a pointer type"
+	hidden    = "a method with the name of an unexported field of another package"
+	missing   = "a predeclared name that the profile hasn't"
+	outside   = "a form that the profile hasn't"
+	variable  = "a circle of variables, one of them with a type"
+	bodiless  = "a function init without a body"
+	choosing  = "an interface that embeds a type other than interfaces"
+	pointing  = "an embedded alias of a pointer type"
+	unordered = "an alias in a circle that Go can't type in any order"
+	baseless  = "a method that is declared twice for what is no type of the package"
 )
 
 // isBehindAlias says whether a receiver is written by an alias of a pointer type.
@@ -281,8 +326,20 @@ func (l *listing) isBehindAlias(name string) bool {
 	return false
 }
 
-// isRound says whether a declaration is in a circle through what Go types later: an interface that is embedded below a method, or
-// the length of an array in a signature.
+// isMeasured says whether a length of an array leads back to the declaration in which it stands.
+func (l *listing) isMeasured(at int, tree ast.Node) bool {
+	leads := false
+	ast.Inspect(tree, func(node ast.Node) bool {
+		if one, is := node.(*ast.ArrayType); is && one.Len != nil {
+			leads = leads || l.nameLeadsTo(one.Len, at)
+		}
+		_, is := node.(*ast.BlockStmt)
+		return !is
+	})
+	return leads
+}
+
+// isRound says whether a declaration is in a circle through an interface that is embedded below a method, which Go types later.
 func (l *listing) isRound(at int, tree ast.Node) bool {
 	round := false
 	ast.Inspect(tree, func(node ast.Node) bool {
@@ -291,10 +348,8 @@ func (l *listing) isRound(at int, tree ast.Node) bool {
 			return false
 		case *ast.InterfaceType:
 			for _, one := range node.Methods.List {
-				round = round || len(one.Names) == 0 && node != tree && l.nameLeadsTo(one.Type, at)
+				round = round || len(one.Names) == 0 && (node != tree || l.all[at].alias) && l.nameLeadsTo(one.Type, at)
 			}
-		case *ast.ArrayType:
-			round = round || l.all[at].kind == token.FUNC && node.Len != nil && l.nameLeadsTo(node.Len, at)
 		}
 		return true
 	})
@@ -331,7 +386,10 @@ func (l *listing) own(at int, info *types.Info, pack *types.Package) map[string]
 		}
 	}
 	for _, tree := range d.trees {
-		note(circle, (d.kind == token.TYPE || d.kind == token.FUNC) && l.isRound(at, tree))
+		if d.kind == token.TYPE || d.kind == token.FUNC {
+			note(circle, l.isRound(at, tree))
+			note(measured, l.isMeasured(at, tree))
+		}
 		ast.Inspect(tree, func(node ast.Node) bool {
 			if _, is := node.(*ast.BlockStmt); is {
 				return false
