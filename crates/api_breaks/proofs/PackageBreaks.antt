@@ -58,10 +58,10 @@ module _ (path : List ℕ) (a c : Object) (bs : List Break) where
   pub constant_kept : KeepsConstant a.entity c.entity → Grows (IsOtherConstant path a c) bs bs
   constant_kept k = grows_none bs (λ b h. h.0 k)
 
-  pub constant_lost : (new : List Break) (s t : Entity) → (KeepsConstant a.entity c.entity → ⊥) → s ≡ a.entity → t ≡ c.entity → new ≡ bs ++ broken (qualified path a.name) (lost.Constant s t) ∷ [] → Grows (IsOtherConstant path a c) bs new
-  constant_lost new s t n i j g =
-      let k : bs ++ broken (qualified path a.name) (lost.Constant s t) ∷ [] ≡ bs ++ broken (qualified path a.name) (lost.Constant a.entity c.entity) ∷ [] = (λ l. bs ++ broken (qualified path a.name) (lost.Constant (i l) (j l)) ∷ []) in
-      grows_one bs new (broken (qualified path a.name) (lost.Constant a.entity c.entity)) (g ∙ k) (n, refl) (λ b s. s.1)
+  pub constant_lost : (new : List Break) (of : List ℕ) (s t : Entity) → (KeepsConstant a.entity c.entity → ⊥) → of ≡ path → s ≡ a.entity → t ≡ c.entity → new ≡ bs ++ broken (qualified path a.name) (lost.Constant of s t) ∷ [] → Grows (IsOtherConstant path a c) bs new
+  constant_lost new of s t n h i j g =
+      let k : bs ++ broken (qualified path a.name) (lost.Constant of s t) ∷ [] ≡ bs ++ broken (qualified path a.name) (lost.Constant path a.entity c.entity) ∷ [] = (λ l. bs ++ broken (qualified path a.name) (lost.Constant (h l) (i l) (j l)) ∷ []) in
+      grows_one bs new (broken (qualified path a.name) (lost.Constant path a.entity c.entity)) (g ∙ k) (n, refl) (λ b s. s.1)
 
 pub objects_all : (path : List ℕ) (q : Package) (objects items : List Object) (n : ℕ) (bs new : List Break) → items ≡ objects → length items ≤ n → Grows (IsOfObjects path q (take n items)) bs new → Grows (IsOfObjects path q objects) bs new
 objects_all path q objects items n bs new e h g = subst (λ (w : List Object). Grows (IsOfObjects path q w) bs new) (take_past n items h ∙ e) g
@@ -207,7 +207,7 @@ module _ (old new : Packages) (world : IsWorld old) where
       name_kept = λ t p q e f. name_same path p q s t e f;
       objects = λ a x t. (let q = found_package new later path t in object_kept path a x t q.0 q.1 (first_with object_name q.0.objects a.name) refl);
       kinds = λ a c x y e. elim (kind_decided a.entity c.entity) [ inl k ↦ k | inr n ↦ absurd (none (broken (qualified path a.name) (lost.Kind (sort_of a.entity) (sort_of c.entity))) (object_of_other_kind path a c x y e n refl)) ];
-      constants = λ a c x y e. elim (constant_decided a.entity c.entity) [ inl k ↦ k | inr n ↦ absurd (none (broken (qualified path a.name) (lost.Constant a.entity c.entity)) (constant_apart path a c x y e n refl)) ];
+      constants = λ a c x y e. elim (constant_decided a.entity c.entity) [ inl k ↦ k | inr n ↦ absurd (none (broken (qualified path a.name) (lost.Constant path a.entity c.entity)) (constant_apart path a c x y e n refl)) ];
     }
 
 pub paths_kept : (old new : Packages) → IsWorld old → IsWorld new → (bs : List Break) → ((b : Break) → Has bs b ↔ IsPackageBreak old new b) → bs ≡ [] → (path : List ℕ) → IsPublic old path → KeepsPath old new path

@@ -44,7 +44,7 @@ pub data IsPackageBreak (old new : Packages) (b : Break) : Type 0 where
   package_renamed : (path : List ℕ) (p q : Package) → IsPublic old path → IsPublic new path → package_at old path ≡ Some p → package_at new path ≡ Some q → (q.name ≡ p.name → ⊥) → broken path (lost.Name q.name) ≡ b → IsPackageBreak old new b
   object_gone : (path : List ℕ) (a : Object) → Exports old path a → IsPublic new path → (KeepsObject new path a → ⊥) → broken (qualified path a.name) lost.Removed ≡ b → IsPackageBreak old new b
   object_of_other_kind : (path : List ℕ) (a c : Object) → Exports old path a → Exports new path c → c.name ≡ a.name → (KeepsKind a.entity c.entity → ⊥) → broken (qualified path a.name) (lost.Kind (sort_of a.entity) (sort_of c.entity)) ≡ b → IsPackageBreak old new b
-  constant_apart : (path : List ℕ) (a c : Object) → Exports old path a → Exports new path c → c.name ≡ a.name → (KeepsConstant a.entity c.entity → ⊥) → broken (qualified path a.name) (lost.Constant a.entity c.entity) ≡ b → IsPackageBreak old new b
+  constant_apart : (path : List ℕ) (a c : Object) → Exports old path a → Exports new path c → c.name ≡ a.name → (KeepsConstant a.entity c.entity → ⊥) → broken (qualified path a.name) (lost.Constant path a.entity c.entity) ≡ b → IsPackageBreak old new b
 
 -- what a pair of types loses, by the rules on one pair
 pub data IsLoss (old new : Packages) (p : TypePair) (l : Lost) : Type 0 where

@@ -28,8 +28,9 @@ pub enum Lost {
     Removed,
     /// An object is of another sort: the old and the new one.
     Kind(Sort, Sort),
-    /// A constant is typed in one world alone, of another untyped kind, or has another value: the old and the new constant.
-    Constant(Entity, Entity),
+    /// A constant is typed in one world alone, of another untyped kind, or has another value: the path of
+    /// its package, the old and the new constant.
+    Constant(Text, Entity, Entity),
     /// The old and the new type of a pair don't match.
     Type(Term, Term),
     /// What is underneath the types of a pair doesn't match: what is, in the old and in the new one.
@@ -59,7 +60,7 @@ impl Drop for Lost {
             Lost::Name(_) => {}
             Lost::Removed => {}
             Lost::Kind(_, _) => {}
-            Lost::Constant(_, _) => {}
+            Lost::Constant(_, _, _) => {}
             Lost::Type(_, _) => {}
             Lost::Underlying(_, _) => {}
             Lost::Field(_) => {}
@@ -84,7 +85,11 @@ impl Lost {
             Lost::Name(name) => Ok(Lost::Name(Text::of(alloc, name.bytes())?)),
             Lost::Removed => Ok(Lost::Removed),
             Lost::Kind(old, new) => Ok(Lost::Kind(*old, *new)),
-            Lost::Constant(old, new) => Ok(Lost::Constant(old.copy(alloc)?, new.copy(alloc)?)),
+            Lost::Constant(path, old, new) => Ok(Lost::Constant(
+                Text::of(alloc, path.bytes())?,
+                old.copy(alloc)?,
+                new.copy(alloc)?,
+            )),
             Lost::Type(old, new) => Ok(Lost::Type(old.copy(alloc)?, new.copy(alloc)?)),
             Lost::Underlying(old, new) => Ok(Lost::Underlying(old.copy(alloc)?, new.copy(alloc)?)),
             Lost::Field(name) => Ok(Lost::Field(Text::of(alloc, name.bytes())?)),

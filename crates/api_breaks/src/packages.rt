@@ -64,9 +64,10 @@ fn push_constant(
     if keeps_constant(&before.entity, &after.entity) {
         return Ok(());
     }
+    let of = Text::of(alloc, path.bytes())?;
     let old = before.entity.copy(alloc)?;
     let new = after.entity.copy(alloc)?;
-    push_of(alloc, path, before, Lost::Constant(old, new), breaks)?;
+    push_of(alloc, path, before, Lost::Constant(of, old, new), breaks)?;
     Ok(())
 }
 

@@ -1,7 +1,7 @@
--- What a run reads for a request, and why it is refused before a platform is taken: the module's tree, the standard library's, the files of
--- frozen lines in the order given, and the exceptions, in this order.
+-- What a run reads for a request, and why it is refused before a platform is taken: the module's old tree and its new one, the standard
+-- library's, the files of frozen lines in the order given, and the exceptions, in this order.
 -- Own: this project's inputs.
-use Rattle.std.specs.Prelude.{ℕ, Option, Some, None, List, [], ◌∷◌, Result, Ok, Err}
+use Rattle.std.specs.Prelude.{◌≡◌, ℕ, Option, Some, None, List, [], ◌∷◌, Result, Ok, Err}
 use Rattle.api_inputs.specs.FrozenInputs.{AreLines, IsFirstFault}
 use Rattle.api_inputs.specs.Reads.{MayHaveStd, MayLoad}
 use Rattle.api_inputs.specs.declared.inputs.InputError.{InputError}
@@ -22,9 +22,20 @@ abbrev pub optional : Option (List ℕ) → List (List ℕ)
 optional None = []
 optional (Some text) = text ∷ []
 
+-- where no folder is given, there is no old tree
+abbrev pub MayHaveOld : Option Contents → Option (List ℕ) → Option Tree → Type 0
+MayHaveOld told None tree = tree ≡ None
+MayHaveOld told (Some root) tree = (t : Tree) × MayLoad told root (Ok t) × (tree ≡ Some t)
+
+-- the load of the old tree may answer this error
+abbrev pub MayRefuseOld : Option Contents → Option (List ℕ) → LoadError → Type 0
+MayRefuseOld told None e = ⊥
+MayRefuseOld told (Some root) e = MayLoad told root (Err e)
+
 module _ (told : Option Contents) (r : Request) where
   -- the trees and lines for which the request asks
   pub record AreInputs (i : Inputs) : Type 0 where
+    pub old_tree : MayHaveOld told r.old i.old_tree
     pub tree : MayLoad told r.new (Ok i.tree)
     pub std_tree : MayHaveStd told r.std (Ok i.std_tree)
     pub required : AreLines told r.api i.required
@@ -32,10 +43,11 @@ module _ (told : Option Contents) (r : Request) where
 
   -- the fault line of the first of them that is refused
   pub data IsInputRefusal : List ℕ → Type 0 where
-    tree_refused : (e : LoadError) → MayLoad told r.new (Err e) → (IsFree (Err e) → ⊥) → IsInputRefusal (load_line side.New e)
-    std_refused : (t : Tree) (e : LoadError) → MayLoad told r.new (Ok t) → MayHaveStd told r.std (Err e) → (IsFree (Err e) → ⊥) → IsInputRefusal (load_line side.Std e)
-    api_refused : (t s : Tree) (path : List ℕ) (f : FrozenFault) → MayLoad told r.new (Ok t) → MayHaveStd told r.std (Ok s) → IsFirstFault told r.api path f → IsInputRefusal (frozen_line path f)
-    except_refused : (t s : Tree) (lines : List (List ℕ)) (path : List ℕ) (f : FrozenFault) → MayLoad told r.new (Ok t) → MayHaveStd told r.std (Ok s) → AreLines told r.api lines
+    old_refused : (e : LoadError) → MayRefuseOld told r.old e → (IsFree (Err e) → ⊥) → IsInputRefusal (load_line side.Old e)
+    tree_refused : (o : Option Tree) (e : LoadError) → MayHaveOld told r.old o → MayLoad told r.new (Err e) → (IsFree (Err e) → ⊥) → IsInputRefusal (load_line side.New e)
+    std_refused : (o : Option Tree) (t : Tree) (e : LoadError) → MayHaveOld told r.old o → MayLoad told r.new (Ok t) → MayHaveStd told r.std (Err e) → (IsFree (Err e) → ⊥) → IsInputRefusal (load_line side.Std e)
+    api_refused : (o : Option Tree) (t s : Tree) (path : List ℕ) (f : FrozenFault) → MayHaveOld told r.old o → MayLoad told r.new (Ok t) → MayHaveStd told r.std (Ok s) → IsFirstFault told r.api path f → IsInputRefusal (frozen_line path f)
+    except_refused : (o : Option Tree) (t s : Tree) (lines : List (List ℕ)) (path : List ℕ) (f : FrozenFault) → MayHaveOld told r.old o → MayLoad told r.new (Ok t) → MayHaveStd told r.std (Ok s) → AreLines told r.api lines
         → IsFirstFault told (optional r.except) path f → IsInputRefusal (frozen_line path f)
 
 -- the inputs, or the fault line of the first that is refused; the store failed where the count of its faults rose; want of memory may come at

@@ -17,6 +17,8 @@ use std::alloc::Global;
 /// What a run reads.
 #[derive(Debug, Drop)]
 pub struct Inputs {
+    /// The old tree of the module, where a folder is given.
+    pub old_tree: Option<Tree>,
     /// The tree of the module.
     pub tree: Tree,
     /// The tree of the standard library, without files where no folder is given.

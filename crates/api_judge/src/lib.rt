@@ -1,5 +1,5 @@
-//! How much a release changes, and the version that may follow.
+//! Whether code that compiled against an old world can stop compiling against a new one, and how much that changes.
 #![tactic(auto)]
 
-pub mod advice;
-pub mod class;
+pub mod judge;
+pub mod verdict;

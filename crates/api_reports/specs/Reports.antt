@@ -1,10 +1,20 @@
--- The texts of reports: feature lines, and signed lines.
--- Public source: the lines that Go's cmd/api writes to its files api/go1.txt and later, and the signs with which it prints what differs from them.
-use Rattle.std.specs.Prelude.{ℕ, Bool, true, false, List, [], ◌∷◌, ◌++◌, map}
+-- The texts of reports: feature lines, signed lines, verdicts, classes, versions, and what the generator's trees have.
+-- Public source: the lines that Go's cmd/api writes to its files api/go1.txt and later, and the signs with which it prints what differs from them. Own: all other lines.
+use Rattle.std.specs.Prelude.{ℕ, ◌+◌, Bool, true, false, List, [], ◌∷◌, ◌++◌, length, map, codes}
+use Rattle.std.specs.Fmt.{decimal}
 use Rattle.std.specs.List.{list_any}
+use Rattle.go_model.specs.declared.files.platform.Platform.{Platform}
+use Rattle.go_model.specs.files.Platforms.{name_of}
+use Rattle.api_advice.specs.declared.class.Class.{Class}
+use Rattle.api_advice.specs.declared.class.Class.TheVariants as class
+use Rattle.api_advice.specs.declared.release.Release.{Release}
 use Rattle.api_frozen.specs.declared.signed.Signed.{Signed}
+use Rattle.api_judge.specs.Verdicts.{class_of, has_break}
+use Rattle.api_judge.specs.declared.verdict.Verdict.{Verdict}
 use Rattle.api_lines.specs.Lines.{printed}
 use Rattle.api_lines.specs.declared.line.Line.{Line}
+use Rattle.api_subjects.specs.Told.{printed as break_text}
+use Rattle.api_subjects.specs.declared.broken.Broken.{Broken}
 
 -- the lines, each ended by a newline
 abbrev pub unlines : List (List ℕ) → List ℕ
@@ -31,3 +41,61 @@ is_lost s = s.lost
 -- a line is lost
 abbrev pub has_loss : List Signed → Bool
 has_loss lines = list_any is_lost lines
+
+-- ---- verdicts
+
+abbrev pub verdict_word : Bool → List ℕ
+verdict_word true = codes "incompatible"
+verdict_word false = codes "compatible"
+
+abbrev pub break_line : Platform → Broken → List ℕ
+break_line p b = codes "break " ++ name_of p ++ codes " " ++ break_text b
+
+-- a platform's verdict, and what is broken there
+abbrev pub platform_lines : Platform → Verdict → List (List ℕ)
+platform_lines p v = (codes "judge " ++ name_of p ++ codes ": " ++ verdict_word (has_break v)) ∷ map (break_line p) v.breaks
+
+-- those of all platforms
+abbrev pub verdict_lines : List Platform → List Verdict → List (List ℕ)
+verdict_lines [] vs = []
+verdict_lines (p ∷ ps) [] = []
+verdict_lines (p ∷ ps) (v ∷ vs) = platform_lines p v ++ verdict_lines ps vs
+
+abbrev pub class_name : Class → List ℕ
+class_name class.Major = codes "major"
+class_name class.Minor = codes "minor"
+class_name class.Patch = codes "patch"
+
+abbrev pub class_line : Class → List ℕ
+class_line c = codes "class " ++ class_name c
+
+abbrev pub judge_text : List Platform → List Verdict → List ℕ
+judge_text ps vs = unlines (verdict_lines ps vs) ++ unlines (class_line (class_of vs) ∷ [])
+
+abbrev pub class_text : Class → List ℕ
+class_text c = unlines (class_line c ∷ [])
+
+-- ---- versions
+
+-- the `v` in front of a version, where it is written so
+abbrev pub v_of : List ℕ → List ℕ
+v_of (118 ∷ bytes) = codes "v"
+v_of bytes = []
+
+abbrev pub release_text : Release → List ℕ
+release_text r = decimal r.major ++ codes "." ++ decimal r.minor ++ codes "." ++ decimal r.patch
+
+-- the version that is advised, written as the last one was
+abbrev pub version_text : List ℕ → Release → List ℕ
+version_text last r = unlines ((codes "version " ++ v_of last ++ release_text r) ∷ [])
+
+-- ---- the generator's trees
+
+-- how much is broken on all platforms
+abbrev pub count_breaks : List Verdict → ℕ
+count_breaks [] = 0
+count_breaks (v ∷ vs) = length v.breaks + count_breaks vs
+
+-- the numbers of packages, of feature lines and of what is broken
+abbrev pub made_text : ℕ → ℕ → ℕ → List ℕ
+made_text packages lines breaks = unlines ((codes "packages " ++ decimal packages) ∷ (codes "lines " ++ decimal lines) ∷ (codes "breaks " ++ decimal breaks) ∷ [])

@@ -1,4 +1,4 @@
--- The fault lines of what isn't read: trees, and files of frozen lines.
+-- The fault lines of what isn't read, trees and files of frozen lines, and of versions that no other can follow.
 -- Own: this project's reports and exit statuses.
 use Rattle.std.specs.Prelude.{ℕ, List, ◌++◌, codes}
 use Rattle.std.specs.Fmt.{decimal}
@@ -17,6 +17,7 @@ fault_line subject what = codes "apigate: " ++ subject ++ codes ": " ++ what ++ 
 
 -- how fault lines name a tree of the run
 abbrev pub side_name : Side → List ℕ
+side_name side.Old = codes "old"
 side_name side.New = codes "new"
 side_name side.Std = codes "std"
 
@@ -46,3 +47,11 @@ frozen_line path frozen.Missing = fault_line path (codes "not found")
 frozen_line path frozen.TooLarge = fault_line path (codes "limit file-bytes")
 frozen_line path (frozen.NotUtf8 offset) = fault_line path (codes "not UTF-8 at " ++ decimal offset)
 frozen_line path (frozen.NotALine number) = fault_line (path ++ codes ":" ++ decimal number) (codes "not a feature line")
+
+-- the version, as it is written, has a pre-release or build metadata
+abbrev pub not_release_line : List ℕ → List ℕ
+not_release_line version = codes "apigate: version " ++ version ++ codes " is not a release\n"
+
+-- the number to raise in the version, as it is written, is the last one
+abbrev pub no_version_line : List ℕ → List ℕ
+no_version_line version = codes "apigate: no version follows " ++ version ++ codes "\n"

@@ -13,6 +13,8 @@ use std::alloc::Global;
 /// A tree of a run, as fault lines name it.
 #[derive(Clone, Copy, Debug, PartialEq, Eq)]
 pub enum Side {
+    /// The old tree of the module, and what is built of it.
+    Old,
     /// The tree of the module, and what is built of it.
     New,
     /// The tree of the standard library.
@@ -25,6 +27,7 @@ impl Side {
         ensures { result.now ≡ side_name self }
     {
         match self {
+            Side::Old => b"old",
             Side::New => b"new",
             Side::Std => b"std",
         }

@@ -10,15 +10,23 @@ use Rattle.api_words.specs.declared.option_name.OptionName.TheVariants as option
 abbrev pub word_of : Mode → List ℕ
 word_of mode.Features = codes "features"
 word_of mode.Frozen = codes "frozen"
+word_of mode.Judge = codes "judge"
+word_of mode.Advise = codes "advise"
+word_of mode.Gate = codes "gate"
+word_of mode.Make = codes "make"
 
 -- how an option is written
 abbrev pub spelling : OptionName → List ℕ
+spelling option.Old = codes "--old"
 spelling option.New = codes "--new"
 spelling option.Std = codes "--std"
 spelling option.Platforms = codes "--platforms"
 spelling option.Workers = codes "--workers"
 spelling option.Api = codes "--api"
 spelling option.Except = codes "--except"
+spelling option.Version = codes "--version"
+spelling option.Seed = codes "--seed"
+spelling option.Size = codes "--size"
 
 -- the options that may be given in every mode that reads a tree
 abbrev pub common : List OptionName
@@ -28,8 +36,16 @@ common = option.Std ∷ option.Platforms ∷ option.Workers ∷ []
 abbrev pub needs : Mode → List OptionName
 needs mode.Features = option.New ∷ []
 needs mode.Frozen = option.New ∷ option.Api ∷ []
+needs mode.Judge = option.Old ∷ option.New ∷ []
+needs mode.Advise = option.Old ∷ option.New ∷ option.Version ∷ []
+needs mode.Gate = option.Old ∷ option.New ∷ option.Api ∷ option.Version ∷ []
+needs mode.Make = option.Seed ∷ option.Size ∷ []
 
 -- the options that may be given in it besides
 abbrev pub permits : Mode → List OptionName
 permits mode.Features = common
 permits mode.Frozen = option.Except ∷ common
+permits mode.Judge = common
+permits mode.Advise = common
+permits mode.Gate = option.Except ∷ common
+permits mode.Make = option.Workers ∷ []

@@ -1,16 +1,21 @@
 -- Which words are good, and what they ask for. The words are those after the program's name.
 -- Own: this project's command line.
-use Rattle.std.specs.Prelude.{◌≡◌, ◌≢◌, ◌≤◌, ◌⊎◌, ℕ, Bool, nat_eq, Option, Some, None, List, [], ◌∷◌, length, map}
+use Rattle.std.specs.Prelude.{◌≡◌, ◌≢◌, ◌≤◌, ◌<◌, ◌^◌, ◌⊎◌, ℕ, Bool, nat_eq, Option, Some, None, List, [], ◌∷◌, length, map, codes, Ok}
 use Rattle.std.specs.Fmt.{decimal}
 use Rattle.std.specs.List.{slice_split}
 use Rattle.go_base.specs.Lists.{Each, Has, Once}
 use Rattle.go_model.specs.declared.files.platform.Platform.{Platform}
 use Rattle.go_model.specs.declared.files.platform.Platform.TheVariants as platform
 use Rattle.go_model.specs.files.Platforms.{name_of}
+use Rattle.semver.specs.Parse.{Parts, version_parts}
+use Rattle.api_advice.specs.declared.release.Release.{Release}
 use Rattle.api_words.specs.Options.{needs, permits, spelling, word_of}
 use Rattle.api_words.specs.declared.option_name.Mode.{Mode}
+use Rattle.api_words.specs.declared.option_name.Mode.TheVariants as mode
 use Rattle.api_words.specs.declared.option_name.OptionName.{OptionName}
 use Rattle.api_words.specs.declared.option_name.OptionName.TheVariants as option
+use Rattle.api_words.specs.declared.request.AskedVersion.{AskedVersion}
+use Rattle.api_words.specs.declared.request.MadeTrees.{MadeTrees}
 use Rattle.api_words.specs.declared.request.Request.{Request}
 use Rattle.api_words.specs.declared.settings.Setting.{Setting}
 
@@ -67,6 +72,50 @@ abbrev pub AreFileNames : Option (List ℕ) → List (List ℕ) → Type 0
 AreFileNames None names = names ≡ []
 AreFileNames (Some value) names = (slice_split is_comma value ≡ names) × Each (λ name. name ≢ []) names × (length names ≤ 64)
 
+-- the folder of the new tree: the one that is given, and else where the generator puts its own
+abbrev pub IsNewFolder : Option (List ℕ) → List ℕ → Type 0
+IsNewFolder None folder = folder ≡ codes "new"
+IsNewFolder (Some value) folder = folder ≡ value
+
+-- the folder of the old tree, where one is given or the generator makes one
+abbrev pub IsOldFolder : Mode → Option (List ℕ) → Option (List ℕ) → Type 0
+IsOldFolder mode.Make given folder = folder ≡ Some (codes "old")
+IsOldFolder mode given folder = folder ≡ given
+
+-- a text without one `v` in front
+abbrev pub without_v : List ℕ → List ℕ
+without_v (118 ∷ bytes) = bytes
+without_v bytes = bytes
+
+-- the numbers of a version that has neither a pre-release nor build metadata
+abbrev pub release_of : Parts → Option Release
+release_of (major, minor, patch, [], []) = Some (record { major = major; minor = minor; patch = patch })
+release_of parts = None
+
+-- a version of SemVer 2.0.0, with or without one `v` in front, whose numbers are below 2^64
+pub record IsAskedVersion (value : List ℕ) (v : AskedVersion) : Type 0 where
+  pub word : v.word ≡ value
+  pub parts : Parts
+  pub parsed : version_parts (without_v value) ≡ Ok parts
+  pub release : v.release ≡ release_of parts
+
+abbrev pub IsVersion : Option (List ℕ) → Option AskedVersion → Type 0
+IsVersion None version = version ≡ None
+IsVersion (Some value) version = (v : AskedVersion) × IsAskedVersion value v × (version ≡ Some v)
+
+-- decimal numbers without sign or leading zero: one below 2^64, and one from 1 to 2,000
+pub record AreMade (seed size : List ℕ) (m : MadeTrees) : Type 0 where
+  pub seed_is : seed ≡ decimal m.seed
+  pub size_is : size ≡ decimal m.size
+  pub held : m.seed < 2 ^ 64
+  pub some : 1 ≤ m.size
+  pub few : m.size ≤ 2000
+
+-- what the generator is to make, where it is
+abbrev pub IsMade : Option (List ℕ) → Option (List ℕ) → Option MadeTrees → Type 0
+IsMade (Some seed) (Some size) made = (m : MadeTrees) × AreMade seed size m × (made ≡ Some m)
+IsMade seed size made = made ≡ None
+
 -- what an option is given means this
 abbrev pub Means : {A : Type 0} → List Setting → OptionName → (Option (List ℕ) → A → Type 0) → A → Type 0
 Means settings name Meaning x = (given : Option (List ℕ)) × IsGiven settings name given × Meaning given x
@@ -76,12 +125,19 @@ Means settings name Meaning x = (given : Option (List ℕ)) × IsGiven settings 
 -- the settings are of the mode, and ask for this
 pub record AsksFor (settings : List Setting) (r : Request) : Type 0 where
   pub of_mode : AreOfMode r.mode settings
-  pub new : IsGiven settings option.New (Some r.new)
+  pub old : Means settings option.Old (IsOldFolder r.mode) r.old
+  pub new : Means settings option.New IsNewFolder r.new
   pub std : IsGiven settings option.Std r.std
   pub platforms : Means settings option.Platforms ArePlatforms r.platforms
   pub workers : Means settings option.Workers IsWorkers r.workers
   pub api : Means settings option.Api AreFileNames r.api
   pub except : IsGiven settings option.Except r.except
+  pub version : Means settings option.Version IsVersion r.version
+  pub seed : Option (List ℕ)
+  pub size : Option (List ℕ)
+  pub seed_given : IsGiven settings option.Seed seed
+  pub size_given : IsGiven settings option.Size size
+  pub made : IsMade seed size r.made
 
 -- a mode, and then options and values in any order
 pub record IsRequest (words : List (List ℕ)) (r : Request) : Type 0 where

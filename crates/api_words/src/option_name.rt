@@ -12,17 +12,29 @@ pub enum Mode {
     Features,
     /// What a module lost and gained against frozen lines.
     Frozen,
+    /// Whether code that compiled against the old tree can stop compiling against the new one.
+    Judge,
+    /// The least version that the new tree may be given.
+    Advise,
+    /// What is lost against frozen lines, what is broken, and the least version.
+    Gate,
+    /// What the judge finds on trees that the generator makes.
+    Make,
 }
 
 /// An option of some mode.
 #[derive(Clone, Copy, Debug, PartialEq, Eq)]
 pub enum OptionName {
+    Old,
     New,
     Std,
     Platforms,
     Workers,
     Api,
     Except,
+    Version,
+    Seed,
+    Size,
 }
 
 impl Mode {

@@ -1,7 +1,7 @@
 //! A question, and its answer.
 use crate::refusal::Refusal;
 use crate::{frozen, units, words};
-use api_judge::advice::{AdviceError, advise};
+use api_advice::advice::{AdviceError, advise};
 use go_rules::operators::operator_allows;
 use go_rules::predeclared::universe;
 use std::alloc::{AllocError, Global};

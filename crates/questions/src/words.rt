@@ -1,6 +1,6 @@
 //! The parts of a question.
 use crate::refusal::Refusal;
-use api_judge::class::Class;
+use api_advice::class::Class;
 use api_lines::line::Line;
 use go_base::list::List;
 use go_base::text::Text;

@@ -24,7 +24,7 @@ abbrev pub IsOtherKind : List ℕ → Object → Object → Break → Type 0
 IsOtherKind path a c b = (KeepsKind a.entity c.entity → ⊥) × (broken (qualified path a.name) (lost.Kind (sort_of a.entity) (sort_of c.entity)) ≡ b)
 
 abbrev pub IsOtherConstant : List ℕ → Object → Object → Break → Type 0
-IsOtherConstant path a c b = (KeepsConstant a.entity c.entity → ⊥) × (broken (qualified path a.name) (lost.Constant a.entity c.entity) ≡ b)
+IsOtherConstant path a c b = (KeepsConstant a.entity c.entity → ⊥) × (broken (qualified path a.name) (lost.Constant path a.entity c.entity) ≡ b)
 
 -- an exported object that the new package doesn't have, or not as it was
 abbrev pub IsGone : List ℕ → Object → Option Object → Break → Type 0

@@ -1,20 +1,31 @@
 -- What the definitions give for the words and the files: what goes to the output, the fault line and the status.
 -- Own: this project's reports and exit statuses.
-use Rattle.std.specs.Prelude.{◌≡◌, ◌≤◌, ℕ, Bool, true, false, if◌then◌else◌, Option, List, [], ◌∷◌}
+use Rattle.std.specs.Prelude.{◌≡◌, ◌≤◌, ◌||◌, ℕ, Bool, true, false, if◌then◌else◌, Option, Some, None, List, [], ◌∷◌, ◌++◌, length}
+use Rattle.std.specs.List.{list_any}
+use Rattle.api_advice.specs.Advice.{IsNext}
+use Rattle.api_advice.specs.declared.class.Class.{Class}
+use Rattle.api_advice.specs.declared.release.Release.{Release}
+use Rattle.api_findings.specs.Checks.{CountsAtMost}
+use Rattle.api_findings.specs.Findings.{AreFindings, IsFirstRefusal}
 use Rattle.api_frozen.specs.Comparison.{IsReport}
 use Rattle.api_frozen.specs.declared.signed.Signed.{Signed}
+use Rattle.api_generator.specs.MadeTrees.{made_contents}
 use Rattle.api_inputs.specs.Inputs.{AreInputs, IsInputRefusal}
 use Rattle.api_inputs.specs.declared.inputs.Inputs.{Inputs}
+use Rattle.api_judge.specs.Verdicts.{class_of, has_break}
+use Rattle.api_judge.specs.declared.verdict.Verdict.{Verdict}
+use Rattle.api_lines.specs.Lines.{IsListing}
+use Rattle.api_lines.specs.Merging.{IsMerged}
 use Rattle.api_lines.specs.declared.line.Line.{Line}
-use Rattle.api_reports.specs.Reports.{features_text, has_loss, signed_text}
+use Rattle.api_reports.specs.Reports.{class_text, count_breaks, features_text, has_loss, judge_text, made_text, signed_text, version_text}
+use Rattle.api_texts.specs.FaultLines.{no_version_line, not_release_line}
 use Rattle.api_texts.specs.FixedLines.{words_line}
-use Rattle.api_texts.specs.declared.lines.Side.TheVariants as side
 use Rattle.api_words.specs.Words.{AreBad, IsRequest}
-use Rattle.api_words.specs.declared.option_name.Mode.{Mode}
 use Rattle.api_words.specs.declared.option_name.Mode.TheVariants as mode
+use Rattle.api_words.specs.declared.request.AskedVersion.{AskedVersion}
+use Rattle.api_words.specs.declared.request.MadeTrees.{MadeTrees}
 use Rattle.api_words.specs.declared.request.Request.{Request}
-use Rattle.api_worlds.specs.FeatureLists.{AreFeatures, IsFirstRefusal}
-use Rattle.api_worlds.specs.PlatformWorlds.{CountsAtMost}
+use Rattle.go_model.specs.declared.files.tree.Tree.{Tree}
 use Rattle.go_outside.specs.Stores.{Contents}
 use Rattle.api_gate.specs.declared.status.Status.{Status}
 use Rattle.api_gate.specs.declared.status.Status.TheVariants as status
@@ -25,7 +36,7 @@ pub record Outcome : Type 0 where
   pub fault_line : List ℕ
   pub status : Status
 
--- a report and no fault line; it says whether a line is lost
+-- a report and no fault line; it says whether a line is lost or something is broken
 abbrev pub reported : Bool → List ℕ → Outcome
 reported is_broken text = record { output = text; fault_line = []; status = if is_broken then status.Broken else status.Pass }
 
@@ -33,26 +44,82 @@ reported is_broken text = record { output = text; fault_line = []; status = if i
 abbrev pub fault_alone : Status → List ℕ → Outcome
 fault_alone status line = record { output = []; fault_line = line; status = status }
 
+-- ---- what a run reads
+
+-- the files of a run: those of the store, or the generator's own
+abbrev pub files_of : Option Contents → Option MadeTrees → Option Contents
+files_of told None = told
+files_of told (Some m) = Some (made_contents m.seed m.size)
+
 -- the module paths of a run, which packages of the standard library can't have
+abbrev pub module_of_old : Option Tree → List (List ℕ)
+module_of_old None = []
+module_of_old (Some tree) = tree.«module» ∷ []
+
 abbrev pub modules_of : Inputs → List (List ℕ)
-modules_of i = i.tree.«module» ∷ []
+modules_of i = i.tree.«module» ∷ module_of_old i.old_tree
 
--- the report of a mode on these features, and whether a line is lost: the features themselves, or what they lost and gained against the lines
--- that were read
-abbrev pub IsReportOn : Mode → Inputs → List Line → Bool → List ℕ → Type 0
-IsReportOn mode.Features i features is_broken text = (is_broken ≡ false) × (text ≡ features_text features)
-IsReportOn mode.Frozen i features is_broken text = (lines : List Signed) × IsReport features i.required i.exceptions lines × (is_broken ≡ has_loss lines) × (text ≡ signed_text lines)
+-- ---- reports
 
--- what the words end with, over a store that tells this: the first refusal in this order, or the report
-pub data EndsWith (words : List (List ℕ)) (told : Option Contents) : Outcome → Type 0 where
-  bad_words : AreBad words → EndsWith words told (fault_alone status.Words words_line)
-  refused_inputs : {line : List ℕ} (r : Request) → IsRequest words r → IsInputRefusal told r line → EndsWith words told (fault_alone status.Refused line)
-  refused_platform : {line : List ℕ} (r : Request) (i : Inputs) → IsRequest words r → AreInputs told r i → IsFirstRefusal (modules_of i) i.tree i.std_tree side.New r.platforms line
-      → EndsWith words told (fault_alone status.Refused line)
-  reported_features : {text : List ℕ} (is_broken : Bool) (r : Request) (i : Inputs) (features : List Line) → IsRequest words r → AreInputs told r i → AreFeatures (modules_of i) i.tree i.std_tree r.platforms features
-      → IsReportOn r.mode i features is_broken text → EndsWith words told (reported is_broken text)
+-- the features on all platforms, in one list
+abbrev pub AreMerged : Request → List (List Line) → List Line → Type 0
+AreMerged r lists merged = IsListing (IsMerged lists r.platforms) merged
 
--- a counter of checks rises by at most the packages of the request's platforms together, or stays
-pub data ChecksAtMost (words : List (List ℕ)) (told : Option Contents) (before now : ℕ) : Type 0 where
-  no_check : now ≤ before → ChecksAtMost words told before now
-  checked : (r : Request) (i : Inputs) → IsRequest words r → AreInputs told r i → CountsAtMost (modules_of i) i.tree i.std_tree r.platforms before now → ChecksAtMost words told before now
+-- what the module lost and gained against the lines that were read, and whether it lost some
+abbrev pub IsSignedReport : Request → Inputs → List (List Line) → Bool → List ℕ → Type 0
+IsSignedReport r i lists is_broken text = (features : List Line) × (lines : List Signed) × AreMerged r lists features × IsReport features i.required i.exceptions lines
+    × (is_broken ≡ has_loss lines) × (text ≡ signed_text lines)
+
+-- the advice after a release of some version: the version that follows
+abbrev pub IsAdvice : Option AskedVersion → Class → List ℕ → Type 0
+IsAdvice None c text = text ≡ []
+IsAdvice (Some v) c text = (last next : Release) × (v.release ≡ Some last) × IsNext last c (Some next) × (text ≡ version_text v.word next)
+
+-- that version isn't a release, or none can follow it
+pub data IsAdviceRefusal (v : AskedVersion) (c : Class) : List ℕ → Type 0 where
+  no_release : v.release ≡ None → IsAdviceRefusal v c (not_release_line v.word)
+  no_version : (last : Release) → v.release ≡ Some last → IsNext last c None → IsAdviceRefusal v c (no_version_line v.word)
+
+-- what the generator's trees have
+abbrev pub IsMadeText : Option MadeTrees → List Line → List Verdict → List ℕ → Type 0
+IsMadeText None features vs text = text ≡ []
+IsMadeText (Some m) features vs text = text ≡ made_text m.size (length features) (count_breaks vs)
+
+-- the report of a request on its inputs and on what is found there, and whether a line is lost or something is broken
+pub data IsReportOn (r : Request) (i : Inputs) (lists : List (List Line)) (vs : List Verdict) : Bool → List ℕ → Type 0 where
+  features_report : (features : List Line) → r.mode ≡ mode.Features → AreMerged r lists features → IsReportOn r i lists vs false (features_text features)
+  frozen_report : {is_broken : Bool} {text : List ℕ} → r.mode ≡ mode.Frozen → IsSignedReport r i lists is_broken text → IsReportOn r i lists vs is_broken text
+  judge_report : r.mode ≡ mode.Judge → IsReportOn r i lists vs (list_any has_break vs) (judge_text r.platforms vs)
+  advise_report : {advice : List ℕ} → r.mode ≡ mode.Advise → IsAdvice r.version (class_of vs) advice → IsReportOn r i lists vs false (class_text (class_of vs) ++ advice)
+  gate_report : {is_broken : Bool} {text advice : List ℕ} → r.mode ≡ mode.Gate → IsSignedReport r i lists is_broken text → IsAdvice r.version (class_of vs) advice
+      → IsReportOn r i lists vs (is_broken || list_any has_break vs) (text ++ judge_text r.platforms vs ++ advice)
+  make_report : {text : List ℕ} (features : List Line) → r.mode ≡ mode.Make → AreMerged r lists features → IsMadeText r.made features vs text
+      → IsReportOn r i lists vs false (text ++ class_text (class_of vs))
+
+-- ---- outcomes
+
+module _ (words : List (List ℕ)) (told : Option Contents) where
+  -- the words make this request, and these are its inputs
+  pub record Asks (r : Request) (i : Inputs) : Type 0 where
+    pub request : IsRequest words r
+    pub inputs : AreInputs (files_of told r.made) r i
+
+  -- and this is found there
+  abbrev pub FindsFor : Request → Inputs → List (List Line) → List Verdict → Type 0
+  FindsFor r i lists vs = AreFindings (modules_of i) i.old_tree i.tree i.std_tree r.platforms lists vs
+
+  -- what the words end with, over a store that tells this: the first refusal in this order, or the report
+  pub data EndsWith : Outcome → Type 0 where
+    bad_words : AreBad words → EndsWith (fault_alone status.Words words_line)
+    refused_inputs : {line : List ℕ} (r : Request) → IsRequest words r → IsInputRefusal (files_of told r.made) r line → EndsWith (fault_alone status.Refused line)
+    refused_platform : {line : List ℕ} (r : Request) (i : Inputs) → Asks r i → IsFirstRefusal (modules_of i) i.old_tree i.tree i.std_tree r.platforms line
+        → EndsWith (fault_alone status.Refused line)
+    refused_advice : {line : List ℕ} (r : Request) (i : Inputs) (v : AskedVersion) (lists : List (List Line)) (vs : List Verdict) → Asks r i → FindsFor r i lists vs
+        → r.version ≡ Some v → IsAdviceRefusal v (class_of vs) line → EndsWith (fault_alone status.Refused line)
+    reported_findings : {text : List ℕ} (is_broken : Bool) (r : Request) (i : Inputs) (lists : List (List Line)) (vs : List Verdict) → Asks r i → FindsFor r i lists vs
+        → IsReportOn r i lists vs is_broken text → EndsWith (reported is_broken text)
+
+  -- a counter of checks rises by at most the packages of both trees on the request's platforms together, or stays
+  pub data ChecksAtMost (before now : ℕ) : Type 0 where
+    no_check : now ≤ before → ChecksAtMost before now
+    checked : (r : Request) (i : Inputs) → Asks r i → CountsAtMost (modules_of i) i.old_tree i.tree i.std_tree r.platforms before now → ChecksAtMost before now

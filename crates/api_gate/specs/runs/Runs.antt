@@ -1,6 +1,6 @@
 -- What a run writes, how it is delivered to the two sinks, and with which status the run ends.
 -- Own: this project's reports and exit statuses.
-use Rattle.std.specs.Prelude.{◌≡◌, ◌<◌, ◌⊎◌, ℕ, Some, List, length}
+use Rattle.std.specs.Prelude.{◌≡◌, ◌<◌, ◌⊎◌, ℕ, Some, None, List, length}
 use Rattle.go_outside.specs.Faults.{Told}
 use Rattle.go_outside.specs.Stores.{Contents}
 use Rattle.api_gate.specs.declared.status.Status.{Status}
@@ -11,11 +11,11 @@ use Rattle.api_words.specs.declared.request.Request.{Request}
 use Rattle.api_gate.specs.runs.Effects.{AnyFailed, Change, Effects, Failed, Took, TookSome}
 use Rattle.api_gate.specs.runs.Outcomes.{EndsWith, Outcome, fault_alone}
 
--- what a run may write: what the definitions give for the words over the store; for good words that the store failed, where it did; and at any
--- time that no memory was left
+-- what a run may write: what the definitions give for the words over the store; for good words that the store failed, where it did, but
+-- where the trees are made; and at any time that no memory was left
 pub data MayWrite (words : List (List ℕ)) (store : Change Contents) : Outcome → Type 0 where
   defined : {o : Outcome} → EndsWith words store.told_before o → MayWrite words store o
-  store_failed : (r : Request) → IsRequest words r → Failed store → MayWrite words store (fault_alone status.ReadFault read_line)
+  store_failed : (r : Request) → IsRequest words r → r.made ≡ None → Failed store → MayWrite words store (fault_alone status.ReadFault read_line)
   no_memory : MayWrite words store (fault_alone status.NoMemory memory_line)
 
 -- both texts were written whole

@@ -2,10 +2,10 @@
 -- Own: words of the contracts inside this crate.
 use Rattle.std.specs.Prelude.{◌≡◌, ◌<◌, ◌+◌, ℕ, Option, None, Some}
 use Rattle.semver.specs.declared.Version.{Version}
-use Rattle.api_judge.specs.declared.advice.Number.{Number}
-use Rattle.api_judge.specs.declared.advice.Number.TheVariants as number
-use Rattle.api_judge.specs.declared.advice.Release.{Release}
-use Rattle.api_judge.specs.Advice.{number_of, last_number}
+use Rattle.api_advice.specs.declared.advice.Number.{Number}
+use Rattle.api_advice.specs.declared.advice.Number.TheVariants as number
+use Rattle.api_advice.specs.declared.release.Release.{Release}
+use Rattle.api_advice.specs.Advice.{number_of, last_number}
 
 -- the number one greater, and zeros behind it
 abbrev pub with_raised : Number → Version → Release

@@ -1,10 +1,11 @@
 //! The next version.
 ghost use Rattle.std.specs.Prelude.{◌≡◌};
 ghost use Rattle.go_selectors.specs.Answers.{Decides};
-ghost use Rattle.api_judge.specs.Advice.{IsRelease, raised, Advises};
-ghost use Rattle.api_judge.specs.inner.Raising.{RaisesNumber};
+ghost use Rattle.api_advice.specs.Advice.{IsRelease, raised, Advises};
+ghost use Rattle.api_advice.specs.inner.Raising.{RaisesNumber};
 
 use crate::class::Class;
+use crate::release::Release;
 use semver::Version;
 use thiserror::Error;
 
@@ -14,14 +15,6 @@ pub enum Number {
     Major,
     Minor,
     Patch,
-}
-
-/// A version without pre-release and build metadata.
-#[derive(Clone, Copy, Debug, PartialEq, Eq)]
-pub struct Release {
-    pub major: u64,
-    pub minor: u64,
-    pub patch: u64,
 }
 
 /// Why no version is advised.

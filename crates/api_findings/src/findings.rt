@@ -1,0 +1,62 @@
+//! What a run finds in its trees on platforms.
+ghost use Rattle.std.specs.Prelude.{◌≡◌, ◌≢◌, IfOk, length};
+ghost use Rattle.std.specs.Option.{option_copied};
+ghost use Rattle.api_findings.specs.Findings.{AnswersFindings, IsOldTree};
+ghost use Rattle.api_findings.specs.Checks.{CountsAtMost};
+ghost use Rattle.api_lines.specs.Merging.{HasNoContext};
+ghost use Rattle.go_base.specs.Lists.{Each, Has};
+ghost use Rattle.go_model.specs.files.Trees.{IsTree};
+
+use api_judge::verdict::Verdict;
+use api_lines::line::Line;
+use api_worlds::error::PlatformError;
+use go_base::list::List;
+use go_base::steps::Steps;
+use go_base::text::Text;
+use go_model::files::platform::Platform;
+use go_model::files::tree::Tree;
+use go_outside::gate::Gate;
+use std::alloc::Global;
+
+/// What a run finds in its trees on platforms.
+pub struct Findings {
+    /// The features of the new tree on each platform, without contexts.
+    pub features: List<List<Line>>,
+    /// The verdict on each platform, where there is an old tree, and else none.
+    pub verdicts: List<Verdict>,
+}
+
+impl Drop for Findings {
+    fn drop(self) {
+        let Findings {
+            features: _,
+            verdicts: _,
+        } = self;
+    }
+}
+
+/// What is found on these platforms in the new tree over the standard library's and, where there is an old tree, in both. Else the
+/// fault line of the first platform on which a tree is refused, the old one before the new. The barred paths are those of the run's
+/// modules. The counter rises by at most the number of the packages of both trees on all platforms together.
+pub fn findings<G: Gate, L: Copy + Send>(
+    alloc: Global,
+    old_tree: Option<&Tree>,
+    tree: &Tree,
+    std_tree: &Tree,
+    barred: &[Text],
+    platforms: &[Platform],
+    gate: &G,
+    steps: &mut Steps<L>,
+) -> Result<Findings, PlatformError>
+    requires old { IsOldTree barred.now (option_copied old_tree.entry) }
+    requires tree { IsTree tree.now }
+    requires std { IsTree std_tree.now }
+    requires named { tree.now.module ≢ [] }
+    requires barred { Has barred.now tree.now.module }
+    ensures answer { AnswersFindings barred.now (option_copied old_tree.entry) tree.now std_tree.now platforms.now result }
+    ensures many { IfOk result (λ found. length found.features ≡ length platforms.now) }
+    ensures plain { IfOk result (λ found. Each (Each HasNoContext) found.features) }
+    ensures steps { CountsAtMost barred.now (option_copied old_tree.entry) tree.now std_tree.now platforms.now steps.old steps.new }
+{
+    Err(PlatformError::NoMemory)
+}

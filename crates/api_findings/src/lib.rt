@@ -1,0 +1,6 @@
+//! What a run finds in its trees, platform by platform: the features of the new one, and what the judge says of the old and the new one.
+#![tactic(auto)]
+
+pub mod findings;
+pub mod laws;
+pub mod merging;

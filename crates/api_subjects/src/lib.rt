@@ -1,0 +1,6 @@
+//! What is broken, as reports tell it: the rule that isn't kept, and its subject.
+#![tactic(auto)]
+
+pub mod broken;
+pub mod rule;
+pub mod told;
