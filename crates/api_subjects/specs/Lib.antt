@@ -1,3 +1,5 @@
 pub mod Rules
 pub mod Subjects
 pub mod Told
+pub mod TypeTexts
+pub mod inner

@@ -3,4 +3,6 @@
 
 pub mod broken;
 pub mod rule;
+mod subjects;
 pub mod told;
+mod types;
