@@ -1,7 +1,7 @@
 //! The next version.
 ghost use Rattle.std.specs.Prelude.{◌≡◌};
 ghost use Rattle.go_selectors.specs.Answers.{Decides};
-ghost use Rattle.api_advice.specs.Advice.{IsRelease, raised, Advises};
+ghost use Rattle.api_advice.specs.Advice.{IsNext, IsRelease, raised, Advises};
 ghost use Rattle.api_advice.specs.inner.Raising.{RaisesNumber};
 
 use crate::class::Class;
@@ -53,13 +53,13 @@ pub fn raised_number(major: u64, class: Class) -> Number
     }
 }
 
-// The version with this number one greater, and zeros behind it.
-fn raise(version: &Version, number: Number) -> Option<Release>
-    ensures { RaisesNumber version.now number result }
+// The release with this number one greater, and zeros behind it.
+fn raise(release: Release, number: Number) -> Option<Release>
+    ensures { RaisesNumber release number result }
 {
     match number {
         Number::Major => {
-            let major = version.major.checked_add(1)?;
+            let major = release.major.checked_add(1)?;
             Some(Release {
                 major,
                 minor: 0,
@@ -67,34 +67,47 @@ fn raise(version: &Version, number: Number) -> Option<Release>
             })
         }
         Number::Minor => {
-            let minor = version.minor.checked_add(1)?;
+            let minor = release.minor.checked_add(1)?;
             Some(Release {
-                major: version.major,
+                major: release.major,
                 minor,
                 patch: 0,
             })
         }
         Number::Patch => {
-            let patch = version.patch.checked_add(1)?;
+            let patch = release.patch.checked_add(1)?;
             Some(Release {
-                major: version.major,
-                minor: version.minor,
+                major: release.major,
+                minor: release.minor,
                 patch,
             })
         }
     }
 }
 
-/// The least release that may follow a version after a change of this class: one with a greater number where
-/// [`raised_number`] says, and the same numbers before it.
+/// The least release that may follow a release after a change of this class: one with a greater number where
+/// [`raised_number`] says, and the same numbers before it. `None` exactly where the number to raise is
+/// 18446744073709551615.
+pub fn next(release: Release, class: Class) -> Option<Release>
+    ensures { IsNext release class result }
+{
+    raise(release, raised_number(release.major, class))
+}
+
+/// The release [`next`] to a version after a change of this class.
 pub fn advise(version: &Version, class: Class) -> Result<Release, AdviceError>
     ensures { Advises version.now class result }
 {
     if !is_release(version) {
         return Err(AdviceError::NotRelease);
     }
-    match raise(version, raised_number(version.major, class)) {
-        Some(release) => Ok(release),
+    let release = Release {
+        major: version.major,
+        minor: version.minor,
+        patch: version.patch,
+    };
+    match next(release, class) {
+        Some(following) => Ok(following),
         None => Err(AdviceError::NoVersion),
     }
 }

@@ -3,4 +3,5 @@
 
 pub mod advice;
 pub mod class;
+pub mod laws;
 pub mod release;

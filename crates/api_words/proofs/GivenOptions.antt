@@ -2,10 +2,15 @@
 use Rattle.std.proofs.Common.{◌≡◌, ℕ, ◌<◌, Bool, List, [], ◌∷◌, length, get_or, map, Option, Some, None, refl, sym, ap, ◌∙◌, subst, inl, inr, Decides, is_some}
 use denote.Ref.{Bor}
 use Rattle.std.specs.Option.{option_copied}
+use Rattle.std.specs.Prelude.{MatchOption}
 use Rattle.go_base.specs.Lists.{Has, Once}
-use Rattle.api_words.specs.Words.{IsGiven, Means, option_in}
+use Rattle.api_words.specs.Words.{AreSettings, AsksFor, IsGiven, IsMade, Means, option_in}
 use Rattle.api_words.specs.declared.option_name.OptionName.{OptionName}
+use Rattle.api_words.specs.declared.option_name.OptionName.TheVariants as option
+use Rattle.api_words.specs.declared.request.MadeTrees.{MadeTrees}
+use Rattle.api_words.specs.declared.request.Request.{Request}
 use Rattle.api_words.specs.declared.settings.Setting.{Setting}
+use Rattle.api_words.proofs.ReadSettings.{value_among}
 use Rattle.api_words.proofs.Searches.{has_at, has_map, map_has, no, yes}
 
 abbrev pub setting : OptionName → List ℕ → Setting
@@ -47,3 +52,16 @@ means_nothing settings name Meaning given once g none x m = none x (subst (λ (o
 -- a value means one thing, where one of its form does
 pub one_meaning : {A : Type 0} (settings : List Setting) (name : OptionName) (Meaning : Option (List ℕ) → A → Type 0) → ((given : Option (List ℕ)) (x y : A) → Meaning given x → Meaning given y → x ≡ y) → Once (map option_in settings) → (x y : A) → Means settings name Meaning x → Means settings name Meaning y → x ≡ y
 one_meaning settings name Meaning one once x y m n = one n.0 x y (subst (λ (o : Option (List ℕ)). Meaning o x) (one_given settings name m.0 n.0 once m.1 n.1) m.2) n.2
+
+-- the word that is the value of an option
+pub given_word : (words : List (List ℕ)) (settings : List Setting) (name : OptionName) (value : List ℕ) (r : Option (Bor (List ℕ))) → AreSettings words settings → Has settings (setting name value)
+    → MatchOption r (Has words value → ⊥) (λ word. word.now ≡ value) → IsGiven settings name (option_copied r)
+given_word words settings name value None are h none = absurd (none (value_among words settings (setting name value) are h))
+given_word words settings name value (Some word) are h same = subst (λ (v : List ℕ). Has settings (setting name v)) (sym same) h
+
+-- trees that are asked for in no form
+pub made_nothing : (settings : List Setting) (seed size : Option (List ℕ)) → IsGiven settings option.Seed seed → IsGiven settings option.Size size → ((m : Option MadeTrees) → IsMade seed size m → ⊥) → (r : Request) → AsksFor settings r → ⊥
+made_nothing settings seed size g h none r a =
+    let one : a.seed ≡ seed = one_given settings option.Seed a.seed seed a.of_mode.once a.seed_given g in
+    let other : a.size ≡ size = one_given settings option.Size a.size size a.of_mode.once a.size_given h in
+    none r.made (subst (λ (z : Option (List ℕ)). IsMade seed z r.made) other (subst (λ (z : Option (List ℕ)). IsMade z a.size r.made) one a.made))

@@ -1,6 +1,8 @@
 pub mod GivenOptions
 pub mod ListRests
 pub mod Names
+pub mod NumberWords
 pub mod OneRequest
 pub mod ReadSettings
 pub mod Searches
+pub mod VersionWords

@@ -1,5 +1,6 @@
 -- Settings that are read from words.
-use Rattle.std.proofs.Common.{◌≡◌, ℕ, zero, suc, ◌+◌, ◌-◌, ◌<◌, List, [], ◌∷◌, ◌++◌, length, drop, get_or, map, refl, sym, ap, ◌∙◌, subst, append_assoc, arith}
+use Rattle.std.proofs.Common.{◌≡◌, ℕ, zero, suc, ◌+◌, ◌-◌, ◌<◌, List, [], ◌∷◌, ◌++◌, length, drop, get_or, map, refl, sym, ap, ◌∙◌, subst, append_assoc, arith, inl, inr}
+use Rattle.go_base.specs.Lists.{Has}
 use Rattle.api_words.specs.declared.settings.Setting.{Setting}
 use Rattle.api_words.specs.Words.{AreSettings, IsSetting}
 use Rattle.api_words.proofs.ListRests.{next_drop, past_all, append_nothing}
@@ -66,3 +67,13 @@ one_left f xs i h = length_map_drop f xs i ∙ h
 
 pub none_left : {A B : Type 0} (f : A → B) (xs : List A) (i : ℕ) → length xs ≡ i → map f (drop i xs) ≡ []
 none_left f xs i h = ap (map f) (past_all i xs h)
+
+-- the value of a setting is one of the words
+pub value_among : (words : List (List ℕ)) (settings : List Setting) (s : Setting) → AreSettings words settings → Has settings s → Has words s.value
+value_among [] [] s are h = absurd h
+value_among [] (t ∷ ts) s are h = absurd are
+value_among (w ∷ []) [] s are h = absurd are
+value_among (w ∷ []) (t ∷ ts) s are h = absurd are
+value_among (w ∷ v ∷ ws) [] s are h = absurd are
+value_among (w ∷ v ∷ ws) (t ∷ ts) s are (inl e) = inr (inl (are.0.same ∙ ap (λ (it : Setting). it.value) e))
+value_among (w ∷ v ∷ ws) (t ∷ ts) s are (inr h) = inr (inr (value_among ws ts s are.1 h))

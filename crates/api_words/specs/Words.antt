@@ -1,6 +1,6 @@
 -- Which words are good, and what they ask for. The words are those after the program's name.
 -- Own: this project's command line.
-use Rattle.std.specs.Prelude.{◌≡◌, ◌≢◌, ◌≤◌, ◌<◌, ◌^◌, ◌⊎◌, ℕ, Bool, nat_eq, Option, Some, None, List, [], ◌∷◌, length, map, codes, Ok}
+use Rattle.std.specs.Prelude.{◌≡◌, ◌≢◌, ◌≤◌, ◌<◌, ◌^◌, ◌⊎◌, ℕ, Bool, nat_eq, Option, Some, None, List, [], ◌∷◌, length, map, codes, if◌then◌else◌, Ok}
 use Rattle.std.specs.Fmt.{decimal}
 use Rattle.std.specs.List.{slice_split}
 use Rattle.go_base.specs.Lists.{Each, Has, Once}
@@ -84,8 +84,8 @@ IsOldFolder mode given folder = folder ≡ given
 
 -- a text without one `v` in front
 abbrev pub without_v : List ℕ → List ℕ
-without_v (118 ∷ bytes) = bytes
-without_v bytes = bytes
+without_v [] = []
+without_v (b ∷ bytes) = if nat_eq b 118 then bytes else b ∷ bytes
 
 -- the numbers of a version that has neither a pre-release nor build metadata
 abbrev pub release_of : Parts → Option Release

@@ -45,6 +45,15 @@ impl Mode {
         match self {
             Mode::Features => &[OptionName::New],
             Mode::Frozen => &[OptionName::New, OptionName::Api],
+            Mode::Judge => &[OptionName::Old, OptionName::New],
+            Mode::Advise => &[OptionName::Old, OptionName::New, OptionName::Version],
+            Mode::Gate => &[
+                OptionName::Old,
+                OptionName::New,
+                OptionName::Api,
+                OptionName::Version,
+            ],
+            Mode::Make => &[OptionName::Seed, OptionName::Size],
         }
     }
 
@@ -53,13 +62,16 @@ impl Mode {
         ensures { result.now ≡ permits self }
     {
         match self {
-            Mode::Features => &[OptionName::Std, OptionName::Platforms, OptionName::Workers],
-            Mode::Frozen => &[
+            Mode::Features | Mode::Judge | Mode::Advise => {
+                &[OptionName::Std, OptionName::Platforms, OptionName::Workers]
+            }
+            Mode::Frozen | Mode::Gate => &[
                 OptionName::Except,
                 OptionName::Std,
                 OptionName::Platforms,
                 OptionName::Workers,
             ],
+            Mode::Make => &[OptionName::Workers],
         }
     }
 }
@@ -74,6 +86,18 @@ pub(crate) fn mode_of(word: &[u8]) -> Option<Mode>
     if word == b"frozen".as_slice() {
         return Some(Mode::Frozen);
     }
+    if word == b"judge".as_slice() {
+        return Some(Mode::Judge);
+    }
+    if word == b"advise".as_slice() {
+        return Some(Mode::Advise);
+    }
+    if word == b"gate".as_slice() {
+        return Some(Mode::Gate);
+    }
+    if word == b"make".as_slice() {
+        return Some(Mode::Make);
+    }
     None
 }
 
@@ -81,6 +105,9 @@ pub(crate) fn mode_of(word: &[u8]) -> Option<Mode>
 pub(crate) fn option_of(word: &[u8]) -> Option<OptionName>
     ensures { MatchOption result ((name : OptionName) → word.now ≡ spelling name → ⊥) (λ name. word.now ≡ spelling name) }
 {
+    if word == b"--old".as_slice() {
+        return Some(OptionName::Old);
+    }
     if word == b"--new".as_slice() {
         return Some(OptionName::New);
     }
@@ -98,6 +125,15 @@ pub(crate) fn option_of(word: &[u8]) -> Option<OptionName>
     }
     if word == b"--except".as_slice() {
         return Some(OptionName::Except);
+    }
+    if word == b"--version".as_slice() {
+        return Some(OptionName::Version);
+    }
+    if word == b"--seed".as_slice() {
+        return Some(OptionName::Seed);
+    }
+    if word == b"--size".as_slice() {
+        return Some(OptionName::Size);
     }
     None
 }

@@ -78,6 +78,39 @@ pub(crate) fn look_up<'a>(settings: &'a [Setting], name: OptionName) -> Option<&
     None
 }
 
+fn are_same(left: &[u8], right: &[u8]) -> bool
+    ensures { Decides result (left.now ≡ right.now) }
+{
+    left == right
+}
+
+// The word with these bytes, or `None` where none has them.
+fn word_with<'a>(words: &'a [String], bytes: &[u8]) -> Option<&'a str>
+    ensures { MatchOption result (Has (map string_bytes words.now) bytes.now → ⊥) (λ word. word.now ≡ bytes.now) }
+{
+    for word in words {
+        if are_same(word.as_bytes(), bytes) {
+            return Some(word.as_str());
+        }
+    }
+    None
+}
+
+/// The word that an option is given, or `None`.
+pub(crate) fn look_up_word<'a>(
+    words: &'a [String],
+    settings: &[Setting],
+    name: OptionName,
+) -> Option<&'a str>
+    requires { AreSettings (map string_bytes words.now) settings.now }
+    ensures { IsGiven settings.now name (option_copied result) }
+{
+    match look_up(settings, name) {
+        None => None,
+        Some(value) => word_with(words, value),
+    }
+}
+
 fn is_given(settings: &[Setting], name: OptionName) -> bool
     ensures { Decides result (Has (map option_in settings.now) name) }
 {

@@ -1,12 +1,11 @@
 //! What the values of options mean.
-ghost use Rattle.std.specs.Prelude.{◌≡◌, ◌≢◌, ◌≤◌, [], ℕ, List, length, map, Decides, MatchOption, IfOk, Some};
-ghost use Rattle.std.specs.Fmt.{decimal};
+ghost use Rattle.std.specs.Prelude.{◌≡◌, ◌≢◌, [], ℕ, List, length, map, Decides, MatchOption, IfOk, Some};
 ghost use Rattle.std.specs.List.{slice_split};
 ghost use Rattle.std.specs.Option.{option_copied};
 ghost use Rattle.go_base.specs.Lists.{Each, Has, Once};
 ghost use Rattle.go_model.specs.declared.files.platform.Platform.{Platform};
 ghost use Rattle.go_model.specs.files.Platforms.{name_of};
-ghost use Rattle.api_words.specs.Words.{AreFileNames, ArePlatforms, IsWorkers, is_comma};
+ghost use Rattle.api_words.specs.Words.{AreFileNames, ArePlatforms, is_comma};
 
 use go_base::list::List;
 use go_base::memory::NoMemory;
@@ -14,10 +13,7 @@ use go_base::text::Text;
 use go_model::files::platform::Platform;
 use go_tags::laws::one_platform;
 use go_tags::platforms::platform;
-use itoa::Buffer;
 use std::alloc::{AllocError, Global};
-
-const MOST_WORKERS: u32 = 64;
 
 const MOST_FILES: usize = 64;
 
@@ -91,34 +87,6 @@ pub(crate) fn platforms_of(
             Ok(Some(platforms))
         }
         Some(value) => platforms_in(alloc, value),
-    }
-}
-
-fn is_decimal(value: &[u8], number: u32) -> bool
-    ensures { Decides result (value.now ≡ decimal number) }
-{
-    let mut buffer = Buffer::new();
-    buffer.format(number).as_bytes() == value
-}
-
-fn workers_in(value: &[u8]) -> Option<u32>
-    ensures { MatchOption result ((n : ℕ) → IsWorkers (Some value.now) n → ⊥) (IsWorkers (Some value.now)) }
-{
-    for number in 1..MOST_WORKERS + 1 {
-        if is_decimal(value, number) {
-            return Some(number);
-        }
-    }
-    None
-}
-
-/// How many workers a run is asked for, or `None` where the value is out of form.
-pub(crate) fn workers_of(given: Option<&[u8]>) -> Option<u32>
-    ensures { MatchOption result ((n : ℕ) → IsWorkers (option_copied given.entry) n → ⊥) (IsWorkers (option_copied given.entry)) }
-{
-    match given {
-        None => Some(1),
-        Some(value) => workers_in(value),
     }
 }
 

@@ -1,6 +1,0 @@
-use Rattle.std.proofs.Common.{◌≡◌, ◌<◌, ◌≤◌, ℕ}
-use Rattle.std.specs.Fmt.{decimal}
-use Rattle.api_words.proofs.values.workers_in.Given as goal
-
-abbrev pub invariant-loop-number : goal.invariant-loop-number
-invariant-loop-number l = (n : ℕ) → 1 ≤ n → n < l.number → l.value ≡ decimal n → ⊥
