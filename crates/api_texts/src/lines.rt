@@ -1,7 +1,7 @@
-//! The fault lines of what isn't read.
+//! The fault lines of what isn't read, and of versions that no other can follow.
 ghost use Rattle.std.specs.Prelude.{◌≡◌, ◌++◌, IfOk, codes};
 ghost use Rattle.std.specs.Fmt.{decimal};
-ghost use Rattle.api_texts.specs.FaultLines.{fault_line, frozen_line, limit_text, load_line, side_name};
+ghost use Rattle.api_texts.specs.FaultLines.{fault_line, frozen_line, limit_text, load_line, no_version_line, not_release_line, side_name};
 
 use go_base::memory::NoMemory;
 use go_base::text::Text;
@@ -132,4 +132,24 @@ pub fn frozen_line(alloc: Global, path: &[u8], fault: FrozenFault) -> Result<Tex
         FrozenFault::NotUtf8(offset) => offset_line(alloc, path, offset),
         FrozenFault::NotALine(number) => number_line(alloc, path, number),
     }
+}
+
+/// The fault line of a version, as it is written, that has a pre-release or build metadata.
+pub fn not_release_line(alloc: Global, version: &[u8]) -> Result<Text, NoMemory>
+    ensures { IfOk result (λ line. line ≡ not_release_line version.now) }
+{
+    let mut line = Vec::from_slice(alloc, b"apigate: version ")?;
+    line.extend_from_slice(version)?;
+    line.extend_from_slice(b" is not a release\n")?;
+    Ok(Text::from_vec(line))
+}
+
+/// The fault line of a version, as it is written, whose number to raise is the last one.
+pub fn no_version_line(alloc: Global, version: &[u8]) -> Result<Text, NoMemory>
+    ensures { IfOk result (λ line. line ≡ no_version_line version.now) }
+{
+    let mut line = Vec::from_slice(alloc, b"apigate: no version follows ")?;
+    line.extend_from_slice(version)?;
+    line.extend_from_slice(b"\n")?;
+    Ok(Text::from_vec(line))
 }
