@@ -1,0 +1,74 @@
+"""What contrib/release-gate and contrib/debian-gate have in common: the cutter, the program, and versions."""
+import os
+import re
+import subprocess
+import sys
+
+TOP = os.path.dirname(os.path.dirname(os.path.abspath(__file__)))
+PROGRAM = os.path.join(TOP, "apigate")
+NUMBER = "(0|[1-9][0-9]*)"
+RELEASE = re.compile(r"v?%s\.%s\.%s$" % (NUMBER, NUMBER, NUMBER))
+
+
+class Stop(Exception):
+    """Why nothing was judged, and the status to end with."""
+
+    def __init__(self, what, status=3):
+        super().__init__(what)
+        self.status = status
+
+
+def numbers(version):
+    """The three numbers of a release, or None for what is none."""
+    found = RELEASE.match(version)
+    return tuple(int(number) for number in found.groups()) if found else None
+
+
+def cut(room, platforms, old, new, settings=None):
+    """Cuts what both trees need of other packages into room/std."""
+    program = os.path.join(room, "stdcut")
+    made = subprocess.run(["go", "build", "-o", program, "./tools/stdcut"], cwd=TOP)
+    if made.returncode:
+        raise Stop("tools/stdcut can't be built")
+    folder = os.path.join(room, "std")
+    words = [program, "--platforms", platforms, "--out", folder, old, new]
+    ran = subprocess.run(words, env={**os.environ, **(settings or {})}, stderr=subprocess.PIPE, text=True, errors="replace")
+    if ran.returncode == 2:
+        raise Stop("tools/stdcut: " + ran.stderr.strip())
+    for line in ran.stderr.splitlines():
+        if line.startswith("fault "):
+            print(line, file=sys.stderr)
+    return folder
+
+
+def gate(room, std, platforms, old, new, api, exceptions, version):
+    """Runs the gate; without files of frozen lines the features of the old tree are the promises. Returns its status and report."""
+    common = ["--std", std, "--platforms", platforms]
+    if not api:
+        api = os.path.join(room, "api.txt")
+        ran = subprocess.run([PROGRAM, "features", "--new", old, *common], stdout=subprocess.PIPE)
+        if ran.returncode:
+            return ran.returncode, ""
+        with open(api, "wb") as file:
+            file.write(ran.stdout)
+    words = ["gate", "--old", old, "--new", new, *common, "--api", api, "--version", version]
+    if exceptions:
+        words += ["--except", exceptions]
+    ran = subprocess.run([PROGRAM, *words], stdout=subprocess.PIPE, text=True)
+    sys.stdout.write(ran.stdout)
+    return ran.returncode, ran.stdout
+
+
+def advised(report):
+    """The version that a report of the gate advises."""
+    lines = [line for line in report.splitlines() if line.startswith("version ")]
+    return lines[-1][len("version "):] if lines else None
+
+
+def main(run):
+    """Ends with the status of run(), or with that of what stopped it."""
+    try:
+        sys.exit(run())
+    except Stop as stop:
+        print("%s: %s" % (os.path.basename(sys.argv[0]), stop), file=sys.stderr)
+        sys.exit(stop.status)

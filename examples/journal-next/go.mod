@@ -1,0 +1,3 @@
+module example.org/journal
+
+go 1.19

@@ -1,0 +1,4 @@
+package place
+
+// Drive is where journals lie.
+const Drive = "C:"
