@@ -3,11 +3,11 @@ use Rattle.std.proofs.Common.{◌≡◌, ℕ, Option, List, Ok, Err, sym, subst}
 use Rattle.go_model.specs.declared.files.tree.Tree.{Tree}
 use Rattle.go_outside.specs.Stores.{Contents}
 use Rattle.api_inputs.specs.FrozenInputs.{AreLines}
-use Rattle.api_inputs.specs.Inputs.{AnswersInputs, IsInputRefusal, tree_refused, std_refused, api_refused, except_refused, optional}
+use Rattle.api_inputs.specs.Inputs.{AnswersInputs, IsInputRefusal, old_refused, tree_refused, std_refused, api_refused, except_refused, MayHaveOld, optional}
 use Rattle.api_inputs.specs.Reads.{MayHaveStd, MayLoad, NeverFell}
 use Rattle.api_inputs.specs.declared.inputs.InputError.{InputError}
 use Rattle.api_inputs.specs.declared.inputs.InputError.TheVariants as error
-use Rattle.api_inputs.specs.inner.Answers.{AnswersFiles, AnswersFrozen, AnswersOthers, AnswersTree, IsFrozenLine, of_api, of_except, IsOtherLine, of_std, of_frozen}
+use Rattle.api_inputs.specs.inner.Answers.{AnswersFiles, AnswersFrozen, AnswersNew, AnswersOld, AnswersOthers, AnswersTree, IsFrozenLine, of_api, of_except, IsNewLine, of_tree, of_others, IsOtherLine, of_std, of_frozen}
 use Rattle.api_inputs.proofs.FrozenLists.{rose_later}
 use Rattle.api_texts.specs.declared.lines.Side.TheVariants as side
 use Rattle.api_words.specs.declared.request.Request.{Request}
@@ -36,7 +36,7 @@ module _ (told : Option Contents) (r : Request) where
       by error.ReadFault a = rose_later before mid now n a
       by error.NoMemory a = tt
 
-  -- ---- what is read besides the module's tree
+  -- ---- what is read besides the module's trees
 
   pub std_error : (root : Option (List ℕ)) (before now : ℕ) (x : InputError) → root ≡ r.std → AnswersTree (MayHaveStd told root) side.Std before now (Err x) → AnswersOthers told r before now (Err x)
   std_error root before now x e a = by x (subst (λ (p : Option (List ℕ)). AnswersTree (MayHaveStd told p) side.Std before now (Err x)) e a)
@@ -54,34 +54,60 @@ module _ (told : Option Contents) (r : Request) where
       by error.ReadFault a = rose_later before mid now n a
       by error.NoMemory a = tt
 
-  -- ---- all
+  -- ---- what is read besides the module's old tree
 
-  pub tree_error : (root : List ℕ) (before now : ℕ) (x : InputError) → root ≡ r.new → AnswersTree (MayLoad told root) side.New before now (Err x) → AnswersInputs told r before now (Err x)
+  pub tree_error : (root : List ℕ) (before now : ℕ) (x : InputError) → root ≡ r.new → AnswersTree (MayLoad told root) side.New before now (Err x) → AnswersNew told r before now (Err x)
   tree_error root before now x e a = by x (subst (λ (p : List ℕ). AnswersTree (MayLoad told p) side.New before now (Err x)) e a)
     where
-      by : (x : InputError) → AnswersTree (MayLoad told r.new) side.New before now (Err x) → AnswersInputs told r before now (Err x)
-      by (error.Refused line) a = subst (IsInputRefusal told r) (sym a.3) (tree_refused a.0 a.1 a.2)
+      by : (x : InputError) → AnswersTree (MayLoad told r.new) side.New before now (Err x) → AnswersNew told r before now (Err x)
+      by (error.Refused line) a = subst (IsNewLine told r) (sym a.3) (of_tree a.0 a.1 a.2)
       by error.ReadFault a = a
       by error.NoMemory a = tt
 
-  frozen_line_of : (t s : Tree) (line : List ℕ) → MayLoad told r.new (Ok t) → MayHaveStd told r.std (Ok s) → IsFrozenLine told r line → IsInputRefusal told r line
-  frozen_line_of t s line h k (of_api path f d) = api_refused t s path f h k d
-  frozen_line_of t s line h k (of_except lines path f l d) = except_refused t s lines path f h k l d
-
-  other_line_of : (t : Tree) (line : List ℕ) → MayLoad told r.new (Ok t) → IsOtherLine told r line → IsInputRefusal told r line
-  other_line_of t line h (of_std e k n) = std_refused t e h k n
-  other_line_of t line h (of_frozen s k d) = frozen_line_of t s line h k d
-
-  pub others_error : (then : Option Contents) (t : Tree) (before mid now : ℕ) (x : InputError) → then ≡ told → NeverFell before mid → MayLoad told r.new (Ok t) → AnswersOthers then r mid now (Err x) → AnswersInputs told r before now (Err x)
+  pub others_error : (then : Option Contents) (t : Tree) (before mid now : ℕ) (x : InputError) → then ≡ told → NeverFell before mid → MayLoad told r.new (Ok t) → AnswersOthers then r mid now (Err x) → AnswersNew told r before now (Err x)
   others_error then t before mid now x same n h a = by x (subst (λ (w : Option Contents). AnswersOthers w r mid now (Err x)) same a)
     where
-      by : (x : InputError) → AnswersOthers told r mid now (Err x) → AnswersInputs told r before now (Err x)
-      by (error.Refused line) a = other_line_of t line h a
+      by : (x : InputError) → AnswersOthers told r mid now (Err x) → AnswersNew told r before now (Err x)
+      by (error.Refused line) a = of_others t h a
       by error.ReadFault a = rose_later before mid now n a
       by error.NoMemory a = tt
+
+  -- ---- all
+
+  pub old_error : (root : Option (List ℕ)) (before now : ℕ) (x : InputError) → root ≡ r.old → AnswersOld told root before now (Err x) → AnswersInputs told r before now (Err x)
+  old_error root before now x e a = by x (subst (λ (p : Option (List ℕ)). AnswersOld told p before now (Err x)) e a)
+    where
+      by : (x : InputError) → AnswersOld told r.old before now (Err x) → AnswersInputs told r before now (Err x)
+      by (error.Refused line) a = subst (IsInputRefusal told r) (sym a.3) (old_refused a.0 a.1 a.2)
+      by error.ReadFault a = a
+      by error.NoMemory a = tt
+
+  module _ (o : Option Tree) (old : MayHaveOld told r.old o) where
+    frozen_line_of : (t s : Tree) (line : List ℕ) → MayLoad told r.new (Ok t) → MayHaveStd told r.std (Ok s) → IsFrozenLine told r line → IsInputRefusal told r line
+    frozen_line_of t s line h k (of_api path f d) = api_refused o t s path f old h k d
+    frozen_line_of t s line h k (of_except lines path f l d) = except_refused o t s lines path f old h k l d
+
+    other_line_of : (t : Tree) (line : List ℕ) → MayLoad told r.new (Ok t) → IsOtherLine told r line → IsInputRefusal told r line
+    other_line_of t line h (of_std e k n) = std_refused o t e old h k n
+    other_line_of t line h (of_frozen s k d) = frozen_line_of t s line h k d
+
+    new_line_of : (line : List ℕ) → IsNewLine told r line → IsInputRefusal told r line
+    new_line_of line (of_tree e h n) = tree_refused o e old h n
+    new_line_of line (of_others t h d) = other_line_of t line h d
+
+    pub new_error : (then : Option Contents) (before mid now : ℕ) (x : InputError) → then ≡ told → NeverFell before mid → AnswersNew then r mid now (Err x) → AnswersInputs told r before now (Err x)
+    new_error then before mid now x same n a = by x (subst (λ (w : Option Contents). AnswersNew w r mid now (Err x)) same a)
+      where
+        by : (x : InputError) → AnswersNew told r mid now (Err x) → AnswersInputs told r before now (Err x)
+        by (error.Refused line) a = new_line_of line a
+        by error.ReadFault a = rose_later before mid now n a
+        by error.NoMemory a = tt
 
   pub std_as : (root : Option (List ℕ)) (s : Tree) → root ≡ r.std → MayHaveStd told root (Ok s) → MayHaveStd told r.std (Ok s)
   std_as root s e h = subst (λ (p : Option (List ℕ)). MayHaveStd told p (Ok s)) e h
 
   pub tree_as : (root : List ℕ) (t : Tree) → root ≡ r.new → MayLoad told root (Ok t) → MayLoad told r.new (Ok t)
   tree_as root t e h = subst (λ (p : List ℕ). MayLoad told p (Ok t)) e h
+
+  pub old_as : (root : Option (List ℕ)) (o : Option Tree) → root ≡ r.old → MayHaveOld told root o → MayHaveOld told r.old o
+  old_as root o e h = subst (λ (p : Option (List ℕ)). MayHaveOld told p o) e h

@@ -2,8 +2,8 @@
 use Rattle.std.proofs.Common.{◌≡◌, ℕ, Option, None, Some, List, Ok, Err, sym, ap, ◌∙◌, inl, inr}
 use Rattle.std.specs.Prelude.{Result}
 use Rattle.api_inputs.proofs.OneFile.{all_or_fault, one_first, one_of_all}
-use Rattle.api_inputs.specs.FrozenInputs.{IsFirstFault}
-use Rattle.api_inputs.specs.Inputs.{AreInputs, IsInputRefusal, tree_refused, std_refused, api_refused, except_refused, optional}
+use Rattle.api_inputs.specs.FrozenInputs.{AreLines, IsFirstFault}
+use Rattle.api_inputs.specs.Inputs.{AreInputs, IsInputRefusal, old_refused, tree_refused, std_refused, api_refused, except_refused, MayHaveOld, MayRefuseOld, optional}
 use Rattle.api_inputs.specs.Reads.{MayHaveStd, MayLoad}
 use Rattle.api_inputs.specs.declared.inputs.Inputs.{Inputs}
 use Rattle.api_texts.specs.FaultLines.{frozen_line, load_line}
@@ -43,6 +43,18 @@ module _ (module_answer : (m : Contents) (root : List ℕ) (r s : Result Tree Lo
   one_std None r s a b n k = a ∙ sym b
   one_std (Some root) r s a b n k = agreed r s (files_answer m kind.Std root r s a.loaded b.loaded) n k
 
+  same_olds : (root : Option (List ℕ)) (o p : Option Tree) → MayHaveOld (Some m) root o → MayHaveOld (Some m) root p → o ≡ p
+  same_olds None o p a b = a ∙ sym b
+  same_olds (Some root) o p a b = a.2 ∙ ap Some (same_tree a.0 b.0 (one_load root (Ok a.0) (Ok b.0) a.1 b.1 (λ f. f) (λ f. f))) ∙ sym b.2
+
+  old_or_not : (root : Option (List ℕ)) (o : Option Tree) (e : LoadError) → MayHaveOld (Some m) root o → MayRefuseOld (Some m) root e → (IsFree (Err e) → ⊥) → ⊥
+  old_or_not None o e a b n = b
+  old_or_not (Some root) o e a b n = tree_or_error a.0 e (one_load root (Ok a.0) (Err e) a.1 b (λ f. f) n)
+
+  same_old_errors : (root : Option (List ℕ)) (d e : LoadError) → MayRefuseOld (Some m) root d → MayRefuseOld (Some m) root e → (IsFree (Err d) → ⊥) → (IsFree (Err e) → ⊥) → d ≡ e
+  same_old_errors None d e a b n k = absurd a
+  same_old_errors (Some root) d e a b n k = same_error d e (one_load root (Err d) (Err e) a b n k)
+
   module _ (q : Request) where
     same_trees : (t u : Tree) → MayLoad (Some m) q.new (Ok t) → MayLoad (Some m) q.new (Ok u) → t ≡ u
     same_trees t u a b = same_tree t u (one_load q.new (Ok t) (Ok u) a b (λ f. f) (λ f. f))
@@ -58,35 +70,61 @@ module _ (module_answer : (m : Contents) (root : List ℕ) (r s : Result Tree Lo
 
     pub same_inputs : (a b : Inputs) → AreInputs (Some m) q a → AreInputs (Some m) q b → a ≡ b
     same_inputs a b h k =
+        let old_tree : a.old_tree ≡ b.old_tree = same_olds q.old a.old_tree b.old_tree h.old_tree k.old_tree in
         let tree : a.tree ≡ b.tree = same_trees a.tree b.tree h.tree k.tree in
         let std_tree : a.std_tree ≡ b.std_tree = same_stds a.std_tree b.std_tree h.std_tree k.std_tree in
         let required : a.required ≡ b.required = one_of_all m h.required k.required in
         let exceptions : a.exceptions ≡ b.exceptions = one_of_all m h.exceptions k.exceptions in
-        (λ i. record { tree = tree i; std_tree = std_tree i; required = required i; exceptions = exceptions i })
+        (λ i. record { old_tree = old_tree i; tree = tree i; std_tree = std_tree i; required = required i; exceptions = exceptions i })
 
     same_faults : (paths : List (List ℕ)) (at bt : List ℕ) (f g : FrozenFault) → IsFirstFault (Some m) paths at f → IsFirstFault (Some m) paths bt g → frozen_line at f ≡ frozen_line bt g
     same_faults paths at bt f g a b = let k = one_first m a b in (λ i. frozen_line (k.0 i) (k.1 i))
 
+    -- ---- refusals
+
+    -- what is refused isn't read
+    unless_old : {A : Type 0} (o : Option Tree) (e : LoadError) → MayRefuseOld (Some m) q.old e → (IsFree (Err e) → ⊥) → MayHaveOld (Some m) q.old o → A
+    unless_old o e h n k = absurd (old_or_not q.old o e k h n)
+
+    unless_tree : {A : Type 0} (t : Tree) (e : LoadError) → MayLoad (Some m) q.new (Err e) → (IsFree (Err e) → ⊥) → MayLoad (Some m) q.new (Ok t) → A
+    unless_tree t e h n k = absurd (loaded_or_not t e k h n)
+
+    unless_std : {A : Type 0} (s : Tree) (e : LoadError) → MayHaveStd (Some m) q.std (Err e) → (IsFree (Err e) → ⊥) → MayHaveStd (Some m) q.std (Ok s) → A
+    unless_std s e h n k = absurd (std_or_not s e k h n)
+
+    unless_api : {lines : List (List ℕ)} {path : List ℕ} {f : FrozenFault} {A : Type 0} → IsFirstFault (Some m) q.api path f → AreLines (Some m) q.api lines → A
+    unless_api d l = absurd (all_or_fault m l d)
+
     pub same_refusal : (a b : List ℕ) → IsInputRefusal (Some m) q a → IsInputRefusal (Some m) q b → a ≡ b
-    same_refusal a b (tree_refused e h n) (tree_refused d k o) = ap (load_line side.New) (same_error e d (one_load q.new (Err e) (Err d) h k n o))
-    same_refusal a b (tree_refused e h n) (std_refused t d k l o) = absurd (loaded_or_not t e k h n)
-    same_refusal a b (tree_refused e h n) (api_refused t s p f k l o) = absurd (loaded_or_not t e k h n)
-    same_refusal a b (tree_refused e h n) (except_refused t s ls p f k l r o) = absurd (loaded_or_not t e k h n)
-    same_refusal a b (std_refused t e h i n) (tree_refused d k o) = absurd (loaded_or_not t d h k o)
-    same_refusal a b (std_refused t e h i n) (std_refused u d k l o) = ap (load_line side.Std) (same_error e d (one_std q.std (Err e) (Err d) i l n o))
-    same_refusal a b (std_refused t e h i n) (api_refused u s p f k l o) = absurd (std_or_not s e l i n)
-    same_refusal a b (std_refused t e h i n) (except_refused u s ls p f k l r o) = absurd (std_or_not s e l i n)
-    same_refusal a b (api_refused t s p f h i n) (tree_refused d k o) = absurd (loaded_or_not t d h k o)
-    same_refusal a b (api_refused t s p f h i n) (std_refused u d k l o) = absurd (std_or_not s d i l o)
-    same_refusal a b (api_refused t s p f h i n) (api_refused u v p' g k l o) = same_faults q.api p p' f g n o
-    same_refusal a b (api_refused t s p f h i n) (except_refused u v ls p' g k l r o) = absurd (all_or_fault m r n)
-    same_refusal a b (except_refused t s ls p f h i r n) (tree_refused d k o) = absurd (loaded_or_not t d h k o)
-    same_refusal a b (except_refused t s ls p f h i r n) (std_refused u d k l o) = absurd (std_or_not s d i l o)
-    same_refusal a b (except_refused t s ls p f h i r n) (api_refused u v p' g k l o) = absurd (all_or_fault m r o)
-    same_refusal a b (except_refused t s ls p f h i r n) (except_refused u v ks p' g k l z o) = same_faults (optional q.except) p p' f g n o
+    same_refusal a b (old_refused e h n) (old_refused d k p) = ap (load_line side.Old) (same_old_errors q.old e d h k n p)
+    same_refusal a b (old_refused e h n) (tree_refused o' d k l p) = unless_old o' e h n k
+    same_refusal a b (old_refused e h n) (std_refused o' u d k l x p) = unless_old o' e h n k
+    same_refusal a b (old_refused e h n) (api_refused o' u v w g k l x p) = unless_old o' e h n k
+    same_refusal a b (old_refused e h n) (except_refused o' u v ks w g k l x r p) = unless_old o' e h n k
+    same_refusal a b (tree_refused o e h i n) (old_refused d k p) = unless_old o d k p h
+    same_refusal a b (tree_refused o e h i n) (tree_refused o' d k l p) = ap (load_line side.New) (same_error e d (one_load q.new (Err e) (Err d) i l n p))
+    same_refusal a b (tree_refused o e h i n) (std_refused o' u d k l x p) = unless_tree u e i n l
+    same_refusal a b (tree_refused o e h i n) (api_refused o' u v w g k l x p) = unless_tree u e i n l
+    same_refusal a b (tree_refused o e h i n) (except_refused o' u v ks w g k l x r p) = unless_tree u e i n l
+    same_refusal a b (std_refused o t e h i j n) (old_refused d k p) = unless_old o d k p h
+    same_refusal a b (std_refused o t e h i j n) (tree_refused o' d k l p) = unless_tree t d l p i
+    same_refusal a b (std_refused o t e h i j n) (std_refused o' u d k l x p) = ap (load_line side.Std) (same_error e d (one_std q.std (Err e) (Err d) j x n p))
+    same_refusal a b (std_refused o t e h i j n) (api_refused o' u v w g k l x p) = unless_std v e j n x
+    same_refusal a b (std_refused o t e h i j n) (except_refused o' u v ks w g k l x r p) = unless_std v e j n x
+    same_refusal a b (api_refused o t s z f h i j n) (old_refused d k p) = unless_old o d k p h
+    same_refusal a b (api_refused o t s z f h i j n) (tree_refused o' d k l p) = unless_tree t d l p i
+    same_refusal a b (api_refused o t s z f h i j n) (std_refused o' u d k l x p) = unless_std s d x p j
+    same_refusal a b (api_refused o t s z f h i j n) (api_refused o' u v w g k l x p) = same_faults q.api z w f g n p
+    same_refusal a b (api_refused o t s z f h i j n) (except_refused o' u v ks w g k l x r p) = unless_api n r
+    same_refusal a b (except_refused o t s ls z f h i j y n) (old_refused d k p) = unless_old o d k p h
+    same_refusal a b (except_refused o t s ls z f h i j y n) (tree_refused o' d k l p) = unless_tree t d l p i
+    same_refusal a b (except_refused o t s ls z f h i j y n) (std_refused o' u d k l x p) = unless_std s d x p j
+    same_refusal a b (except_refused o t s ls z f h i j y n) (api_refused o' u v w g k l x p) = unless_api p y
+    same_refusal a b (except_refused o t s ls z f h i j y n) (except_refused o' u v ks w g k l x r p) = same_faults (optional q.except) z w f g n p
 
     pub inputs_or_refusal : (a : Inputs) (line : List ℕ) → AreInputs (Some m) q a → IsInputRefusal (Some m) q line → ⊥
-    inputs_or_refusal a line h (tree_refused e k n) = loaded_or_not a.tree e h.tree k n
-    inputs_or_refusal a line h (std_refused t e k l n) = std_or_not a.std_tree e h.std_tree l n
-    inputs_or_refusal a line h (api_refused t s p f k l n) = all_or_fault m h.required n
-    inputs_or_refusal a line h (except_refused t s ls p f k l r n) = all_or_fault m h.exceptions n
+    inputs_or_refusal a line h (old_refused e k n) = unless_old a.old_tree e k n h.old_tree
+    inputs_or_refusal a line h (tree_refused o e k l n) = unless_tree a.tree e l n h.tree
+    inputs_or_refusal a line h (std_refused o t e k l x n) = unless_std a.std_tree e x n h.std_tree
+    inputs_or_refusal a line h (api_refused o t s p f k l x n) = unless_api n h.required
+    inputs_or_refusal a line h (except_refused o t s ls p f k l x r n) = all_or_fault m h.exceptions n

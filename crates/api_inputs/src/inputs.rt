@@ -1,12 +1,13 @@
 //! What a run reads for a request.
 ghost use Rattle.std.specs.Prelude.{◌≡◌, ◌≤◌};
 ghost use Rattle.api_inputs.specs.Reads.{NeverFell};
-ghost use Rattle.api_inputs.specs.inner.Answers.{AnswersFiles, AnswersFrozen, AnswersOthers, inputs_of};
+ghost use Rattle.api_inputs.specs.inner.Answers.{AnswersFiles, AnswersFrozen, AnswersNew, AnswersOthers, inputs_of};
 ghost use Rattle.api_inputs.specs.Inputs.{AnswersInputs, optional};
 ghost use Rattle.std.specs.Option.{option_copied};
 
 use crate::frozen::{read_files, read_one};
-use crate::trees::{module_tree, std_tree};
+use crate::trees::{module_tree, old_tree, std_tree};
+use api_texts::lines::Side;
 use api_words::request::Request;
 use go_base::list::List;
 use go_base::text::Text;
@@ -70,14 +71,15 @@ impl Drop for FrozenInputs {
 }
 
 impl FrozenInputs {
-    fn with_trees(self, tree: Tree, std_tree: Tree) -> Inputs
-        ensures { result ≡ record { tree = tree; std_tree = std_tree; required = self.required; exceptions = self.exceptions } }
+    fn with_trees(self, old_tree: Option<Tree>, tree: Tree, std_tree: Tree) -> Inputs
+        ensures { result ≡ record { old_tree = old_tree; tree = tree; std_tree = std_tree; required = self.required; exceptions = self.exceptions } }
     {
         let FrozenInputs {
             required,
             exceptions,
         } = self;
         Inputs {
+            old_tree,
             tree,
             std_tree,
             required,
@@ -107,7 +109,7 @@ fn read_frozen<F: Files>(
     }
 }
 
-// What is read besides the module's tree.
+// What is read besides the module's trees.
 struct Others {
     std_tree: Tree,
     frozen: FrozenInputs,
@@ -123,11 +125,11 @@ impl Drop for Others {
 }
 
 impl Others {
-    fn with_tree(self, tree: Tree) -> Inputs
-        ensures { result ≡ inputs_of tree self }
+    fn with_trees(self, old_tree: Option<Tree>, tree: Tree) -> Inputs
+        ensures { result ≡ record { old_tree = old_tree; tree = tree; std_tree = self.std_tree; required = self.frozen.required; exceptions = self.frozen.exceptions } }
     {
         let Others { std_tree, frozen } = self;
-        frozen.with_trees(tree, std_tree)
+        frozen.with_trees(old_tree, tree, std_tree)
     }
 }
 
@@ -149,10 +151,50 @@ fn read_others<F: Files>(
     }
 }
 
-/// What a run reads for a request: the tree of the module and that of the standard library, and then the files of frozen
-/// lines in the order given and the file of exceptions. Else the fault line of the first of them that is refused: a tree that
-/// isn't loaded, or a file that isn't there, is larger than 16,777,216 bytes, isn't UTF-8 or has a line that is neither skipped
-/// nor a feature line. In place of these may come `ReadFault`, only where the store failed, and `NoMemory`, at any time.
+// What is read besides the module's old tree.
+struct NewInputs {
+    tree: Tree,
+    others: Others,
+}
+
+impl Drop for NewInputs {
+    fn drop(self) {
+        let NewInputs { tree: _, others: _ } = self;
+    }
+}
+
+impl NewInputs {
+    fn with_old(self, old_tree: Option<Tree>) -> Inputs
+        ensures { result ≡ inputs_of old_tree self }
+    {
+        let NewInputs { tree, others } = self;
+        others.with_trees(old_tree, tree)
+    }
+}
+
+fn read_new<F: Files>(
+    alloc: Global,
+    files: &mut F,
+    request: &Request,
+) -> Result<NewInputs, InputError>
+    ensures same { F.told files.new ≡ F.told files.old }
+    ensures answer { AnswersNew (F.told files.old) request.now (F.faults files.old) (F.faults files.new) result }
+    ensures count { NeverFell (F.faults files.old) (F.faults files.new) }
+{
+    match module_tree(alloc, files, Side::New, request.new.bytes()) {
+        Err(error) => Err(error),
+        Ok(tree) => match read_others(alloc, files, request) {
+            Err(error) => Err(error),
+            Ok(others) => Ok(NewInputs { tree, others }),
+        },
+    }
+}
+
+/// What a run reads for a request: the old tree of the module where a folder is given for it, its new one and that of the
+/// standard library, and then the files of frozen lines in the order given and the file of exceptions. Else the fault line of the
+/// first of them that is refused: a tree that isn't loaded, or a file that isn't there, is larger than 16,777,216 bytes, isn't
+/// UTF-8 or has a line that is neither skipped nor a feature line. In place of these may come `ReadFault`, only where the store
+/// failed, and `NoMemory`, at any time.
 pub fn read_inputs<F: Files>(
     alloc: Global,
     files: &mut F,
@@ -162,11 +204,11 @@ pub fn read_inputs<F: Files>(
     ensures answer { AnswersInputs (F.told files.old) request.now (F.faults files.old) (F.faults files.new) result }
     ensures count { NeverFell (F.faults files.old) (F.faults files.new) }
 {
-    match module_tree(alloc, files, request.new.bytes()) {
+    match old_tree(alloc, files, request.old.as_ref()) {
         Err(error) => Err(error),
-        Ok(tree) => match read_others(alloc, files, request) {
+        Ok(old_tree) => match read_new(alloc, files, request) {
             Err(error) => Err(error),
-            Ok(others) => Ok(others.with_tree(tree)),
+            Ok(inputs) => Ok(inputs.with_old(old_tree)),
         },
     }
 }

@@ -1,7 +1,7 @@
 //! Loading the trees of a run.
 ghost use Rattle.std.specs.Prelude.{◌≡◌, ◌≤◌};
 ghost use Rattle.api_inputs.specs.Reads.{MayHaveStd, MayLoad, MayLoadStd, NeverFell};
-ghost use Rattle.api_inputs.specs.inner.Answers.{AnswersTree, IsToldAs};
+ghost use Rattle.api_inputs.specs.inner.Answers.{AnswersOld, AnswersTree, IsToldAs};
 ghost use Rattle.api_texts.specs.declared.lines.Side.TheVariants as side;
 ghost use Rattle.std.specs.Option.{option_copied};
 
@@ -29,19 +29,39 @@ fn told_as(alloc: Global, side: Side, error: &LoadError) -> InputError
     }
 }
 
-/// The tree of the module, or the fault line of its refusal.
+/// The tree of the module on this side, or the fault line of its refusal.
 pub(crate) fn module_tree<F: Files>(
     alloc: Global,
     files: &mut F,
+    side: Side,
     root: &[u8],
 ) -> Result<Tree, InputError>
     ensures same { F.told files.new ≡ F.told files.old }
-    ensures answer { AnswersTree (MayLoad (F.told files.old) root.now) side.New (F.faults files.old) (F.faults files.new) result }
+    ensures answer { AnswersTree (MayLoad (F.told files.old) root.now) side (F.faults files.old) (F.faults files.new) result }
     ensures count { NeverFell (F.faults files.old) (F.faults files.new) }
 {
     match load_module(alloc, files, root) {
         Ok(tree) => Ok(tree),
-        Err(error) => Err(told_as(alloc, Side::New, &error)),
+        Err(error) => Err(told_as(alloc, side, &error)),
+    }
+}
+
+/// The old tree of the module where a folder is given, or the fault line of its refusal.
+pub(crate) fn old_tree<F: Files>(
+    alloc: Global,
+    files: &mut F,
+    root: Option<&Text>,
+) -> Result<Option<Tree>, InputError>
+    ensures same { F.told files.new ≡ F.told files.old }
+    ensures answer { AnswersOld (F.told files.old) (option_copied root.entry) (F.faults files.old) (F.faults files.new) result }
+    ensures count { NeverFell (F.faults files.old) (F.faults files.new) }
+{
+    match root {
+        None => Ok(None),
+        Some(root) => match module_tree(alloc, files, Side::Old, root.bytes()) {
+            Err(error) => Err(error),
+            Ok(tree) => Ok(Some(tree)),
+        },
     }
 }
 

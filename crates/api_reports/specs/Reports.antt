@@ -1,6 +1,6 @@
 -- The texts of reports: feature lines, signed lines, verdicts, classes, versions, and what the generator's trees have.
 -- Public source: the lines that Go's cmd/api writes to its files api/go1.txt and later, and the signs with which it prints what differs from them. Own: all other lines.
-use Rattle.std.specs.Prelude.{ℕ, ◌+◌, Bool, true, false, List, [], ◌∷◌, ◌++◌, length, map, codes}
+use Rattle.std.specs.Prelude.{ℕ, nat_eq, ◌+◌, Bool, true, false, if◌then◌else◌, List, [], ◌∷◌, ◌++◌, length, map, codes}
 use Rattle.std.specs.Fmt.{decimal}
 use Rattle.std.specs.List.{list_any}
 use Rattle.go_model.specs.declared.files.platform.Platform.{Platform}
@@ -79,8 +79,8 @@ class_text c = unlines (class_line c ∷ [])
 
 -- the `v` in front of a version, where it is written so
 abbrev pub v_of : List ℕ → List ℕ
-v_of (118 ∷ bytes) = codes "v"
-v_of bytes = []
+v_of [] = []
+v_of (b ∷ bytes) = if nat_eq b 118 then codes "v" else []
 
 abbrev pub release_text : Release → List ℕ
 release_text r = decimal r.major ++ codes "." ++ decimal r.minor ++ codes "." ++ decimal r.patch

@@ -1,4 +1,7 @@
 //! The texts of reports.
 #![tactic(auto)]
 
+pub mod made;
 pub mod reports;
+pub mod verdicts;
+pub mod versions;

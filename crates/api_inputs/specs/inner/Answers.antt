@@ -1,14 +1,15 @@
 -- What the functions that read inputs answer.
 use Rattle.std.specs.Prelude.{◌≡◌, ℕ, Option, List, Result, Ok, Err}
 use Rattle.api_inputs.specs.FrozenInputs.{AreLines, GivesLines, HasFault, IsFirstFault}
-use Rattle.api_inputs.specs.Inputs.{optional}
-use Rattle.api_inputs.specs.Reads.{MayHaveStd}
+use Rattle.api_inputs.specs.Inputs.{MayHaveOld, MayRefuseOld, optional}
+use Rattle.api_inputs.specs.Reads.{MayHaveStd, MayLoad}
 use Rattle.api_inputs.specs.declared.frozen.FileError.{FileError}
 use Rattle.api_inputs.specs.declared.frozen.FileError.TheVariants as file
 use Rattle.api_inputs.specs.declared.inputs.InputError.{InputError}
 use Rattle.api_inputs.specs.declared.inputs.InputError.TheVariants as error
 use Rattle.api_inputs.specs.declared.inputs.FrozenInputs.{FrozenInputs}
 use Rattle.api_inputs.specs.declared.inputs.Inputs.{Inputs}
+use Rattle.api_inputs.specs.declared.inputs.NewInputs.{NewInputs}
 use Rattle.api_inputs.specs.declared.inputs.Others.{Others}
 use Rattle.api_texts.specs.FaultLines.{frozen_line, load_line}
 use Rattle.api_texts.specs.declared.lines.FrozenFault.{FrozenFault}
@@ -43,6 +44,13 @@ AnswersTree May s before now (Err (error.Refused line)) = (e : LoadError) × May
 AnswersTree May s before now (Err error.ReadFault) = Rose before now
 AnswersTree May s before now (Err error.NoMemory) = Unit {0}
 
+-- the old tree where a folder is given, by what its load may answer
+abbrev pub AnswersOld : Option Contents → Option (List ℕ) → ℕ → ℕ → Result (Option Tree) InputError → Type 0
+AnswersOld told root before now (Ok t) = MayHaveOld told root t
+AnswersOld told root before now (Err (error.Refused line)) = (e : LoadError) × MayRefuseOld told root e × (IsFree (Err e) → ⊥) × (line ≡ load_line side.Old e)
+AnswersOld told root before now (Err error.ReadFault) = Rose before now
+AnswersOld told root before now (Err error.NoMemory) = Unit {0}
+
 -- what the error of a load is told as
 abbrev pub IsToldAs : Side → LoadError → InputError → Type 0
 IsToldAs s e (error.Refused line) = (IsFree (Err e) → ⊥) × (line ≡ load_line s e)
@@ -61,17 +69,29 @@ AnswersFrozen told r before now (Err (error.Refused line)) = IsFrozenLine told r
 AnswersFrozen told r before now (Err error.ReadFault) = Rose before now
 AnswersFrozen told r before now (Err error.NoMemory) = Unit {0}
 
--- the fault line of the first refusal besides that of the module's tree
+-- the fault line of the first refusal besides those of the module's trees
 pub data IsOtherLine (told : Option Contents) (r : Request) : List ℕ → Type 0 where
   of_std : (e : LoadError) → MayHaveStd told r.std (Err e) → (IsFree (Err e) → ⊥) → IsOtherLine told r (load_line side.Std e)
   of_frozen : {line : List ℕ} (s : Tree) → MayHaveStd told r.std (Ok s) → IsFrozenLine told r line → IsOtherLine told r line
 
--- what is read besides the module's tree, or that fault line
+-- what is read besides the module's trees, or that fault line
 abbrev pub AnswersOthers : Option Contents → Request → ℕ → ℕ → Result Others InputError → Type 0
 AnswersOthers told r before now (Ok o) = MayHaveStd told r.std (Ok o.std_tree) × AreLines told r.api o.frozen.required × AreLines told (optional r.except) o.frozen.exceptions
 AnswersOthers told r before now (Err (error.Refused line)) = IsOtherLine told r line
 AnswersOthers told r before now (Err error.ReadFault) = Rose before now
 AnswersOthers told r before now (Err error.NoMemory) = Unit {0}
 
-abbrev pub inputs_of : Tree → Others → Inputs
-inputs_of t o = record { tree = t; std_tree = o.std_tree; required = o.frozen.required; exceptions = o.frozen.exceptions }
+-- the fault line of the first refusal besides that of the module's old tree
+pub data IsNewLine (told : Option Contents) (r : Request) : List ℕ → Type 0 where
+  of_tree : (e : LoadError) → MayLoad told r.new (Err e) → (IsFree (Err e) → ⊥) → IsNewLine told r (load_line side.New e)
+  of_others : {line : List ℕ} (t : Tree) → MayLoad told r.new (Ok t) → IsOtherLine told r line → IsNewLine told r line
+
+-- what is read besides the module's old tree, or that fault line
+abbrev pub AnswersNew : Option Contents → Request → ℕ → ℕ → Result NewInputs InputError → Type 0
+AnswersNew told r before now (Ok n) = MayLoad told r.new (Ok n.tree) × AnswersOthers told r before now (Ok n.others)
+AnswersNew told r before now (Err (error.Refused line)) = IsNewLine told r line
+AnswersNew told r before now (Err error.ReadFault) = Rose before now
+AnswersNew told r before now (Err error.NoMemory) = Unit {0}
+
+abbrev pub inputs_of : Option Tree → NewInputs → Inputs
+inputs_of o n = record { old_tree = o; tree = n.tree; std_tree = n.others.std_tree; required = n.others.frozen.required; exceptions = n.others.frozen.exceptions }

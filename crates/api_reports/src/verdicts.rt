@@ -1,0 +1,158 @@
+//! The texts of verdicts and classes.
+ghost use Rattle.std.specs.Prelude.{◌≡◌, ◌+◌, ◌++◌, ◌∷◌, [], OnOk, IfOk, map};
+ghost use Rattle.std.specs.List.{list_any};
+ghost use Rattle.api_judge.specs.Verdicts.{has_break};
+ghost use Rattle.api_reports.specs.Reports.{break_line, class_line, class_name, class_text, count_breaks, judge_text, platform_lines, unlines, verdict_lines, verdict_word};
+
+use api_advice::class::Class;
+use api_judge::judge::class;
+use api_judge::verdict::Verdict;
+use api_subjects::broken::Broken;
+use go_base::memory::NoMemory;
+use go_base::text::Text;
+use go_model::files::platform::Platform;
+use std::alloc::Global;
+
+fn is_broken(verdict: &Verdict) -> bool
+    ensures { result ≡ has_break verdict.now }
+{
+    match verdict.breaks.items() {
+        [] => false,
+        _ => true,
+    }
+}
+
+/// Whether something is broken on one of the platforms.
+pub fn has_break(verdicts: &[Verdict]) -> bool
+    ensures { result ≡ list_any has_break verdicts.now }
+{
+    verdicts.iter().any(|verdict| is_broken(verdict))
+}
+
+/// How much is broken on all platforms together. `NoMemory` where that is more than memory can hold.
+pub fn count_breaks(verdicts: &[Verdict]) -> Result<usize, NoMemory>
+    ensures { IfOk result (λ count. count ≡ count_breaks verdicts.now) }
+{
+    let mut count = 0usize;
+    for verdict in verdicts {
+        match count.checked_add(verdict.breaks.items().len()) {
+            Some(sum) => count = sum,
+            None => return Err(NoMemory),
+        }
+    }
+    Ok(count)
+}
+
+fn verdict_word(broken: bool) -> &'static [u8]
+    ensures { result.now ≡ verdict_word broken }
+{
+    if broken {
+        b"incompatible"
+    } else {
+        b"compatible"
+    }
+}
+
+fn add_break(
+    alloc: Global,
+    text: &mut Vec<u8>,
+    platform: Platform,
+    broken: &Broken,
+) -> Result<(), NoMemory>
+    ensures { OnOk result (text.new.items ≡ text.old.items ++ break_line platform broken.now ++ 10 ∷ []) }
+{
+    let printed = broken.printed(alloc)?;
+    text.extend_from_slice(b"break ")?;
+    text.extend_from_slice(platform.name())?;
+    text.extend_from_slice(b" ")?;
+    text.extend_from_slice(printed.bytes())?;
+    text.push(b'\n')?;
+    Ok(())
+}
+
+fn add_breaks(
+    alloc: Global,
+    text: &mut Vec<u8>,
+    platform: Platform,
+    breaks: &[Broken],
+) -> Result<(), NoMemory>
+    ensures { OnOk result (text.new.items ≡ text.old.items ++ unlines (map (break_line platform) breaks.now)) }
+{
+    for broken in breaks {
+        add_break(alloc, text, platform, broken)?;
+    }
+    Ok(())
+}
+
+fn add_verdict(
+    alloc: Global,
+    text: &mut Vec<u8>,
+    platform: Platform,
+    verdict: &Verdict,
+) -> Result<(), NoMemory>
+    ensures { OnOk result (text.new.items ≡ text.old.items ++ unlines (platform_lines platform verdict.now)) }
+{
+    text.extend_from_slice(b"judge ")?;
+    text.extend_from_slice(platform.name())?;
+    text.extend_from_slice(b": ")?;
+    text.extend_from_slice(verdict_word(is_broken(verdict)))?;
+    text.push(b'\n')?;
+    add_breaks(alloc, text, platform, verdict.breaks.items())
+}
+
+fn add_verdicts(
+    alloc: Global,
+    text: &mut Vec<u8>,
+    platforms: &[Platform],
+    verdicts: &[Verdict],
+) -> Result<(), NoMemory>
+    ensures { OnOk result (text.new.items ≡ text.old.items ++ unlines (verdict_lines platforms.now verdicts.now)) }
+{
+    for (platform, verdict) in platforms.iter().zip(verdicts) {
+        add_verdict(alloc, text, *platform, verdict)?;
+    }
+    Ok(())
+}
+
+fn class_name(class: Class) -> &'static [u8]
+    ensures { result.now ≡ class_name class }
+{
+    match class {
+        Class::Major => b"major",
+        Class::Minor => b"minor",
+        Class::Patch => b"patch",
+    }
+}
+
+fn add_class(text: &mut Vec<u8>, class: Class) -> Result<(), NoMemory>
+    ensures { OnOk result (text.new.items ≡ text.old.items ++ unlines (class_line class ∷ [])) }
+{
+    text.extend_from_slice(b"class ")?;
+    text.extend_from_slice(class_name(class))?;
+    text.push(b'\n')?;
+    Ok(())
+}
+
+/// The text of verdicts: for each platform, which has the verdict in the same place, a line with its word and one for each thing
+/// that is broken there, and then the line of the class.
+pub fn judge_text(
+    alloc: Global,
+    platforms: &[Platform],
+    verdicts: &[Verdict],
+) -> Result<Text, NoMemory>
+    ensures { IfOk result (λ text. text ≡ judge_text platforms.now verdicts.now) }
+{
+    let mut text = Vec::new(alloc);
+    add_verdicts(alloc, &mut text, platforms, verdicts)?;
+    add_class(&mut text, class(verdicts))?;
+    Ok(Text::from_vec(text))
+}
+
+/// The line of a class, as a text.
+pub fn class_text(alloc: Global, class: Class) -> Result<Text, NoMemory>
+    ensures { IfOk result (λ text. text ≡ class_text class) }
+{
+    let mut text = Vec::new(alloc);
+    add_class(&mut text, class)?;
+    Ok(Text::from_vec(text))
+}
