@@ -9,8 +9,8 @@ use Rattle.std.proofs.lemmas.List.{drop_all}
 use Rattle.go_base.proofs.Lists.{rest_from}
 use Rattle.go_model.specs.declared.constants.value.Value.{Value}
 use Rattle.go_model.specs.declared.constants.value.Value.TheVariants as value
-use Rattle.api_features.specs.ConstantTexts.{char_text, hex_2, IsQuoted, quoted_none, quoted_char, quoted_byte, number, truth, string, truth_text}
-use Rattle.api_features.specs.inner.Pushed.{AppendsPiece, AppendsQuoted, AppendsValue}
+use Rattle.api_features.specs.ConstantTexts.{AppendsQuoted, AppendsValue, char_text, hex_2, IsQuoted, quoted_none, quoted_char, quoted_byte, number, truth, string, truth_text}
+use Rattle.api_features.specs.inner.Pushed.{AppendsPiece}
 use Rattle.api_features.proofs.ValueTexts.{Quoting, quoting_more}
 
 pub piece_of_char : (bytes old new : List ℕ) (c n : ℕ) → bytes ≡ encode_utf8 c ++ drop (len_utf8 c) bytes → IsScalar c → n ≡ len_utf8 c → new ≡ old ++ char_text c → AppendsPiece bytes old new n

@@ -11,7 +11,7 @@ use Rattle.api_features.specs.inner.Pushed.{AppendsPiece}
 no_encoded : (c : ℕ) (bytes : List ℕ) → [] ≡ encode_utf8 c ++ bytes → ⊥
 no_encoded c bytes e = omega (arith, ap length e, length-append (encode_utf8 c) bytes, length-encode c, (len_utf8_bounds c).0)
 
-quoted_once : {bytes a : List ℕ} → IsQuoted bytes a → (others b : List ℕ) → bytes ≡ others → IsQuoted others b → a ≡ b
+pub quoted_once : {bytes a : List ℕ} → IsQuoted bytes a → (others b : List ℕ) → bytes ≡ others → IsQuoted others b → a ≡ b
 quoted_once quoted_none others b e quoted_none = refl
 quoted_once quoted_none others b e (quoted_char c {bytes = bytes} s d) = absurd (no_encoded c bytes e)
 quoted_once quoted_none others b e (quoted_byte n d) = absurd (cc)

@@ -1,6 +1,6 @@
 -- Values of constants as text: numbers in decimal, strings quoted in ASCII.
 -- Public source: Go's cmd/api and its package strconv, whose QuoteToASCII quotes so; that strings are written whole is own.
-use Rattle.std.specs.Prelude.{ℕ, ◌/◌, ◌%◌, ◌+◌, Bool, true, false, ◌||◌, ◌==◌, nat_lt, if◌then◌else◌, List, [], ◌∷◌, ◌++◌, codes}
+use Rattle.std.specs.Prelude.{◌≡◌, ℕ, ◌/◌, ◌%◌, ◌+◌, Bool, true, false, ◌||◌, ◌==◌, nat_lt, if◌then◌else◌, List, [], ◌∷◌, ◌++◌, codes}
 use Rattle.std.specs.Char.{IsScalar, encode_utf8}
 use Rattle.std.specs.Fmt.{signed_decimal}
 use Rattle.std.specs.Str.{StartsWithNoChar}
@@ -59,3 +59,11 @@ pub data IsValueText : Value → List ℕ → Type 0 where
   number : {x : _} → IsValueText (value.Int x) (signed_decimal x)
   truth : {b : Bool} → IsValueText (value.Truth b) (truth_text b)
   string : {bytes text : List ℕ} → IsQuoted bytes text → IsValueText (value.Str bytes) (34 ∷ (text ++ 34 ∷ []))
+
+-- bytes went as they stand between quotes
+abbrev pub AppendsQuoted : List ℕ → List ℕ → List ℕ → Type 0
+AppendsQuoted bytes old new = (text : List ℕ) × IsQuoted bytes text × (new ≡ old ++ text)
+
+-- a value went as text
+abbrev pub AppendsValue : Value → List ℕ → List ℕ → Type 0
+AppendsValue value old new = (text : List ℕ) × IsValueText value text × (new ≡ old ++ text)

@@ -1,7 +1,7 @@
 //! Values of constants as text.
 ghost use Rattle.std.specs.Prelude.{◌≡◌, ◌<◌, ◌++◌, length, IfOk, OnOk};
-ghost use Rattle.api_features.specs.ConstantTexts.{char_text, escape_letter, hex_2, hex_4, hex_8, hex_digit, plain_text, truth_text};
-ghost use Rattle.api_features.specs.inner.Pushed.{AppendsQuoted, AppendsValue, AppendsPiece};
+ghost use Rattle.api_features.specs.ConstantTexts.{AppendsQuoted, AppendsValue, char_text, escape_letter, hex_2, hex_4, hex_8, hex_digit, plain_text, truth_text};
+ghost use Rattle.api_features.specs.inner.Pushed.{AppendsPiece};
 
 use go_base::characters::first_char;
 use go_base::memory::NoMemory;
@@ -122,7 +122,8 @@ fn push_piece(out: &mut Vec<u8>, bytes: &[u8]) -> Result<usize, NoMemory>
     }
 }
 
-fn push_quoted(out: &mut Vec<u8>, bytes: &[u8]) -> Result<(), NoMemory>
+/// Appends bytes as they stand between quotes.
+pub fn push_quoted(out: &mut Vec<u8>, bytes: &[u8]) -> Result<(), NoMemory>
     ensures { OnOk result (AppendsQuoted bytes.now out.old.items out.new.items) }
 {
     let mut at = 0;
@@ -139,7 +140,7 @@ fn truth_text(truth: bool) -> &'static [u8]
 }
 
 /// Appends the text of a value.
-pub(crate) fn push_value(out: &mut Vec<u8>, value: &Value) -> Result<(), NoMemory>
+pub fn push_value(out: &mut Vec<u8>, value: &Value) -> Result<(), NoMemory>
     ensures { OnOk result (AppendsValue value.now out.old.items out.new.items) }
 {
     match value {

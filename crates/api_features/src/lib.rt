@@ -1,7 +1,7 @@
 //! The feature lines of worlds.
 #![tactic(auto)]
 
-mod constants;
+pub mod constants;
 mod exported;
 pub mod features;
 mod interface_lines;
@@ -9,4 +9,4 @@ mod method_lines;
 mod struct_lines;
 mod subject;
 mod type_lines;
-mod types;
+pub mod types;

@@ -11,8 +11,9 @@ use go_model::types::term::{Direction, Method, Signature, Term};
 use go_model::types::world::World;
 use itoa::Buffer;
 
+/// The name of a basic type.
 #[rattlefmt::skip]
-fn basic_text(basic: Basic) -> &'static [u8]
+pub fn basic_text(basic: Basic) -> &'static [u8]
     ensures { result.now ≡ basic_text basic }
 {
     match basic {
@@ -36,7 +37,8 @@ fn basic_text(basic: Basic) -> &'static [u8]
     }
 }
 
-fn direction_text(direction: Direction) -> &'static [u8]
+/// How a channel type of a direction begins.
+pub fn direction_text(direction: Direction) -> &'static [u8]
     ensures { result.now ≡ direction_text direction }
 {
     match direction {
@@ -321,7 +323,7 @@ pub(crate) fn push_signature(
 }
 
 /// Appends the type of a constant, or its kind.
-pub(crate) fn push_constant_type(
+pub fn push_constant_type(
     out: &mut Vec<u8>,
     term: &ConstTerm,
     world: &World,

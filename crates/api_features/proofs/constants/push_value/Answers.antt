@@ -3,7 +3,7 @@ use Rattle.std.specs.Fmt.{signed_decimal}
 use Rattle.std.specs.Int.{w128}
 use Rattle.go_model.specs.declared.constants.value.Value.{Value}
 use Rattle.go_model.specs.declared.constants.value.Value.TheVariants as value
-use Rattle.api_features.specs.inner.Pushed.{AppendsValue}
+use Rattle.api_features.specs.ConstantTexts.{AppendsValue}
 use Rattle.api_features.proofs.QuotedPieces.{number_appended, string_appended, truth_appended}
 use Rattle.api_features.proofs.constants.push_value.Goals as goal
 
