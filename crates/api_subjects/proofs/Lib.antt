@@ -1,3 +1,4 @@
 pub mod Changes
+pub mod OneSubject
 pub mod Quotes
 pub mod TypeParts

@@ -2,6 +2,7 @@
 #![tactic(auto)]
 
 pub mod broken;
+pub mod laws;
 pub mod rule;
 mod subjects;
 pub mod told;
