@@ -1,14 +1,17 @@
 //! A question, and its answer.
 use crate::refusal::Refusal;
-use crate::{frozen, units, words};
+use crate::{frozen, requests, units, words};
 use api_advice::advice::{AdviceError, advise};
 use go_rules::operators::operator_allows;
 use go_rules::predeclared::universe;
 use std::alloc::{AllocError, Global};
 
 fn advise_answer(alloc: Global, version: &str, class: &str) -> Result<Vec<u8>, Refusal> {
-    let version = words::version(alloc, version)?;
-    let answer = match advise(&version, words::class(class)?) {
+    let class = words::class(class)?;
+    let Some(version) = words::version(alloc, version)? else {
+        return Ok(Vec::from_slice(alloc, b"not a version")?);
+    };
+    let answer = match advise(&version, class) {
         Ok(it) => format!(in alloc; "{}.{}.{}", it.major, it.minor, it.patch)?,
         Err(AdviceError::NotRelease) => format!(in alloc; "not a release")?,
         Err(AdviceError::NoVersion) => format!(in alloc; "no version")?,
@@ -32,6 +35,7 @@ fn operator_answer(alloc: Global, op: &str, kind: &str) -> Result<Vec<u8>, Refus
 fn found(alloc: Global, parts: &[&str]) -> Result<Vec<u8>, Refusal> {
     match parts {
         ["advise", version, class] => advise_answer(alloc, version, class),
+        ["read_words", words @ ..] => requests::words_answer(alloc, words),
         ["read_frozen", digits] => frozen::read_answer(alloc, digits),
         ["compare", features, required, exceptions] => frozen::compare_answer(
             alloc, features, required, exceptions,

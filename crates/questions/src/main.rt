@@ -1,25 +1,27 @@
-//! Asks the calls that no mode of the gate makes yet. It reads a question a line, whose parts stand between
-//! vertical bars, and prints its answer:
+//! Asks calls of the libraries. It reads a question a line, whose parts stand between vertical bars, and prints its
+//! answer:
 //!
 //! ```text
 //! advise|VERSION|CLASS            read_frozen|DIGITS           universe|NAME
 //! compare|LINES|TEXTS|TEXTS       merge|PLATFORM:LINES..       operator_allows|OP|KIND
 //! assumed_name|PATH               is_under|PATH|ROOT           is_internal_use|module or std|IMPORTER|PATH
-//! canonical_order|NEEDS..         least_on_cycle|NEEDS..
+//! canonical_order|NEEDS..         least_on_cycle|NEEDS..       read_words|DIGITS..
 //! ```
 //!
-//! CLASS is `major`, `minor` or `patch`; DIGITS are the bytes of a file in hexadecimal digits; LINES are
-//! feature lines and TEXTS any texts, with semicolons between them; NEEDS are the numbers of the packages that
-//! a package needs, with blanks between them. `advise` answers a version, `not a release` or `no version`;
-//! `read_frozen` lines with a semicolon behind each, or `not UTF-8 at` and an offset, or `not a feature line:`
-//! and a line's number; `compare` and `merge` lines, the former with their signs; `canonical_order` numbers, or
-//! `cycle at` and one; `least_on_cycle` a number or `none`; `universe` the variant of a name, or `none`. A wrong
-//! line is `not a question`, and one that begins with `#` is printed as it is.
+//! CLASS is `major`, `minor` or `patch`; DIGITS are the bytes of a file, or of a word, in hexadecimal digits; LINES
+//! are feature lines and TEXTS any texts, with semicolons between them; NEEDS are the numbers of the packages that
+//! a package needs, with blanks between them. `advise` answers a version, `not a version`, `not a release` or `no
+//! version`; `read_frozen` lines with a semicolon behind each, or `not UTF-8 at` and an offset, or `not a feature
+//! line:` and a line's number; `compare` and `merge` lines, the former with their signs; `canonical_order` numbers,
+//! or `cycle at` and one; `least_on_cycle` a number or `none`; `universe` the variant of a name, or `none`;
+//! `read_words` a mode and what is asked for, with hexadecimal digits for texts and `none` for what isn't there, or
+//! `bad words`. A wrong line is `not a question`, and one that begins with `#` is printed as it is.
 #![tactic(auto)]
 
 mod answer;
 mod frozen;
 mod refusal;
+mod requests;
 mod units;
 mod words;
 

@@ -7,8 +7,8 @@ use go_base::text::Text;
 use go_model::constants::value::{Basic, BinaryOp, Kind, Untyped};
 use go_model::files::platform::Platform;
 use hex::FromHexError;
-use semver::Version;
-use std::alloc::Global;
+use semver::{Error, Version};
+use std::alloc::{AllocError, Global};
 
 /// The class of this name.
 pub fn class(word: &str) -> Result<Class, Refusal> {
@@ -20,11 +20,12 @@ pub fn class(word: &str) -> Result<Class, Refusal> {
     }
 }
 
-/// The version that the word is.
-pub fn version(alloc: Global, word: &str) -> Result<Version, Refusal> {
+/// The version that the word is, where it is one.
+pub fn version(alloc: Global, word: &str) -> Result<Option<Version>, Refusal> {
     match Version::parse(alloc, word) {
-        Ok(version) => Ok(version),
-        Err(_) => Err(Refusal::NotAQuestion),
+        Ok(version) => Ok(Some(version)),
+        Err(error) if error == Error::from(AllocError) => Err(Refusal::NoMemory),
+        Err(_) => Ok(None),
     }
 }
 

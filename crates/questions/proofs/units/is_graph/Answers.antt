@@ -1,4 +1,4 @@
-use Rattle.std.proofs.Common.{◌<◌, ℕ, length, arith, rules}
+use Rattle.std.proofs.Common.{◌<◌, length, arith, rules}
 use Rattle.go_base.specs.Lists.{Each}
 use Rattle.questions.proofs.Graphs.{next_bound}
 use Rattle.questions.proofs.units.is_graph.Goals as goal
