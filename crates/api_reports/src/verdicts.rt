@@ -13,20 +13,11 @@ use go_base::text::Text;
 use go_model::files::platform::Platform;
 use std::alloc::Global;
 
-fn is_broken(verdict: &Verdict) -> bool
-    ensures { result ≡ has_break verdict.now }
-{
-    match verdict.breaks.items() {
-        [] => false,
-        _ => true,
-    }
-}
-
 /// Whether something is broken on one of the platforms.
 pub fn has_break(verdicts: &[Verdict]) -> bool
     ensures { result ≡ list_any has_break verdicts.now }
 {
-    verdicts.iter().any(|verdict| is_broken(verdict))
+    verdicts.iter().any(|verdict| verdict.has_break())
 }
 
 /// How much is broken on all platforms together. `NoMemory` where that is more than memory can hold.
@@ -95,7 +86,7 @@ fn add_verdict(
     text.extend_from_slice(b"judge ")?;
     text.extend_from_slice(platform.name())?;
     text.extend_from_slice(b": ")?;
-    text.extend_from_slice(verdict_word(is_broken(verdict)))?;
+    text.extend_from_slice(verdict_word(verdict.has_break()))?;
     text.push(b'\n')?;
     add_breaks(alloc, text, platform, verdict.breaks.items())
 }
