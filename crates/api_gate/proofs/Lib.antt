@@ -1,5 +1,9 @@
+pub mod DecisionEnds
 pub mod ListRests
 pub mod OneOutcome
 pub mod OneReport
+pub mod RequestFacts
 pub mod RunEnds
+pub mod ShownVerdicts
+pub mod SignedFeatures
 pub mod WrittenPieces

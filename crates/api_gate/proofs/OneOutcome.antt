@@ -1,75 +1,130 @@
 -- The definitions give one outcome for words and files.
-use Rattle.std.proofs.Common.{◌≡◌, ◌≢◌, ℕ, Bool, Option, Some, List, [], map, Ok, refl, sym, ap, ◌∙◌, subst}
+use Rattle.std.proofs.Common.{◌≡◌, ◌≢◌, ℕ, Bool, true, false, Option, Some, None, List, [], map, Ok, refl, sym, ap, ◌∙◌, subst}
+use Rattle.api_advice.specs.Advice.{IsNext}
+use Rattle.api_advice.specs.declared.class.Class.{Class}
+use Rattle.api_advice.specs.declared.release.Release.{Release}
+use Rattle.api_findings.specs.Findings.{AreFindings, IsFirstRefusal, IsOldTree, shown}
 use Rattle.api_inputs.specs.Inputs.{AreInputs, IsInputRefusal}
 use Rattle.api_inputs.specs.declared.inputs.Inputs.{Inputs}
-use Rattle.api_lines.specs.Lines.{printed}
+use Rattle.api_judge.specs.Verdicts.{class_of}
+use Rattle.api_judge.specs.declared.verdict.Verdict.{Verdict}
+use Rattle.api_lines.specs.Lines.{IsListing, printed}
+use Rattle.api_lines.specs.Merging.{IsMerged}
 use Rattle.api_lines.specs.declared.line.Line.{Line}
-use Rattle.api_texts.specs.declared.lines.Side.{Side}
-use Rattle.api_texts.specs.declared.lines.Side.TheVariants as side
-use Rattle.api_words.specs.Words.{IsRequest}
+use Rattle.api_texts.specs.FixedLines.{words_line}
+use Rattle.api_words.specs.Words.{AreBad, IsRequest}
+use Rattle.api_words.specs.declared.request.AskedVersion.{AskedVersion}
+use Rattle.api_words.specs.declared.request.MadeTrees.{MadeTrees}
 use Rattle.api_words.specs.declared.request.Request.{Request}
-use Rattle.api_worlds.specs.FeatureLists.{AreFeatures, IsFirstRefusal}
 use Rattle.go_model.specs.declared.files.platform.Platform.{Platform}
 use Rattle.go_model.specs.declared.files.tree.Tree.{Tree}
 use Rattle.go_model.specs.files.Trees.{IsTree}
 use Rattle.go_outside.specs.Stores.{Contents}
-use Rattle.api_gate.proofs.OneReport.{same_report}
-use Rattle.api_gate.proofs.RunEnds.{named_module, std_tree}
+use Rattle.api_generator.specs.MadeTrees.{made_contents}
+use Rattle.api_gate.proofs.OneReport.{report_or_refusal, same_report, same_unadvised}
+use Rattle.api_gate.proofs.RequestFacts.{named_module, old_tree, std_tree, takes_version, version_in}
 use Rattle.api_gate.specs.declared.status.Status.TheVariants as status
-use Rattle.api_gate.specs.runs.Outcomes.{EndsWith, bad_words, refused_inputs, refused_platform, reported_features, IsReportOn, Outcome, fault_alone, modules_of, reported}
+use Rattle.api_gate.specs.runs.Outcomes.{AreFound, AreMerged, Asks, EndsWith, bad_words, refused_inputs, refused_platform, refused_advice, reported_findings, IsAdviceRefusal, IsReportOn, Outcome, fault_alone, files_of, modules_of, reported}
 
-module _ (one_request : (words : List (List ℕ)) (r s : Request) → IsRequest words r → IsRequest words s → r ≡ s)
-    (one_inputs : (m : Contents) (r : Request) (a b : Inputs) → AreInputs (Some m) r a → AreInputs (Some m) r b → a ≡ b)
-    (one_refusal : (m : Contents) (r : Request) (a b : List ℕ) → IsInputRefusal (Some m) r a → IsInputRefusal (Some m) r b → a ≡ b)
-    (inputs_or : (m : Contents) (r : Request) (a : Inputs) (line : List ℕ) → AreInputs (Some m) r a → IsInputRefusal (Some m) r line → ⊥)
-    (one_features : (barred : List (List ℕ)) (tree std : Tree) (ps : List Platform) (a b : List Line) → IsTree tree → IsTree std → tree.module ≢ [] → AreFeatures barred tree std ps a → AreFeatures barred tree std ps b → map printed a ≡ map printed b)
-    (one_line : (barred : List (List ℕ)) (tree std : Tree) (s : Side) (ps : List Platform) (a b : List ℕ) → IsFirstRefusal barred tree std s ps a → IsFirstRefusal barred tree std s ps b → a ≡ b)
-    (features_or : (barred : List (List ℕ)) (tree std : Tree) (s : Side) (ps : List Platform) (a : List Line) (line : List ℕ) → AreFeatures barred tree std ps a → IsFirstRefusal barred tree std s ps line → ⊥)
-    (m : Contents) (words : List (List ℕ)) where
-  -- what the inputs of one request have, those of the other have
-  as_other : (P : Request → Inputs → Type 0) (r s : Request) (i j : Inputs) → IsRequest words r → IsRequest words s → AreInputs (Some m) r i → AreInputs (Some m) s j → P r i → P s j
-  as_other P r s i j a b h k p =
-      let request : r ≡ s = one_request words r s a b in
-      let inputs : i ≡ j = one_inputs m s i j (subst (λ (q : Request). AreInputs (Some m) q i) request h) k in
-      subst (λ (q : Request). P q j) request (subst (P r) inputs p)
+-- ---- of one request and its inputs
 
-  refusal_as : (r s : Request) (line : List ℕ) → IsRequest words r → IsRequest words s → IsInputRefusal (Some m) r line → IsInputRefusal (Some m) s line
-  refusal_as r s line a b h = subst (λ (q : Request). IsInputRefusal (Some m) q line) (one_request words r s a b) h
+-- what is found in the inputs ends so
+data FoundEnds (r : Request) (i : Inputs) (lists : List (List Line)) (vs : List Verdict) : Outcome → Type 0 where
+  ends_unadvised : {line : List ℕ} (v : AskedVersion) → takes_version r.mode ≡ true → r.version ≡ Some v → IsAdviceRefusal v (class_of vs) line → FoundEnds r i lists vs (fault_alone status.Refused line)
+  ends_reported : {text : List ℕ} (b : Bool) → IsReportOn r i lists vs b text → FoundEnds r i lists vs (reported b text)
 
-  not_both : (r s : Request) (i : Inputs) (line : List ℕ) → IsRequest words r → IsRequest words s → AreInputs (Some m) r i → IsInputRefusal (Some m) s line → ⊥
-  not_both r s i line a b h k = inputs_or m r i line h (refusal_as s r line b a k)
+-- the inputs end so
+data InputsEnd (r : Request) (i : Inputs) : Outcome → Type 0 where
+  ends_refused : {line : List ℕ} → IsFirstRefusal (modules_of i) i.old_tree i.tree i.std_tree r.platforms line → InputsEnd r i (fault_alone status.Refused line)
+  ends_found : {o : Outcome} (lists : List (List Line)) (vs : List Verdict) → AreFound r i lists vs → FoundEnds r i lists vs o → InputsEnd r i o
 
-  abbrev Refused : List ℕ → Request → Inputs → Type 0
-  Refused line r i = IsFirstRefusal (modules_of i) i.tree i.std_tree side.New r.platforms line
+-- a request ends so over these files
+data RequestEnds (files : Option Contents) (r : Request) : Outcome → Type 0 where
+  ends_unread : {line : List ℕ} → IsInputRefusal files r line → RequestEnds files r (fault_alone status.Refused line)
+  ends_read : {o : Outcome} (i : Inputs) → AreInputs files r i → InputsEnd r i o → RequestEnds files r o
 
-  abbrev Reported : Bool → List ℕ → Request → Inputs → Type 0
-  Reported b text r i = (f : List Line) × AreFeatures (modules_of i) i.tree i.std_tree r.platforms f × IsReportOn r.mode i f b text
+module _ (one_next : (r : Release) (c : Class) (a b : Option Release) → IsNext r c a → IsNext r c b → a ≡ b)
+    (one_merged : (barred : List (List ℕ)) (old : Option Tree) (tree std : Tree) (ps : List Platform) (a b : List (List Line)) (vs ws : List Verdict) (f g : List Line) → IsOldTree barred old → IsTree tree → IsTree std → tree.«module» ≢ []
+    → AreFindings barred old tree std ps a vs → AreFindings barred old tree std ps b ws → IsListing (IsMerged a ps) f → IsListing (IsMerged b ps) g → map printed f ≡ map printed g)
+    (one_verdict : (barred : List (List ℕ)) (old : Option Tree) (tree std : Tree) (ps : List Platform) (a b : List (List Line)) (vs ws : List Verdict) → IsOldTree barred old → IsTree tree → IsTree std → tree.«module» ≢ []
+    → AreFindings barred old tree std ps a vs → AreFindings barred old tree std ps b ws → map shown vs ≡ map shown ws)
+    (one_line : (barred : List (List ℕ)) (old : Option Tree) (tree std : Tree) (ps : List Platform) (a b : List ℕ) → IsFirstRefusal barred old tree std ps a → IsFirstRefusal barred old tree std ps b → a ≡ b)
+    (found_or : (barred : List (List ℕ)) (old : Option Tree) (tree std : Tree) (ps : List Platform) (a : List (List Line)) (vs : List Verdict) (line : List ℕ) → AreFindings barred old tree std ps a vs → IsFirstRefusal barred old tree std ps line → ⊥)
+  where
+    -- ---- of findings
 
-  refused_or : (line text : List ℕ) (b : Bool) (r : Request) (i : Inputs) → Refused line r i → Reported b text r i → ⊥
-  refused_or line text b r i h k = features_or (modules_of i) i.tree i.std_tree side.New r.platforms k.0 line k.1 h
+    module _ (r : Request) (i : Inputs) (fs gs : List (List Line)) (vs ws : List Verdict) (merged : (f g : List Line) → AreMerged r fs f → AreMerged r gs g → map printed f ≡ map printed g) (seen : map shown vs ≡ map shown ws) where
+      one_found : (a b : Outcome) → FoundEnds r i fs vs a → FoundEnds r i gs ws b → a ≡ b
+      one_found a b (ends_unadvised {line = x} v t e h) (ends_unadvised {line = y} w u f k) = ap (fault_alone status.Refused) (same_unadvised one_next r vs ws seen v w x y e f h k)
+      one_found a b (ends_unadvised {line = x} v t e h) (ends_reported {text = y} c k) = absurd (report_or_refusal one_next r i gs vs ws seen c y x v t e k h)
+      one_found a b (ends_reported {text = x} c h) (ends_unadvised {line = y} v t e k) = absurd (report_or_refusal one_next r i fs ws vs (sym seen) c x y v t e h k)
+      one_found a b (ends_reported {text = x} c h) (ends_reported {text = y} d k) = let same = same_report one_next r i fs gs vs ws merged seen c d x y h k in (λ n. reported (same.0 n) (same.1 n))
 
-  one_report : (a b : Bool) (x y : List ℕ) (r : Request) (i : Inputs) → AreInputs (Some m) r i → Reported a x r i → Reported b y r i → reported a x ≡ reported b y
-  one_report a b x y r i inputs h k =
-      let texts = one_features (modules_of i) i.tree i.std_tree r.platforms h.0 k.0 inputs.tree.tree (std_tree (Some m) r.std i.std_tree inputs.std_tree) (named_module i.tree.«module» inputs.tree.module_path) h.1 k.1 in
-      let same = same_report r.mode i h.0 k.0 a b x y texts h.2 k.2 in
-      (λ n. reported (same.0 n) (same.1 n))
+    -- ---- of inputs
 
-  pub same_outcome : (a b : Outcome) → EndsWith words (Some m) a → EndsWith words (Some m) b → a ≡ b
-  same_outcome a b (bad_words n) (bad_words n') = refl
-  same_outcome a b (bad_words n) (refused_inputs s j l) = absurd (n s j)
-  same_outcome a b (bad_words n) (refused_platform s v j k l) = absurd (n s j)
-  same_outcome a b (bad_words n) (reported_features c s v f j k l h) = absurd (n s j)
-  same_outcome a b (refused_inputs r i l) (bad_words n) = absurd (n r i)
-  same_outcome a b (refused_inputs {line = x} r i l) (refused_inputs {line = y} s j k) = ap (fault_alone status.Refused) (one_refusal m s x y (refusal_as r s x i j l) k)
-  same_outcome a b (refused_inputs {line = x} r i l) (refused_platform s v j k h) = absurd (not_both s r v x j i k l)
-  same_outcome a b (refused_inputs {line = x} r i l) (reported_features c s v f j k h g) = absurd (not_both s r v x j i k l)
-  same_outcome a b (refused_platform r u i k l) (bad_words n) = absurd (n r i)
-  same_outcome a b (refused_platform r u i k l) (refused_inputs {line = y} s j h) = absurd (not_both r s u y i j k h)
-  same_outcome a b (refused_platform {line = x} r u i k l) (refused_platform {line = y} s v j h g) =
-      ap (fault_alone status.Refused) (one_line (modules_of v) v.tree v.std_tree side.New s.platforms x y (as_other (Refused x) r s u v i j k h l) g)
-  same_outcome a b (refused_platform {line = x} r u i k l) (reported_features {text = y} c s v f j h g d) = absurd (refused_or x y c s v (as_other (Refused x) r s u v i j k h l) (f, g, d))
-  same_outcome a b (reported_features c r u f i k l h) (bad_words n) = absurd (n r i)
-  same_outcome a b (reported_features c r u f i k l h) (refused_inputs {line = y} s j g) = absurd (not_both r s u y i j k g)
-  same_outcome a b (reported_features {text = x} c r u f i k l h) (refused_platform {line = y} s v j g d) = absurd (refused_or y x c r u (as_other (Refused y) s r v u j i g k d) (f, l, h))
-  same_outcome a b (reported_features {text = x} c r u f i k l h) (reported_features {text = y} e s v g j d q z) =
-      one_report c e x y s v d (as_other (Reported c x) r s u v i j k d (f, l, h)) (g, q, z)
+    module _ (files : Option Contents) (r : Request) (i : Inputs) (inputs : AreInputs files r i) where
+      old_kept : IsOldTree (modules_of i) i.old_tree
+      old_kept = old_tree files r.old i inputs.old_tree
+
+      std_kept : IsTree i.std_tree
+      std_kept = std_tree files r.std i.std_tree inputs.std_tree
+
+      named : i.tree.«module» ≢ []
+      named = named_module i.tree.«module» inputs.tree.module_path
+
+      one_of_inputs : (a b : Outcome) → InputsEnd r i a → InputsEnd r i b → a ≡ b
+      one_of_inputs a b (ends_refused {line = x} h) (ends_refused {line = y} k) = ap (fault_alone status.Refused) (one_line (modules_of i) i.old_tree i.tree i.std_tree r.platforms x y h k)
+      one_of_inputs a b (ends_refused {line = x} h) (ends_found gs ws k q) = absurd (found_or (modules_of i) i.old_tree i.tree i.std_tree r.platforms gs ws x k h)
+      one_of_inputs a b (ends_found fs vs h p) (ends_refused {line = y} k) = absurd (found_or (modules_of i) i.old_tree i.tree i.std_tree r.platforms fs vs y h k)
+      one_of_inputs a b (ends_found fs vs h p) (ends_found gs ws k q) =
+          one_found r i fs gs vs ws
+          (λ f g m n. one_merged (modules_of i) i.old_tree i.tree i.std_tree r.platforms fs gs vs ws f g old_kept inputs.tree.tree std_kept named h k m n)
+          (one_verdict (modules_of i) i.old_tree i.tree i.std_tree r.platforms fs gs vs ws old_kept inputs.tree.tree std_kept named h k)
+          a b p q
+
+    -- ---- of words
+
+    module _ (one_request : (words : List (List ℕ)) (r s : Request) → IsRequest words r → IsRequest words s → r ≡ s)
+        (one_inputs : (m : Contents) (r : Request) (a b : Inputs) → AreInputs (Some m) r a → AreInputs (Some m) r b → a ≡ b)
+        (one_refusal : (m : Contents) (r : Request) (a b : List ℕ) → IsInputRefusal (Some m) r a → IsInputRefusal (Some m) r b → a ≡ b)
+        (inputs_or : (m : Contents) (r : Request) (a : Inputs) (line : List ℕ) → AreInputs (Some m) r a → IsInputRefusal (Some m) r line → ⊥) where
+      one_of_request : (m : Contents) (r : Request) (a b : Outcome) → RequestEnds (Some m) r a → RequestEnds (Some m) r b → a ≡ b
+      one_of_request m r a b (ends_unread {line = x} h) (ends_unread {line = y} k) = ap (fault_alone status.Refused) (one_refusal m r x y h k)
+      one_of_request m r a b (ends_unread {line = x} h) (ends_read j k q) = absurd (inputs_or m r j x k h)
+      one_of_request m r a b (ends_read i h p) (ends_unread {line = y} k) = absurd (inputs_or m r i y h k)
+      one_of_request m r a b (ends_read i h p) (ends_read j k q) = one_of_inputs (Some m) r j k a b (subst (λ (n : Inputs). InputsEnd r n a) (one_inputs m r i j h k) p) q
+
+      -- whatever is made, a run over a store that tells its files is told them
+      one_of_files : (m : Contents) (made : Option MadeTrees) (r : Request) (a b : Outcome) → RequestEnds (files_of (Some m) made) r a → RequestEnds (files_of (Some m) made) r b → a ≡ b
+      one_of_files m None r a b p q = one_of_request m r a b p q
+      one_of_files m (Some t) r a b p q = one_of_request (made_contents t.seed t.size) r a b p q
+
+      module _ (m : Contents) (words : List (List ℕ)) where
+        -- what words end with, their request does
+        as_request : (s : Request) → IsRequest words s → (o : Outcome) → EndsWith words (Some m) o → RequestEnds (files_of (Some m) s.made) s o
+        as_request s is o (bad_words n) = absurd (n s is)
+        as_request s is o (refused_inputs {line = x} r h l) = subst (λ (q : Request). RequestEnds (files_of (Some m) q.made) q (fault_alone status.Refused x)) (one_request words r s h is) (ends_unread l)
+        as_request s is o (refused_platform {line = x} r i a l) =
+            subst (λ (q : Request). RequestEnds (files_of (Some m) q.made) q (fault_alone status.Refused x)) (one_request words r s a.request is) (ends_read i a.inputs (ends_refused l))
+        as_request s is o (refused_advice {line = x} r i v ls vs a f e l) =
+            subst (λ (q : Request). RequestEnds (files_of (Some m) q.made) q (fault_alone status.Refused x)) (one_request words r s a.request is)
+            (ends_read i a.inputs (ends_found ls vs f (ends_unadvised v (version_in words r v a.request e) e l)))
+        as_request s is o (reported_findings {text = x} b r i ls vs a f h) =
+            subst (λ (q : Request). RequestEnds (files_of (Some m) q.made) q (reported b x)) (one_request words r s a.request is) (ends_read i a.inputs (ends_found ls vs f (ends_reported b h)))
+
+        same_by : (s : Request) → IsRequest words s → (a b : Outcome) → EndsWith words (Some m) a → EndsWith words (Some m) b → a ≡ b
+        same_by s is a b p q = one_of_files m s.made s a b (as_request s is a p) (as_request s is b q)
+
+        pub same_outcome : (a b : Outcome) → EndsWith words (Some m) a → EndsWith words (Some m) b → a ≡ b
+        same_outcome a b (bad_words n) q = bad_as n b q
+          where
+            bad_as : AreBad words → (o : Outcome) → EndsWith words (Some m) o → fault_alone status.Words words_line ≡ o
+            bad_as n o (bad_words k) = refl
+            bad_as n o (refused_inputs r h l) = absurd (n r h)
+            bad_as n o (refused_platform r i a l) = absurd (n r a.request)
+            bad_as n o (refused_advice r i v ls vs a f e l) = absurd (n r a.request)
+            bad_as n o (reported_findings c r i ls vs a f h) = absurd (n r a.request)
+        same_outcome a b (refused_inputs r h l) q = same_by r h a b (refused_inputs r h l) q
+        same_outcome a b (refused_platform r i g l) q = same_by r g.request a b (refused_platform r i g l) q
+        same_outcome a b (refused_advice r i v ls vs g f e l) q = same_by r g.request a b (refused_advice r i v ls vs g f e l) q
+        same_outcome a b (reported_findings c r i ls vs g f h) q = same_by r g.request a b (reported_findings c r i ls vs g f h) q

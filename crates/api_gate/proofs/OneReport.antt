@@ -1,78 +1,143 @@
--- Features with the same texts have one report.
-use Rattle.std.proofs.Common.{◌≡◌, ℕ, Bool, true, false, List, [], ◌∷◌, map, refl, sym, ap, ◌∙◌, subst, inl, inr}
-use Rattle.api_frozen.specs.Comparison.{IsLost, IsNew, IsReport, IsSigned, IsSignedAs}
+-- Findings that are shown the same have one report, or one reason for which no version is advised.
+use Rattle.std.proofs.Common.{◌≡◌, ℕ, Bool, ◌||◌, true, false, Option, Some, None, List, [], ◌∷◌, ◌++◌, length, map, refl, sym, ap, ◌∙◌, subst}
+use Rattle.std.proofs.lemmas.List.{length-map}
+use Rattle.std.specs.List.{list_any}
+use mathlib.Core.Bool.{true≢false}
+use Rattle.api_advice.specs.Advice.{IsNext}
+use Rattle.api_advice.specs.declared.class.Class.{Class}
+use Rattle.api_advice.specs.declared.release.Release.{Release}
+use Rattle.api_findings.specs.Findings.{shown}
 use Rattle.api_frozen.specs.declared.signed.Signed.{Signed}
 use Rattle.api_inputs.specs.declared.inputs.Inputs.{Inputs}
-use Rattle.api_lines.specs.Lines.{HasText, printed}
+use Rattle.api_judge.specs.Verdicts.{class_of, has_break}
+use Rattle.api_judge.specs.declared.verdict.Verdict.{Verdict}
+use Rattle.api_lines.specs.Lines.{printed}
 use Rattle.api_lines.specs.declared.line.Line.{Line}
-use Rattle.api_reports.specs.Reports.{has_loss, signed_text, unlines}
+use Rattle.api_reports.specs.Reports.{class_text, features_text, has_loss, judge_text, made_text, signed_text, unlines, version_text}
 use Rattle.api_words.specs.declared.option_name.Mode.{Mode}
 use Rattle.api_words.specs.declared.option_name.Mode.TheVariants as mode
-use Rattle.api_worlds.proofs.OneListing.{in_text, text_in}
-use Rattle.api_worlds.proofs.SortedTexts.{same_lists}
-use Rattle.go_base.specs.Lists.{Has}
-use Rattle.api_gate.specs.runs.Outcomes.{IsReportOn}
+use Rattle.api_words.specs.declared.request.AskedVersion.{AskedVersion}
+use Rattle.api_words.specs.declared.request.MadeTrees.{MadeTrees}
+use Rattle.api_words.specs.declared.request.Request.{Request}
+use Rattle.api_gate.proofs.RequestFacts.{takes_version}
+use Rattle.api_gate.proofs.ShownVerdicts.{breaks_by, class_by, count_by, judge_by}
+use Rattle.api_gate.proofs.SignedFeatures.{same_signed}
+use Rattle.api_gate.specs.runs.Outcomes.{AreMerged, IsAdvice, IsAdviceRefusal, no_release, no_version, IsMadeText, IsReportOn, features_report, frozen_report, judge_report, advise_report, gate_report, make_report, IsSignedReport}
 
-abbrev line_in : Signed → List ℕ
-line_in s = s.line
+some_release : (a b : Release) → ◌≡◌ {A = Option Release} (Some a) (Some b) → a ≡ b
+some_release a b e = cc
 
-line_has : (xs : List Signed) (s : Signed) → Has xs s → Has (map line_in xs) s.line
-line_has [] s h = absurd h
-line_has (x ∷ xs) s (inl e) = inl (ap line_in e)
-line_has (x ∷ xs) s (inr h) = inr (line_has xs s h)
+some_version : (v w : AskedVersion) → ◌≡◌ {A = Option AskedVersion} (Some v) (Some w) → v ≡ w
+some_version v w e = cc
 
-has_line : (xs : List Signed) (text : List ℕ) → Has (map line_in xs) text → (s : Signed) × Has xs s × (s.line ≡ text)
-has_line [] text h = absurd h
-has_line (x ∷ xs) text (inl e) = (x, inl refl, e)
-has_line (x ∷ xs) text (inr h) = let k = has_line xs text h in (k.0, inr k.1, k.2)
+refusal_by : (v : AskedVersion) (vs ws : List Verdict) (x : List ℕ) → map shown vs ≡ map shown ws → IsAdviceRefusal v (class_of vs) x → IsAdviceRefusal v (class_of ws) x
+refusal_by v vs ws x seen h = subst (λ (c : Class). IsAdviceRefusal v c x) (class_by vs ws seen) h
 
-text_as : (f g : List Line) (text : List ℕ) → map printed f ≡ map printed g → HasText f text → HasText g text
-text_as f g text e h = in_text g text (subst (λ (w : List (List ℕ)). Has w text) e (text_in f text h))
+module _ (one_next : (r : Release) (c : Class) (a b : Option Release) → IsNext r c a → IsNext r c b → a ≡ b) where
+  -- ---- advice
 
-module _ (required exceptions : List (List ℕ)) where
-  lost_as : (f g : List Line) (text : List ℕ) → map printed f ≡ map printed g → IsLost f required exceptions text → IsLost g required exceptions text
-  lost_as f g text e l = record { asked = l.asked; missing = λ h. l.missing (text_as g f text (sym e) h); unexcepted = l.unexcepted; narrowed = λ plain c h. l.narrowed plain c (text_as g f plain (sym e) h) }
+  -- a release of the version is its release
+  same_last : (v : AskedVersion) (a b : Release) → v.release ≡ Some a → v.release ≡ Some b → a ≡ b
+  same_last v a b e f = some_release a b (sym e ∙ f)
 
-  new_as : (f g : List Line) (text : List ℕ) → map printed f ≡ map printed g → IsNew f required text → IsNew g required text
-  new_as f g text e n = record { feature = text_as f g text e n.feature; unasked = n.unasked }
+  same_next : (v : AskedVersion) (c : Class) (last last' : Release) (a b : Option Release) → v.release ≡ Some last → v.release ≡ Some last' → IsNext last c a → IsNext last' c b → a ≡ b
+  same_next v c last last' a b e f n k = one_next last' c a b (subst (λ (l : Release). IsNext l c a) (same_last v last last' e f) n) k
 
-  signed_by : (f g : List Line) (lost : Bool) (text : List ℕ) → map printed f ≡ map printed g → IsSignedAs f required exceptions lost text → IsSignedAs g required exceptions lost text
-  signed_by f g true text e s = lost_as f g text e s
-  signed_by f g false text e s = new_as f g text e s
+  pub same_advice : (version : Option AskedVersion) (c : Class) (x y : List ℕ) → IsAdvice version c x → IsAdvice version c y → x ≡ y
+  same_advice None c x y h k = h ∙ sym k
+  same_advice (Some v) c x y h k =
+      let next : h.1 ≡ k.1 = some_release h.1 k.1 (same_next v c h.0 k.0 (Some h.1) (Some k.1) h.2 k.2 h.3 k.3) in
+      h.4 ∙ ap (version_text v.word) next ∙ sym k.4
 
-  signed_as : (f g : List Line) (s : Signed) → map printed f ≡ map printed g → IsSigned f required exceptions s → IsSigned g required exceptions s
-  signed_as f g s e h = signed_by f g s.lost s.line e h
+  pub same_refusal : (v : AskedVersion) (c : Class) (x y : List ℕ) → IsAdviceRefusal v c x → IsAdviceRefusal v c y → x ≡ y
+  same_refusal v c x y (no_release e) (no_release f) = refl
+  same_refusal v c x y (no_release e) (no_version last f n) = absurd (let k : ◌≡◌ {A = Option Release} None (Some last) = sym e ∙ f in cc)
+  same_refusal v c x y (no_version last e n) (no_release f) = absurd (let k : ◌≡◌ {A = Option Release} None (Some last) = sym f ∙ e in cc)
+  same_refusal v c x y (no_version last e n) (no_version last' f k) = refl
 
-  one_sign : (g : List Line) (a b : Bool) (text : List ℕ) → IsSignedAs g required exceptions a text → IsSignedAs g required exceptions b text → a ≡ b
-  one_sign g true true text h k = refl
-  one_sign g true false text h k = absurd (h.missing k.feature)
-  one_sign g false true text h k = absurd (k.missing h.feature)
-  one_sign g false false text h k = refl
+  pub advised_or : (v : AskedVersion) (c : Class) (x y : List ℕ) → IsAdvice (Some v) c x → IsAdviceRefusal v c y → ⊥
+  advised_or v c x y h (no_release e) = let k : ◌≡◌ {A = Option Release} None (Some h.0) = sym e ∙ h.2 in cc
+  advised_or v c x y h (no_version last e n) = let k : ◌≡◌ {A = Option Release} (Some h.1) None = same_next v c h.0 last (Some h.1) None h.2 e h.3 n in cc
 
-  covered : (f g : List Line) (xs ys : List Signed) → map printed f ≡ map printed g → IsReport f required exceptions xs → IsReport g required exceptions ys → (text : List ℕ) → Has (map line_in xs) text → Has (map line_in ys) text
-  covered f g xs ys e a b text h =
-      let k = has_line xs text h in
-      subst (Has (map line_in ys)) k.2 (line_has ys k.0 (b.complete k.0 (signed_as f g k.0 e (a.sound k.0 k.1))))
+  -- versions that are the same are refused for the same reason
+  pub same_unadvised : (r : Request) (vs ws : List Verdict) → map shown vs ≡ map shown ws → (v w : AskedVersion) (x y : List ℕ) → r.version ≡ Some v → r.version ≡ Some w → IsAdviceRefusal v (class_of vs) x → IsAdviceRefusal w (class_of ws) y → x ≡ y
+  same_unadvised r vs ws seen v w x y e f h k =
+      same_refusal w (class_of ws) x y (subst (λ (u : AskedVersion). IsAdviceRefusal u (class_of ws) x) (some_version v w (sym e ∙ f)) (refusal_by v vs ws x seen h)) k
 
-  by_lines : (g : List Line) (xs ys : List Signed) → map line_in xs ≡ map line_in ys → ((s : Signed) → Has xs s → IsSigned g required exceptions s) → ((s : Signed) → Has ys s → IsSigned g required exceptions s) → xs ≡ ys
-  by_lines g [] [] e f h = refl
-  by_lines g [] (y ∷ ys) e f h = absurd (cc)
-  by_lines g (x ∷ xs) [] e f h = absurd (cc)
-  by_lines g (x ∷ xs) (y ∷ ys) e f h =
-      let line : x.line ≡ y.line = cc in
-      let lost : x.lost ≡ y.lost = one_sign g x.lost y.lost y.line (subst (IsSignedAs g required exceptions x.lost) line (f x (inl refl))) (h y (inl refl)) in
-      let rest : xs ≡ ys = by_lines g xs ys (let k : map line_in xs ≡ map line_in ys = cc in k) (λ s k. f s (inr k)) (λ s k. h s (inr k)) in
-      (λ i. record { lost = lost i; line = line i } ∷ rest i)
+  -- and have no report
+  pub report_or_refusal : (r : Request) (i : Inputs) (ls : List (List Line)) (vs ws : List Verdict) → map shown vs ≡ map shown ws → (b : Bool) (x y : List ℕ) (v : AskedVersion) → takes_version r.mode ≡ true → r.version ≡ Some v
+      → IsReportOn r i ls ws b x → IsAdviceRefusal v (class_of vs) y → ⊥
+  report_or_refusal r i ls vs ws seen b x y v t e h k = by h
+    where
+      none : (m : Mode) → r.mode ≡ m → takes_version m ≡ false → ⊥
+      none m f g = true≢false (sym t ∙ ap takes_version f ∙ g)
 
-  pub same_signed : (f g : List Line) (xs ys : List Signed) → map printed f ≡ map printed g → IsReport f required exceptions xs → IsReport g required exceptions ys → xs ≡ ys
-  same_signed f g xs ys e a b =
-      by_lines g xs ys
-      (same_lists (map line_in xs) (map line_in ys) a.ordered b.ordered (covered f g xs ys e a b) (covered g f ys xs (sym e) b a))
-      (λ s h. signed_as f g s e (a.sound s h))
-      b.sound
+      advised : (advice : List ℕ) → IsAdvice r.version (class_of ws) advice → ⊥
+      advised advice a = advised_or v (class_of ws) advice y (subst (λ (o : Option AskedVersion). IsAdvice o (class_of ws) advice) e a) (refusal_by v vs ws y seen k)
 
-pub same_report : (m : Mode) (i : Inputs) (f g : List Line) (a b : Bool) (x y : List ℕ) → map printed f ≡ map printed g → IsReportOn m i f a x → IsReportOn m i g b y → (a ≡ b) × (x ≡ y)
-same_report mode.Features i f g a b x y e h k = (h.0 ∙ sym k.0, h.1 ∙ ap unlines e ∙ sym k.1)
-same_report mode.Frozen i f g a b x y e h k =
-    let lines : h.0 ≡ k.0 = same_signed i.required i.exceptions f g h.0 k.0 e h.1 k.1 in
-    (h.2 ∙ ap has_loss lines ∙ sym k.2, h.3 ∙ ap signed_text lines ∙ sym k.3)
+      by : {b : Bool} {x : List ℕ} → IsReportOn r i ls ws b x → ⊥
+      by (features_report f m a) = none mode.Features m refl
+      by (frozen_report m s) = none mode.Frozen m refl
+      by (judge_report m) = none mode.Judge m refl
+      by (advise_report z m a) = advised z a
+      by (gate_report lost lines z m s a) = advised z a
+      by (make_report first f m a n) = none mode.Make m refl
+
+  -- ---- reports
+
+  module _ (r : Request) (i : Inputs) (fs gs : List (List Line)) (vs ws : List Verdict) (merged : (f g : List Line) → AreMerged r fs f → AreMerged r gs g → map printed f ≡ map printed g)
+      (seen : map shown vs ≡ map shown ws) where
+    same_lost : (a b : Bool) (x y : List ℕ) → IsSignedReport r i fs a x → IsSignedReport r i gs b y → (a ≡ b) × (x ≡ y)
+    same_lost a b x y h k =
+        let lines : h.1 ≡ k.1 = same_signed i.required i.exceptions h.0 k.0 h.1 k.1 (merged h.0 k.0 h.2 k.2) h.3 k.3 in
+        (h.4 ∙ ap has_loss lines ∙ sym k.4, h.5 ∙ ap signed_text lines ∙ sym k.5)
+
+    same_classed : (x y : List ℕ) → IsAdvice r.version (class_of vs) x → IsAdvice r.version (class_of ws) y → x ≡ y
+    same_classed x y h k = same_advice r.version (class_of ws) x y (subst (λ (c : Class). IsAdvice r.version c x) (class_by vs ws seen) h) k
+
+    same_made : (made : Option MadeTrees) (f g : List Line) (x y : List ℕ) → AreMerged r fs f → AreMerged r gs g → IsMadeText made f vs x → IsMadeText made g ws y → x ≡ y
+    same_made None f g x y m n h k = h ∙ sym k
+    same_made (Some t) f g x y m n h k =
+        let many : length f ≡ length g = sym (length-map f printed) ∙ ap length (merged f g m n) ∙ length-map g printed in
+        let broken = count_by vs ws seen in
+        h ∙ (λ j. made_text t.size (many j) (broken j)) ∙ sym k
+
+    -- the report of a mode, by cases
+    abbrev ReportIn : Mode → List (List Line) → List Verdict → Bool → List ℕ → Type 0
+    ReportIn mode.Features ls us b x = (f : List Line) × AreMerged r ls f × (b ≡ false) × (x ≡ features_text f)
+    ReportIn mode.Frozen ls us b x = IsSignedReport r i ls b x
+    ReportIn mode.Judge ls us b x = (b ≡ list_any has_break us) × (x ≡ judge_text r.platforms us)
+    ReportIn mode.Advise ls us b x = (advice : List ℕ) × IsAdvice r.version (class_of us) advice × (b ≡ false) × (x ≡ class_text (class_of us) ++ advice)
+    ReportIn mode.Gate ls us b x = (lost : Bool) × (lines advice : List ℕ) × IsSignedReport r i ls lost lines × IsAdvice r.version (class_of us) advice
+        × (b ≡ lost || list_any has_break us) × (x ≡ lines ++ judge_text r.platforms us ++ advice)
+    ReportIn mode.Make ls us b x = (f : List Line) × (first : List ℕ) × AreMerged r ls f × IsMadeText r.made f us first × (b ≡ false) × (x ≡ first ++ class_text (class_of us))
+
+    in_mode : (ls : List (List Line)) (us : List Verdict) (b : Bool) (x : List ℕ) → IsReportOn r i ls us b x → ReportIn r.mode ls us b x
+    in_mode ls us b x (features_report f m a) = subst (λ (q : Mode). ReportIn q ls us b x) (sym m) (f, a, refl, refl)
+    in_mode ls us b x (frozen_report m s) = subst (λ (q : Mode). ReportIn q ls us b x) (sym m) s
+    in_mode ls us b x (judge_report m) = subst (λ (q : Mode). ReportIn q ls us b x) (sym m) (refl, refl)
+    in_mode ls us b x (advise_report y m a) = subst (λ (q : Mode). ReportIn q ls us b x) (sym m) (y, a, refl, refl)
+    in_mode ls us b x (gate_report lost lines y m s a) = subst (λ (q : Mode). ReportIn q ls us b x) (sym m) (lost, lines, y, s, a, refl, refl)
+    in_mode ls us b x (make_report first f m a t) = subst (λ (q : Mode). ReportIn q ls us b x) (sym m) (f, first, a, t, refl, refl)
+
+    same_in : (m : Mode) (a b : Bool) (x y : List ℕ) → ReportIn m fs vs a x → ReportIn m gs ws b y → (a ≡ b) × (x ≡ y)
+    same_in mode.Features a b x y h k = (h.2 ∙ sym k.2, h.3 ∙ ap unlines (merged h.0 k.0 h.1 k.1) ∙ sym k.3)
+    same_in mode.Frozen a b x y h k = same_lost a b x y h k
+    same_in mode.Judge a b x y h k = (h.0 ∙ breaks_by vs ws seen ∙ sym k.0, h.1 ∙ judge_by r.platforms vs ws seen ∙ sym k.1)
+    same_in mode.Advise a b x y h k =
+        let class = class_by vs ws seen in
+        let advice : h.0 ≡ k.0 = same_classed h.0 k.0 h.1 k.1 in
+        (h.2 ∙ sym k.2, h.3 ∙ (λ j. class_text (class j) ++ advice j) ∙ sym k.3)
+    same_in mode.Gate a b x y h k =
+        let lost : (h.0 ≡ k.0) × (h.1 ≡ k.1) = same_lost h.0 k.0 h.1 k.1 h.3 k.3 in
+        let advice : h.2 ≡ k.2 = same_classed h.2 k.2 h.4 k.4 in
+        let broken = breaks_by vs ws seen in
+        let judged = judge_by r.platforms vs ws seen in
+        (h.5 ∙ (λ j. lost.0 j || broken j) ∙ sym k.5, h.6 ∙ (λ j. lost.1 j ++ judged j ++ advice j) ∙ sym k.6)
+    same_in mode.Make a b x y h k =
+        let class = class_by vs ws seen in
+        let first : h.1 ≡ k.1 = same_made r.made h.0 k.0 h.1 k.1 h.2 k.2 h.3 k.3 in
+        (h.4 ∙ sym k.4, h.5 ∙ (λ j. first j ++ class_text (class j)) ∙ sym k.5)
+
+    pub same_report : (a b : Bool) (x y : List ℕ) → IsReportOn r i fs vs a x → IsReportOn r i gs ws b y → (a ≡ b) × (x ≡ y)
+    same_report a b x y h k = same_in r.mode a b x y (in_mode fs vs a x h) (in_mode gs ws b y k)

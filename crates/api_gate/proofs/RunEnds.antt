@@ -1,83 +1,67 @@
 -- What follows from how a run ends.
-use Rattle.std.proofs.Common.{◌≡◌, ◌≤◌, ◌<◌, ◌+◌, ℕ, zero, suc, Bool, true, false, List, [], ◌∷◌, length, map, take, Option, Some, None, refl, sym, ap, ◌∙◌, subst, ◌⊎◌, inl, inr, Ok, Err, arith}
-use Rattle.std.proofs.lemmas.List.{length-map}
-use Rattle.std.specs.List.{slice_split}
-use Rattle.std.proofs.lemmas.List.Splits.{length-slice_split}
+use Rattle.std.proofs.Common.{◌≡◌, ◌<◌, ℕ, zero, suc, Bool, true, false, List, [], length, take, Option, Some, None, refl, sym, ◌∙◌, subst, ◌⊎◌, inl, inr}
+use Rattle.api_words.specs.Words.{AreBad}
 use Rattle.go_outside.specs.Faults.{Told}
 use Rattle.go_outside.specs.Sinks.{Takes}
 use Rattle.go_outside.specs.Stores.{Contents}
-use Rattle.go_model.specs.declared.files.platform.Platform.{Platform}
-use Rattle.go_model.specs.declared.files.tree.Tree.{Tree}
-use Rattle.go_model.specs.files.Platforms.{name_of}
-use Rattle.go_load.specs.declared.error.LoadError.{LoadError}
-use Rattle.go_model.specs.files.Trees.{IsModulePath, IsTree, are_elements, begins_element, is_element}
-use Rattle.std.specs.Prelude.{Result, if◌then◌else◌}
-use mathlib.Core.Bool.{true≢false}
-use Rattle.api_inputs.specs.Inputs.{AnswersInputs, AreInputs}
-use Rattle.api_inputs.specs.Reads.{MayHaveStd, no_tree}
-use Rattle.api_inputs.specs.declared.inputs.InputError.{InputError}
-use Rattle.api_inputs.specs.declared.inputs.InputError.TheVariants as input
-use Rattle.api_inputs.specs.declared.inputs.Inputs.{Inputs}
-use Rattle.api_words.specs.Words.{AreBad, ArePlatforms, IsRequest, is_comma}
-use Rattle.api_words.specs.declared.request.Request.{Request}
-use Rattle.api_worlds.specs.PlatformWorlds.{CountsAtMost}
-use Rattle.api_gate.specs.declared.reports.decision.Decision.{Decision}
-use Rattle.api_gate.specs.declared.reports.decision.Decision.TheVariants as decision
 use Rattle.api_gate.specs.declared.status.Status.{Status}
 use Rattle.api_gate.specs.declared.status.Status.TheVariants as status
-use Rattle.api_gate.specs.inner.Decisions.{IsOfInputs, decision_of, outcome_of}
 use Rattle.api_gate.specs.runs.Effects.{AnyFailed, Change, Effects, Failed, Took, TookSome}
-use Rattle.api_gate.specs.runs.Outcomes.{ChecksAtMost, checked, no_check, EndsWith, bad_words, refused_inputs, refused_platform, reported_features, Outcome, fault_alone, modules_of}
+use Rattle.api_gate.specs.runs.Outcomes.{EndsWith, bad_words, refused_inputs, refused_platform, refused_advice, reported_findings, Outcome}
 use Rattle.api_gate.specs.runs.Runs.{Delivers, whole, output_failed, line_failed, Ends, IsComplete, MayWrite, defined, store_failed, no_memory, Writes}
 
 -- the line for bad words comes for them alone, and the statuses of faults never
 words_of : (words : List (List ℕ)) (told : Option Contents) (o : Outcome) → EndsWith words told o → o.status ≡ status.Words → AreBad words
 words_of words told o (bad_words n) s = n
 words_of words told o (refused_inputs r i l) s = absurd (cc)
-words_of words told o (refused_platform r i j k l) s = absurd (cc)
-words_of words told o (reported_features true r i f j k l h) s = absurd (cc)
-words_of words told o (reported_features false r i f j k l h) s = absurd (cc)
+words_of words told o (refused_platform r i a l) s = absurd (cc)
+words_of words told o (refused_advice r i v ls vs a f e l) s = absurd (cc)
+words_of words told o (reported_findings true r i ls vs a f h) s = absurd (cc)
+words_of words told o (reported_findings false r i ls vs a f h) s = absurd (cc)
 
 no_read : (words : List (List ℕ)) (told : Option Contents) (o : Outcome) → EndsWith words told o → o.status ≡ status.ReadFault → ⊥
 no_read words told o (bad_words n) s = cc
 no_read words told o (refused_inputs r i l) s = cc
-no_read words told o (refused_platform r i j k l) s = cc
-no_read words told o (reported_features true r i f j k l h) s = cc
-no_read words told o (reported_features false r i f j k l h) s = cc
+no_read words told o (refused_platform r i a l) s = cc
+no_read words told o (refused_advice r i v ls vs a f e l) s = cc
+no_read words told o (reported_findings true r i ls vs a f h) s = cc
+no_read words told o (reported_findings false r i ls vs a f h) s = cc
 
 no_write : (words : List (List ℕ)) (told : Option Contents) (o : Outcome) → EndsWith words told o → o.status ≡ status.WriteFault → ⊥
 no_write words told o (bad_words n) s = cc
 no_write words told o (refused_inputs r i l) s = cc
-no_write words told o (refused_platform r i j k l) s = cc
-no_write words told o (reported_features true r i f j k l h) s = cc
-no_write words told o (reported_features false r i f j k l h) s = cc
+no_write words told o (refused_platform r i a l) s = cc
+no_write words told o (refused_advice r i v ls vs a f e l) s = cc
+no_write words told o (reported_findings true r i ls vs a f h) s = cc
+no_write words told o (reported_findings false r i ls vs a f h) s = cc
 
 -- bad words end with their line
 bad_end : (words : List (List ℕ)) (told : Option Contents) (o : Outcome) → AreBad words → EndsWith words told o → (o.status ≡ status.Words) × (o.output ≡ [])
 bad_end words told o bad (bad_words n) = (refl, refl)
 bad_end words told o bad (refused_inputs r i l) = absurd (bad r i)
-bad_end words told o bad (refused_platform r i j k l) = absurd (bad r j)
-bad_end words told o bad (reported_features b r i f j k l h) = absurd (bad r j)
+bad_end words told o bad (refused_platform r i a l) = absurd (bad r a.request)
+bad_end words told o bad (refused_advice r i v ls vs a f e l) = absurd (bad r a.request)
+bad_end words told o bad (reported_findings b r i ls vs a f h) = absurd (bad r a.request)
 
 module _ (words : List (List ℕ)) (store : Change Contents) where
   written_words : (o : Outcome) → MayWrite words store o → o.status ≡ status.Words → AreBad words
   written_words o (defined e) s = words_of words store.told_before o e s
-  written_words o (store_failed r i f) s = absurd (cc)
+  written_words o (store_failed r i e f) s = absurd (cc)
   written_words o no_memory s = absurd (cc)
 
   written_read : (o : Outcome) → MayWrite words store o → o.status ≡ status.ReadFault → Failed store
   written_read o (defined e) s = absurd (no_read words store.told_before o e s)
-  written_read o (store_failed r i f) s = f
+  written_read o (store_failed r i e f) s = f
   written_read o no_memory s = absurd (cc)
 
   never_write : (o : Outcome) → MayWrite words store o → o.status ≡ status.WriteFault → ⊥
   never_write o (defined e) s = no_write words store.told_before o e s
-  never_write o (store_failed r i f) s = cc
+  never_write o (store_failed r i e f) s = cc
   never_write o no_memory s = cc
 
   written_bad : (o : Outcome) → AreBad words → MayWrite words store o → ((o.status ≡ status.Words) ⊎ (o.status ≡ status.NoMemory)) × (o.output ≡ [])
   written_bad o bad (defined e) = let b : (o.status ≡ status.Words) × (o.output ≡ []) = bad_end words store.told_before o bad e in (inl b.0, b.1)
-  written_bad o bad (store_failed r i f) = absurd (bad r i)
+  written_bad o bad (store_failed r i e f) = absurd (bad r i)
   written_bad o bad no_memory = (inr refl, refl)
 
 -- the status is that of what was delivered, or that of a write fault
@@ -138,7 +122,7 @@ module _ (one : (words : List (List ℕ)) (m : Contents) (a b : Outcome) → End
   wrote words run got m o p told e none (defined d) w =
       let same : p ≡ o = one words m p o (subst (λ (t : Option Contents). EndsWith words t p) told d) e in
       inl (subst (λ (q : Outcome). Writes q run.output run.error_output got) same w)
-  wrote words run got m o p told e none (store_failed r i f) w = absurd (none (inl f))
+  wrote words run got m o p told e none (store_failed r i n f) w = absurd (none (inl f))
   wrote words run got m o p told e none no_memory w = inr w.ended
 
   complete_by : (words : List (List ℕ)) (run : Effects) (got : Status) (told : Option Contents) → run.store.told_before ≡ told → Ends words run got → Told told (λ m. (o : Outcome) → EndsWith words (Some m) o → (AnyFailed run → ⊥) → Writes o run.output run.error_output got ⊎ (got ≡ status.NoMemory))
@@ -147,49 +131,3 @@ module _ (one : (words : List (List ℕ)) (m : Contents) (a b : Outcome) → End
 
   pub ends_complete : (words : List (List ℕ)) (run : Effects) (got : Status) → Ends words run got → IsComplete words run got
   ends_complete words run got h = complete_by words run got run.store.told_before refl h
-
--- ---- what a request decides
-
--- a request has a platform
-pub some_platform : (words : List (List ℕ)) (r : Request) → IsRequest words r → 0 < length r.platforms
-some_platform words r i = by i.asked.platforms.0 i.asked.platforms.2
-  where
-    by : (given : Option (List ℕ)) → ArePlatforms given r.platforms → 0 < length r.platforms
-    by None e = subst (λ (ps : List Platform). 0 < length ps) (sym e) (omega arith)
-    by (Some value) h = omega (arith, ap length h.0, length-slice_split is_comma value, length-map r.platforms name_of)
-
--- the trees of inputs keep what they have to
-pub std_tree : (told : Option Contents) (root : Option (List ℕ)) (t : Tree) → MayHaveStd told root (Ok t) → IsTree t
-std_tree told None t e = subst IsTree (sym (same e)) (record { named = inl refl; few = omega arith; held = tt })
-  where
-    same : ◌≡◌ {A = Result Tree LoadError} (Ok t) (Ok no_tree) → t ≡ no_tree
-    same e = cc
-std_tree told (Some root) t h = h.tree
-
-pub named_module : (path : List ℕ) → IsModulePath path → path ≡ [] → ⊥
-unfolding is_element begins_element
-named_module path m e = true≢false (sym (subst (λ (w : List ℕ). are_elements w ≡ true) e m.0))
-
-module _ (words : List (List ℕ)) (store : Change Contents) (r : Request) (is : IsRequest words r) where
-  -- what isn't read gives what may be written
-  unread_as : (e : InputError) → AnswersInputs store.told_before r store.faults_before store.faults_after (Err e) → MayWrite words store (outcome_of (decision_of e))
-  unread_as (input.Refused line) a = defined (refused_inputs r is a)
-  unread_as input.ReadFault a = store_failed r is a
-  unread_as input.NoMemory a = no_memory
-
-  pub unread_writes : (e : InputError) (d : Decision) → d ≡ decision_of e → AnswersInputs store.told_before r store.faults_before store.faults_after (Err e) → MayWrite words store (outcome_of d)
-  unread_writes e d same a = subst (λ (x : Decision). MayWrite words store (outcome_of x)) (sym same) (unread_as e a)
-
-  -- and so do inputs
-  pub inputs_write : (i : Inputs) (d : Decision) → AreInputs store.told_before r i → IsOfInputs r i d → MayWrite words store (outcome_of d)
-  inputs_write i (decision.Report text) a h = defined (reported_features false r i h.0 is a h.1 h.2)
-  inputs_write i (decision.Broken text) a h = defined (reported_features true r i h.0 is a h.1 h.2)
-  inputs_write i decision.Words a h = absurd h
-  inputs_write i (decision.Refused line) a h = defined (refused_platform r i is a h)
-  inputs_write i decision.ReadFault a h = absurd h
-  inputs_write i decision.NoMemory a h = no_memory
-
-pub inputs_check : (words : List (List ℕ)) (told : Option Contents) (r : Request) (i : Inputs) (before now : ℕ) → IsRequest words r → AreInputs told r i
-    → (now ≤ before) ⊎ CountsAtMost (modules_of i) i.tree i.std_tree r.platforms before now → ChecksAtMost words told before now
-inputs_check words told r i before now is a (inl h) = no_check h
-inputs_check words told r i before now is a (inr h) = checked r i is a h

@@ -3,9 +3,10 @@ ghost use Rattle.std.specs.Prelude.{◌≡◌, List, ℕ, Some};
 ghost use Rattle.go_outside.specs.Stores.{Contents};
 ghost use Rattle.api_gate.specs.runs.Outcomes.{EndsWith, Outcome};
 
+use api_advice::laws::one_next;
+use api_findings::laws::one_finding;
 use api_inputs::laws::one_inputs;
 use api_words::laws::one_request;
-use api_worlds::laws::one_features;
 
 /// The definitions give at most one outcome for the words and the files.
 pub fn one_outcome()
@@ -13,5 +14,6 @@ pub fn one_outcome()
 {
     one_request();
     one_inputs();
-    one_features();
+    one_finding();
+    one_next();
 }

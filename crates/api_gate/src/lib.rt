@@ -3,5 +3,6 @@
 
 pub mod laws;
 mod reports;
+mod requests;
 pub mod run;
 pub mod status;

@@ -1,20 +1,34 @@
 -- What the steps of a run decide, and the outcome that a decision is.
-use Rattle.std.specs.Prelude.{◌≡◌, ℕ, Bool, true, false, List, []}
+use Rattle.std.specs.Prelude.{◌≡◌, ◌≤◌, ◌||◌, ◌⊎◌, ℕ, Bool, true, false, List, [], ◌++◌, Option, Some, None, Result, Ok, Err}
+use Rattle.std.specs.List.{list_any}
+use Rattle.api_advice.specs.declared.class.Class.{Class}
+use Rattle.api_advice.specs.declared.release.Release.{Release}
+use Rattle.api_findings.specs.Checks.{CountsAtMost}
+use Rattle.api_findings.specs.Findings.{IsFirstRefusal}
+use Rattle.api_frozen.specs.Comparison.{IsReport}
 use Rattle.api_frozen.specs.declared.signed.Signed.{Signed}
+use Rattle.api_inputs.specs.Inputs.{AreInputs, IsInputRefusal}
 use Rattle.api_inputs.specs.declared.inputs.InputError.{InputError}
 use Rattle.api_inputs.specs.declared.inputs.InputError.TheVariants as input
 use Rattle.api_inputs.specs.declared.inputs.Inputs.{Inputs}
+use Rattle.api_judge.specs.Verdicts.{class_of, has_break}
+use Rattle.api_judge.specs.declared.verdict.Verdict.{Verdict}
 use Rattle.api_lines.specs.declared.line.Line.{Line}
-use Rattle.api_reports.specs.Reports.{has_loss, signed_text}
+use Rattle.api_reports.specs.Reports.{class_text, features_text, has_loss, judge_text, signed_text, version_text}
 use Rattle.api_texts.specs.FixedLines.{memory_line, read_line, words_line}
-use Rattle.api_texts.specs.declared.lines.Side.TheVariants as side
-use Rattle.api_words.specs.declared.option_name.Mode.{Mode}
+use Rattle.api_words.specs.declared.request.AskedVersion.{AskedVersion}
+use Rattle.api_words.specs.declared.request.MadeTrees.{MadeTrees}
 use Rattle.api_words.specs.declared.request.Request.{Request}
-use Rattle.api_worlds.specs.FeatureLists.{AreFeatures, IsFirstRefusal}
+use Rattle.api_worlds.specs.declared.error.PlatformError.{PlatformError}
+use Rattle.api_worlds.specs.declared.error.PlatformError.TheVariants as platform
+use Rattle.go_outside.specs.Faults.{Rose}
+use Rattle.go_outside.specs.Stores.{Contents}
+use Rattle.api_gate.specs.declared.reports.advice.AdviceFault.{AdviceFault}
+use Rattle.api_gate.specs.declared.reports.advice.AdviceFault.TheVariants as fault
 use Rattle.api_gate.specs.declared.reports.decision.Decision.{Decision}
 use Rattle.api_gate.specs.declared.reports.decision.Decision.TheVariants.{Report, Broken, Words, Refused, ReadFault, NoMemory}
 use Rattle.api_gate.specs.declared.status.Status.TheVariants as status
-use Rattle.api_gate.specs.runs.Outcomes.{IsReportOn, Outcome, fault_alone, modules_of, reported}
+use Rattle.api_gate.specs.runs.Outcomes.{AreFound, AreMerged, IsAdvice, IsAdviceRefusal, IsMadeText, IsReportOn, Outcome, fault_alone, modules_of, reported}
 
 -- what a decision writes, and its status
 abbrev pub outcome_of : Decision → Outcome
@@ -25,34 +39,94 @@ outcome_of (Refused line) = fault_alone status.Refused line
 outcome_of ReadFault = fault_alone status.ReadFault read_line
 outcome_of NoMemory = fault_alone status.NoMemory memory_line
 
--- a report with a property, but for want of memory
-abbrev pub Reports : (Bool → List ℕ → Type 0) → Decision → Type 0
-Reports P (Report text) = P false text
-Reports P (Broken text) = P true text
-Reports P Words = ⊥
-Reports P (Refused line) = ⊥
-Reports P ReadFault = ⊥
-Reports P NoMemory = Unit {0}
-
--- the text of signed lines, and whether one is lost
-abbrev pub IsSignedText : List Signed → Bool → List ℕ → Type 0
-IsSignedText lines is_broken text = (is_broken ≡ has_loss lines) × (text ≡ signed_text lines)
-
--- a report of a mode on features that the inputs have on the platforms
-abbrev pub IsReportOf : Request → Inputs → Bool → List ℕ → Type 0
-IsReportOf r i is_broken text = (features : List Line) × AreFeatures (modules_of i) i.tree i.std_tree r.platforms features × IsReportOn r.mode i features is_broken text
-
--- what inputs decide: such a report, or the fault line of the first platform on which they are refused
-abbrev pub IsOfInputs : Request → Inputs → Decision → Type 0
-IsOfInputs r i (Report text) = IsReportOf r i false text
-IsOfInputs r i (Broken text) = IsReportOf r i true text
-IsOfInputs r i Words = ⊥
-IsOfInputs r i (Refused line) = IsFirstRefusal (modules_of i) i.tree i.std_tree side.New r.platforms line
-IsOfInputs r i ReadFault = ⊥
-IsOfInputs r i NoMemory = Unit {0}
-
 -- what the error of reading inputs decides
 abbrev pub decision_of : InputError → Decision
 decision_of (input.Refused line) = Refused line
 decision_of input.ReadFault = ReadFault
 decision_of input.NoMemory = NoMemory
+
+-- what the error of what is found decides
+abbrev pub unfound : PlatformError → Decision
+unfound (platform.Refused line) = Refused line
+unfound platform.NoMemory = NoMemory
+
+-- the report with this text, in which a line is lost or something is broken or not
+abbrev pub report_of : Bool → List ℕ → Decision
+report_of true text = Broken text
+report_of false text = Report text
+
+-- what it decides that no version is advised
+abbrev pub unadvised : AdviceFault → Decision
+unadvised (fault.Refused line) = Refused line
+unadvised fault.NoMemory = NoMemory
+
+-- ---- parts of reports
+
+-- the text of the features on all platforms
+abbrev pub IsFeaturesText : Request → List (List Line) → List ℕ → Type 0
+IsFeaturesText r lists text = (features : List Line) × AreMerged r lists features × (text ≡ features_text features)
+
+-- what these features lost and gained
+abbrev pub IsComparison : Inputs → List Line → Bool → List ℕ → Type 0
+IsComparison i features lost text = (lines : List Signed) × IsReport features i.required i.exceptions lines × (lost ≡ has_loss lines) × (text ≡ signed_text lines)
+
+-- a fault with this line, but for want of memory
+abbrev pub IsFaultOf : List ℕ → AdviceFault → Type 0
+IsFaultOf line (fault.Refused told) = told ≡ line
+IsFaultOf line fault.NoMemory = Unit {0}
+
+-- the text of a version that follows, but for want of memory
+abbrev pub IsVersionText : AskedVersion → Release → Result (List ℕ) AdviceFault → Type 0
+IsVersionText v next (Ok text) = text ≡ version_text v.word next
+IsVersionText v next (Err (fault.Refused line)) = ⊥
+IsVersionText v next (Err fault.NoMemory) = Unit {0}
+
+-- the advice, or why there is none; want of memory may come at any time
+abbrev pub AnswersAdvice : Option AskedVersion → Class → Result (List ℕ) AdviceFault → Type 0
+AnswersAdvice version c (Ok text) = IsAdvice version c text
+AnswersAdvice version c (Err (fault.Refused line)) = (v : AskedVersion) × (version ≡ Some v) × IsAdviceRefusal v c line
+AnswersAdvice version c (Err fault.NoMemory) = Unit {0}
+
+-- what the generator's trees have, and the class of the release
+abbrev pub IsClassedText : Request → List Line → List Verdict → List ℕ → Type 0
+IsClassedText r features vs text = (first : List ℕ) × IsMadeText r.made features vs first × (text ≡ first ++ class_text (class_of vs))
+
+abbrev pub IsMakeText : Request → List (List Line) → List Verdict → List ℕ → Type 0
+IsMakeText r lists vs text = (features : List Line) × AreMerged r lists features × IsClassedText r features vs text
+
+-- the report of the mode `gate` with these signed lines and this advice, but for want of memory
+abbrev pub IsGateDecision : Request → List Verdict → Bool → List ℕ → List ℕ → Decision → Type 0
+IsGateDecision r vs lost lines advice d = (d ≡ NoMemory) ⊎ (d ≡ report_of (lost || list_any has_break vs) (lines ++ judge_text r.platforms vs ++ advice))
+
+-- ---- decisions
+
+-- what findings decide: the report of the request, or why no version is advised
+abbrev pub IsOfFindings : Request → Inputs → List (List Line) → List Verdict → Decision → Type 0
+IsOfFindings r i lists vs (Report text) = IsReportOn r i lists vs false text
+IsOfFindings r i lists vs (Broken text) = IsReportOn r i lists vs true text
+IsOfFindings r i lists vs Words = ⊥
+IsOfFindings r i lists vs (Refused line) = (v : AskedVersion) × (r.version ≡ Some v) × IsAdviceRefusal v (class_of vs) line
+IsOfFindings r i lists vs ReadFault = ⊥
+IsOfFindings r i lists vs NoMemory = Unit {0}
+
+-- what inputs decide: what is found in them decides so, or a platform refuses them
+pub data IsOfInputs (r : Request) (i : Inputs) : Decision → Type 0 where
+  of_findings : {d : Decision} (lists : List (List Line)) (vs : List Verdict) → AreFound r i lists vs → IsOfFindings r i lists vs d → IsOfInputs r i d
+  of_platform : {line : List ℕ} → IsFirstRefusal (modules_of i) i.old_tree i.tree i.std_tree r.platforms line → IsOfInputs r i (Refused line)
+  no_room : IsOfInputs r i NoMemory
+
+-- what a store decides that told this and counted so many faults before and after: its inputs decide so, or they aren't read
+pub data IsOfStore (told : Option Contents) (before now : ℕ) (r : Request) : Decision → Type 0 where
+  of_inputs : {d : Decision} (i : Inputs) → AreInputs told r i → IsOfInputs r i d → IsOfStore told before now r d
+  of_refusal : {line : List ℕ} → IsInputRefusal told r line → IsOfStore told before now r (Refused line)
+  of_fault : Rose before now → IsOfStore told before now r ReadFault
+  no_space : IsOfStore told before now r NoMemory
+
+-- how many packages are checked for a request over files: none, or at most those of its inputs
+abbrev pub ChecksFor : Option Contents → Request → ℕ → ℕ → Type 0
+ChecksFor told r before now = (now ≤ before) ⊎ ((i : Inputs) × AreInputs told r i × CountsAtMost (modules_of i) i.old_tree i.tree i.std_tree r.platforms before now)
+
+-- what the generator is asked for is few enough
+abbrev pub IsFew : Option MadeTrees → Type 0
+IsFew None = Unit {0}
+IsFew (Some m) = (1 ≤ m.size) × (m.size ≤ 2000)

@@ -90,13 +90,17 @@ pub data IsReportOn (r : Request) (i : Inputs) (lists : List (List Line)) (vs : 
   features_report : (features : List Line) → r.mode ≡ mode.Features → AreMerged r lists features → IsReportOn r i lists vs false (features_text features)
   frozen_report : {is_broken : Bool} {text : List ℕ} → r.mode ≡ mode.Frozen → IsSignedReport r i lists is_broken text → IsReportOn r i lists vs is_broken text
   judge_report : r.mode ≡ mode.Judge → IsReportOn r i lists vs (list_any has_break vs) (judge_text r.platforms vs)
-  advise_report : {advice : List ℕ} → r.mode ≡ mode.Advise → IsAdvice r.version (class_of vs) advice → IsReportOn r i lists vs false (class_text (class_of vs) ++ advice)
-  gate_report : {is_broken : Bool} {text advice : List ℕ} → r.mode ≡ mode.Gate → IsSignedReport r i lists is_broken text → IsAdvice r.version (class_of vs) advice
+  advise_report : (advice : List ℕ) → r.mode ≡ mode.Advise → IsAdvice r.version (class_of vs) advice → IsReportOn r i lists vs false (class_text (class_of vs) ++ advice)
+  gate_report : (is_broken : Bool) (text advice : List ℕ) → r.mode ≡ mode.Gate → IsSignedReport r i lists is_broken text → IsAdvice r.version (class_of vs) advice
       → IsReportOn r i lists vs (is_broken || list_any has_break vs) (text ++ judge_text r.platforms vs ++ advice)
-  make_report : {text : List ℕ} (features : List Line) → r.mode ≡ mode.Make → AreMerged r lists features → IsMadeText r.made features vs text
+  make_report : (text : List ℕ) (features : List Line) → r.mode ≡ mode.Make → AreMerged r lists features → IsMadeText r.made features vs text
       → IsReportOn r i lists vs false (text ++ class_text (class_of vs))
 
 -- ---- outcomes
+
+-- this is found in the trees of the inputs
+abbrev pub AreFound : Request → Inputs → List (List Line) → List Verdict → Type 0
+AreFound r i lists vs = AreFindings (modules_of i) i.old_tree i.tree i.std_tree r.platforms lists vs
 
 module _ (words : List (List ℕ)) (told : Option Contents) where
   -- the words make this request, and these are its inputs
@@ -104,19 +108,15 @@ module _ (words : List (List ℕ)) (told : Option Contents) where
     pub request : IsRequest words r
     pub inputs : AreInputs (files_of told r.made) r i
 
-  -- and this is found there
-  abbrev pub FindsFor : Request → Inputs → List (List Line) → List Verdict → Type 0
-  FindsFor r i lists vs = AreFindings (modules_of i) i.old_tree i.tree i.std_tree r.platforms lists vs
-
   -- what the words end with, over a store that tells this: the first refusal in this order, or the report
   pub data EndsWith : Outcome → Type 0 where
     bad_words : AreBad words → EndsWith (fault_alone status.Words words_line)
     refused_inputs : {line : List ℕ} (r : Request) → IsRequest words r → IsInputRefusal (files_of told r.made) r line → EndsWith (fault_alone status.Refused line)
     refused_platform : {line : List ℕ} (r : Request) (i : Inputs) → Asks r i → IsFirstRefusal (modules_of i) i.old_tree i.tree i.std_tree r.platforms line
         → EndsWith (fault_alone status.Refused line)
-    refused_advice : {line : List ℕ} (r : Request) (i : Inputs) (v : AskedVersion) (lists : List (List Line)) (vs : List Verdict) → Asks r i → FindsFor r i lists vs
+    refused_advice : {line : List ℕ} (r : Request) (i : Inputs) (v : AskedVersion) (lists : List (List Line)) (vs : List Verdict) → Asks r i → AreFound r i lists vs
         → r.version ≡ Some v → IsAdviceRefusal v (class_of vs) line → EndsWith (fault_alone status.Refused line)
-    reported_findings : {text : List ℕ} (is_broken : Bool) (r : Request) (i : Inputs) (lists : List (List Line)) (vs : List Verdict) → Asks r i → FindsFor r i lists vs
+    reported_findings : {text : List ℕ} (is_broken : Bool) (r : Request) (i : Inputs) (lists : List (List Line)) (vs : List Verdict) → Asks r i → AreFound r i lists vs
         → IsReportOn r i lists vs is_broken text → EndsWith (reported is_broken text)
 
   -- a counter of checks rises by at most the packages of both trees on the request's platforms together, or stays

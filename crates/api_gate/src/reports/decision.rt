@@ -1,15 +1,17 @@
 //! What a run is to write, before a byte of it is written.
+use crate::reports::advice::AdviceFault;
 use crate::status::Status;
 use api_inputs::inputs::InputError;
 use api_texts::fixed::{memory_line, read_line, words_line};
+use api_worlds::error::PlatformError;
 use go_base::text::Text;
 
 /// What a run is to write.
 #[derive(Debug, Drop)]
 pub enum Decision {
-    /// The whole report, in which nothing is lost.
+    /// The whole report, in which nothing is lost or broken.
     Report(Text),
-    /// The whole report, in which a line is lost.
+    /// The whole report, in which a line is lost or something is broken.
     Broken(Text),
     /// The words aren't good.
     Words,
@@ -23,7 +25,7 @@ pub enum Decision {
 
 impl Decision {
     ghost use Rattle.std.specs.Prelude.{◌≡◌};
-    ghost use Rattle.api_gate.specs.inner.Decisions.{decision_of, outcome_of};
+    ghost use Rattle.api_gate.specs.inner.Decisions.{decision_of, outcome_of, report_of, unadvised, unfound};
 
     /// What is decided where a run isn't given what it reads.
     pub(crate) fn unread(error: InputError) -> Decision
@@ -33,6 +35,37 @@ impl Decision {
             InputError::Refused(line) => Decision::Refused(line),
             InputError::ReadFault => Decision::ReadFault,
             InputError::NoMemory => Decision::NoMemory,
+        }
+    }
+
+    /// What is decided where nothing is found in the trees.
+    pub(crate) fn unfound(error: PlatformError) -> Decision
+        ensures { result ≡ unfound error }
+    {
+        match error {
+            PlatformError::Refused(line) => Decision::Refused(line),
+            PlatformError::NoMemory => Decision::NoMemory,
+        }
+    }
+
+    /// The report with this text.
+    pub(crate) fn report(is_broken: bool, text: Text) -> Decision
+        ensures { result ≡ report_of is_broken text }
+    {
+        if is_broken {
+            Decision::Broken(text)
+        } else {
+            Decision::Report(text)
+        }
+    }
+
+    /// What is decided where no version is advised.
+    pub(crate) fn unadvised(fault: AdviceFault) -> Decision
+        ensures { result ≡ unadvised fault }
+    {
+        match fault {
+            AdviceFault::Refused(line) => Decision::Refused(line),
+            AdviceFault::NoMemory => Decision::NoMemory,
         }
     }
 

@@ -1,63 +1,43 @@
 //! The reports of the modes.
-ghost use Rattle.std.specs.Prelude.{◌≡◌};
-ghost use Rattle.api_gate.specs.inner.Decisions.{IsSignedText, Reports};
-ghost use Rattle.api_gate.specs.runs.Outcomes.{IsReportOn};
-ghost use Rattle.api_inputs.specs.declared.inputs.Inputs.{Inputs};
-ghost use Rattle.api_words.specs.declared.option_name.Mode.TheVariants as mode;
+ghost use Rattle.std.specs.Prelude.{◌≡◌, ◌<◌, length};
+ghost use Rattle.api_gate.specs.inner.Decisions.{IsOfFindings};
+ghost use Rattle.api_lines.specs.Merging.{HasNoContext};
+ghost use Rattle.go_base.specs.Lists.{Each};
 
 use crate::reports::decision::Decision;
-use api_frozen::compare::compare;
-use api_frozen::signed::Signed;
+use crate::reports::gating::gate_report;
+use crate::reports::judging::{advise_report, judge_report};
+use crate::reports::listing::{features_report, signed_report};
+use crate::reports::making::make_report;
+use api_findings::findings::Findings;
 use api_inputs::inputs::Inputs;
-use api_lines::line::Line;
-use api_reports::reports::{features_text, has_loss, signed_text};
 use api_words::option_name::Mode;
+use api_words::request::Request;
 use go_base::memory::NoMemory;
 use std::alloc::Global;
 
-fn features_report(alloc: Global, features: &[Line]) -> Decision
-    ensures { (i : Inputs) → Reports (IsReportOn mode.Features i features.now) result }
+/// The report of a request on its inputs and on what is found there, or why no version is advised.
+pub fn report(alloc: Global, request: &Request, inputs: &Inputs, found: &Findings) -> Decision
+    requires some { 0 < length request.now.platforms }
+    requires same { length found.now.features ≡ length request.now.platforms }
+    requires plain { Each (Each HasNoContext) found.now.features }
+    ensures { IsOfFindings request.now inputs.now found.now.features found.now.verdicts result }
 {
-    match features_text(alloc, features) {
-        Ok(text) => Decision::Report(text),
-        Err(NoMemory) => Decision::NoMemory,
-    }
-}
-
-fn signed_report(alloc: Global, lines: &[Signed]) -> Decision
-    ensures { Reports (IsSignedText lines.now) result }
-{
-    match signed_text(alloc, lines) {
-        Err(NoMemory) => Decision::NoMemory,
-        Ok(text) => {
-            if has_loss(lines) {
-                return Decision::Broken(text);
-            }
-            Decision::Report(text)
-        }
-    }
-}
-
-fn frozen_report(alloc: Global, inputs: &Inputs, features: &[Line]) -> Decision
-    ensures { Reports (IsReportOn mode.Frozen inputs.now features.now) result }
-{
-    match compare(
-        alloc,
-        features,
-        inputs.required.items(),
-        inputs.exceptions.items(),
-    ) {
-        Ok(report) => signed_report(alloc, report.lines.items()),
-        Err(NoMemory) => Decision::NoMemory,
-    }
-}
-
-/// The report of a mode on the features of a module: the features, or what they lost and gained against the lines that were read.
-pub fn report(alloc: Global, mode: Mode, inputs: &Inputs, features: &[Line]) -> Decision
-    ensures { Reports (IsReportOn mode inputs.now features.now) result }
-{
-    match mode {
-        Mode::Features => features_report(alloc, features),
-        Mode::Frozen => frozen_report(alloc, inputs, features),
+    match request.mode {
+        Mode::Features => match features_report(alloc, request, found.features.items()) {
+            Ok(text) => Decision::Report(text),
+            Err(NoMemory) => Decision::NoMemory,
+        },
+        Mode::Frozen => match signed_report(alloc, request, inputs, found.features.items()) {
+            Ok(signed) => signed.decision(),
+            Err(NoMemory) => Decision::NoMemory,
+        },
+        Mode::Judge => judge_report(alloc, request, found.verdicts.items()),
+        Mode::Advise => advise_report(alloc, request, found.verdicts.items()),
+        Mode::Gate => gate_report(alloc, request, inputs, found),
+        Mode::Make => match make_report(alloc, request, found) {
+            Ok(text) => Decision::Report(text),
+            Err(NoMemory) => Decision::NoMemory,
+        },
     }
 }

@@ -1,0 +1,133 @@
+//! What a request decides: its files are read, its trees are judged, and its report is made.
+ghost use Rattle.std.specs.Prelude.{◌≡◌, ◌≢◌, ◌≤◌, ◌<◌, ◌⊎◌, [], Some, IfOk, length};
+ghost use Rattle.api_findings.specs.Checks.{CountsAtMost};
+ghost use Rattle.api_findings.specs.Findings.{IsOldTree};
+ghost use Rattle.api_gate.specs.inner.Decisions.{ChecksFor, IsOfInputs, IsOfStore};
+ghost use Rattle.api_gate.specs.runs.Outcomes.{modules_of};
+ghost use Rattle.api_generator.specs.MadeTrees.{made_contents};
+ghost use Rattle.api_inputs.specs.Reads.{NeverFell};
+ghost use Rattle.go_model.specs.files.Trees.{IsTree};
+
+use crate::reports::decision::Decision;
+use crate::reports::report::report;
+use api_findings::findings::find;
+use api_generator::make::make;
+use api_inputs::inputs::{Inputs, read_inputs};
+use api_words::request::{MadeTrees, Request};
+use go_base::list::List;
+use go_base::memory::NoMemory;
+use go_base::steps::Steps;
+use go_base::text::Text;
+use go_outside::files::Files;
+use go_outside::gate::Gate;
+use std::alloc::Global;
+
+// The module paths of a run.
+fn modules_of(alloc: Global, inputs: &Inputs) -> Result<List<Text>, NoMemory>
+    ensures { IfOk result (λ modules. modules ≡ modules_of inputs.now) }
+{
+    let path = Text::of(alloc, inputs.tree.module.bytes())?;
+    let mut modules = List::new(alloc);
+    modules.push(path)?;
+    let Some(old) = &inputs.old_tree else {
+        return Ok(modules);
+    };
+    let path = Text::of(alloc, old.module.bytes())?;
+    modules.push(path)?;
+    Ok(modules)
+}
+
+// What is found in the trees of these inputs decides.
+fn on_platforms<G: Gate, L: Copy + Send>(
+    alloc: Global,
+    request: &Request,
+    inputs: &Inputs,
+    modules: &[Text],
+    gate: &G,
+    steps: &mut Steps<L>,
+) -> Decision
+    requires old { IsOldTree (modules_of inputs.now) inputs.now.old_tree }
+    requires tree { IsTree inputs.now.tree }
+    requires std { IsTree inputs.now.std_tree }
+    requires named { inputs.now.tree.module ≢ [] }
+    requires modules { modules.now ≡ modules_of inputs.now }
+    requires some { 0 < length request.now.platforms }
+    ensures decision { IsOfInputs request.now inputs.now result }
+    ensures steps { CountsAtMost (modules_of inputs.now) inputs.now.old_tree inputs.now.tree inputs.now.std_tree request.now.platforms steps.old steps.new }
+{
+    match find(
+        alloc,
+        inputs.old_tree.as_ref(),
+        &inputs.tree,
+        &inputs.std_tree,
+        modules,
+        request.platforms.items(),
+        gate,
+        steps,
+    ) {
+        Err(error) => Decision::unfound(error),
+        Ok(found) => report(alloc, request, inputs, &found),
+    }
+}
+
+// What these inputs decide.
+fn on_inputs<G: Gate, L: Copy + Send>(
+    alloc: Global,
+    request: &Request,
+    inputs: &Inputs,
+    gate: &G,
+    steps: &mut Steps<L>,
+) -> Decision
+    requires old { IsOldTree (modules_of inputs.now) inputs.now.old_tree }
+    requires tree { IsTree inputs.now.tree }
+    requires std { IsTree inputs.now.std_tree }
+    requires named { inputs.now.tree.module ≢ [] }
+    requires some { 0 < length request.now.platforms }
+    ensures decision { IsOfInputs request.now inputs.now result }
+    ensures steps { (steps.new ≤ steps.old) ⊎ CountsAtMost (modules_of inputs.now) inputs.now.old_tree inputs.now.tree inputs.now.std_tree request.now.platforms steps.old steps.new }
+{
+    match modules_of(alloc, inputs) {
+        Err(NoMemory) => Decision::NoMemory,
+        Ok(modules) => on_platforms(alloc, request, inputs, modules.items(), gate, steps),
+    }
+}
+
+/// What a request decides over these files.
+pub(crate) fn on_files<F: Files, G: Gate, L: Copy + Send>(
+    alloc: Global,
+    files: &mut F,
+    request: &Request,
+    gate: &G,
+    steps: &mut Steps<L>,
+) -> Decision
+    requires { 0 < length request.now.platforms }
+    ensures decision { IsOfStore (F.told files.old) (F.faults files.old) (F.faults files.new) request.now result }
+    ensures same { F.told files.new ≡ F.told files.old }
+    ensures count { NeverFell (F.faults files.old) (F.faults files.new) }
+    ensures steps { ChecksFor (F.told files.old) request.now steps.old steps.new }
+{
+    match read_inputs(alloc, files, request) {
+        Err(error) => Decision::unread(error),
+        Ok(inputs) => on_inputs(alloc, request, &inputs, gate, steps),
+    }
+}
+
+/// What a request decides over the files that the generator makes for it.
+pub(crate) fn on_made<G: Gate, L: Copy + Send>(
+    alloc: Global,
+    made: MadeTrees,
+    request: &Request,
+    gate: &G,
+    steps: &mut Steps<L>,
+) -> Decision
+    requires platforms { 0 < length request.now.platforms }
+    requires some { 1 ≤ made.size }
+    requires few { made.size ≤ 2000 }
+    ensures decision { IsOfStore (Some (made_contents made.seed made.size)) 0 0 request.now result }
+    ensures steps { ChecksFor (Some (made_contents made.seed made.size)) request.now steps.old steps.new }
+{
+    match make(alloc, made.seed, made.size) {
+        Err(NoMemory) => Decision::NoMemory,
+        Ok(mut store) => on_files(alloc, &mut store, request, gate, steps),
+    }
+}
