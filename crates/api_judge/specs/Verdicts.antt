@@ -1,6 +1,6 @@
 -- Verdicts: what is broken where a new world takes the place of an old one, whether the feature lines differ, and how much of a change that is.
 -- Public source: README of golang.org/x/exp/apidiff, for what a break is; Semantic Versioning 2.0.0, clauses 6 to 8, for the classes.
-use Rattle.std.specs.Prelude.{◌≡◌, ◌↔◌, ℕ, Bool, true, false, not, Decides, Some, List, [], ◌∷◌, map, if◌then◌else◌}
+use Rattle.std.specs.Prelude.{◌≡◌, ◌↔◌, ℕ, ◌==◌, Bool, true, not, Decides, Some, List, length, map, if◌then◌else◌}
 use Rattle.std.specs.Ordering.{nat_cmp}
 use Rattle.std.specs.Cmp.Lexicographic.{slice_cmp}
 use Rattle.std.specs.List.{list_any}
@@ -50,14 +50,9 @@ pub record IsVerdict (old new : Packages) (v : Verdict) : Type 0 where
   pub breaks : AreBreaks old new v.breaks
   pub changed : Decides v.changed (HaveSameFeatures old new → ⊥)
 
--- a list that isn't empty
-abbrev is_some : {A : Type 0} → List A → Bool
-is_some [] = false
-is_some (x ∷ xs) = true
-
 -- something is broken
 abbrev pub has_break : Verdict → Bool
-has_break v = is_some v.breaks
+has_break v = not (length v.breaks == 0)
 
 abbrev pub is_changed : Verdict → Bool
 is_changed v = v.changed

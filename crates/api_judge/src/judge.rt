@@ -1,11 +1,15 @@
 //! The judge.
 ghost use Rattle.std.specs.Prelude.{◌≡◌, IfOk};
+ghost use Rattle.std.specs.List.{list_any};
 ghost use Rattle.api_features.specs.Features.{IsFeature};
-ghost use Rattle.api_judge.specs.Verdicts.{IsVerdict, ShareStd, class_of};
+ghost use Rattle.api_judge.specs.Verdicts.{IsVerdict, ShareStd, class_of, has_break, is_changed};
 ghost use Rattle.api_lines.specs.Lines.{IsListing};
 
+use crate::changes::differ;
+use crate::listing::told_breaks;
 use crate::verdict::Verdict;
 use api_advice::class::Class;
+use api_features::features::features;
 use api_lines::line::Line;
 use go_base::memory::NoMemory;
 use go_model::types::world::World;
@@ -24,7 +28,9 @@ pub fn judge_listed(
     requires after { IsListing (IsFeature new.now) after.now }
     ensures { IfOk result (IsVerdict old.now new.now) }
 {
-    Err(NoMemory)
+    let breaks = told_breaks(alloc, old, new)?;
+    let changed = differ(alloc, before, after)?;
+    Ok(Verdict { breaks, changed })
 }
 
 /// What is broken where `new` takes the place of `old`, and whether their features differ. What both have at one path is of the
@@ -33,20 +39,32 @@ pub fn judge(alloc: Global, old: &World, new: &World) -> Result<Verdict, NoMemor
     requires { ShareStd old.now new.now }
     ensures { IfOk result (IsVerdict old.now new.now) }
 {
-    Err(NoMemory)
+    let before = features(alloc, old)?;
+    let after = features(alloc, new)?;
+    judge_listed(alloc, old, new, before.items(), after.items())
+}
+
+/// Whether something is broken, on some platform.
+pub fn is_any_broken(verdicts: &[Verdict]) -> bool
+    ensures { result ≡ list_any has_break verdicts.now }
+{
+    verdicts.iter().any(|verdict| verdict.has_break())
+}
+
+fn is_any_changed(verdicts: &[Verdict]) -> bool
+    ensures { result ≡ list_any is_changed verdicts.now }
+{
+    verdicts.iter().any(|verdict| verdict.changed)
 }
 
 /// How much a release changes of which these are the verdicts, platform by platform.
 pub fn class(verdicts: &[Verdict]) -> Class
     ensures { result ≡ class_of verdicts.now }
 {
-    if verdicts
-        .iter()
-        .any(|verdict| !verdict.breaks.items().is_empty())
-    {
+    if is_any_broken(verdicts) {
         return Class::Major;
     }
-    if verdicts.iter().any(|verdict| verdict.changed) {
+    if is_any_changed(verdicts) {
         return Class::Minor;
     }
     Class::Patch

@@ -1,4 +1,7 @@
 //! What the judge finds.
+ghost use Rattle.std.specs.Prelude.{◌≡◌};
+ghost use Rattle.api_judge.specs.Verdicts.{has_break};
+
 use api_subjects::broken::Broken;
 use go_base::list::List;
 
@@ -9,4 +12,13 @@ pub struct Verdict {
     pub breaks: List<Broken>,
     /// Whether the feature lines differ.
     pub changed: bool,
+}
+
+impl Verdict {
+    /// Whether something is broken.
+    pub fn has_break(&self) -> bool
+        ensures { result ≡ has_break self.now }
+    {
+        !self.breaks.items().is_empty()
+    }
 }

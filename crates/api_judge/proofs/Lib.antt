@@ -1,0 +1,4 @@
+pub mod LineTexts
+pub mod OneVerdict
+pub mod OrderedBreaks
+pub mod SortedTexts
