@@ -29,7 +29,7 @@ func fail(err error) {
 	}
 }
 
-// world is a tree, and the packages of it and of the standard library that are typed so far.
+// world is a tree over another one, and its packages that are typed so far.
 type world struct {
 	folders map[string]string
 	std     *world
@@ -40,7 +40,7 @@ type world struct {
 
 var chooser = build.Context{GOOS: "linux", GOARCH: "amd64", Compiler: "gc", CgoEnabled: true, ReleaseTags: build.Default.ReleaseTags}
 
-// within finds the folders of a tree that hold files of Go, by their paths below it. Those that are left out are named as Go does.
+// within finds the folders of a tree that hold files of Go, by the import paths of their packages; some are left out, as by the command go.
 func within(top, start string) map[string]string {
 	found := map[string]string{}
 	fail(filepath.WalkDir(top, func(place string, entry fs.DirEntry, err error) error {
@@ -169,7 +169,7 @@ func moduleOf(top string) string {
 	return ""
 }
 
-// breaksOf counts what apidiff calls incompatible, in a package that the new tree lacks all of its exported objects.
+// breaksOf counts what apidiff calls incompatible. A package that the new tree lacks has lost all that it exports.
 func breaksOf(old, new *types.Package) (count int) {
 	if new == nil {
 		new = types.NewPackage(old.Path(), old.Name())
