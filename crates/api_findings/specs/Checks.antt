@@ -1,16 +1,15 @@
 -- How many packages a run checks at most.
 -- Own: the counter of checks.
-use Rattle.std.specs.Prelude.{◌≤◌, ◌+◌, ℕ, List, [], ◌∷◌, length, Option, Some, None}
-use Rattle.api_worlds.specs.PlatformWorlds.{AreUnitsOn}
+use Rattle.std.specs.Prelude.{◌≡◌, ◌≤◌, ◌+◌, ℕ, List, [], ◌∷◌, Option, Some, None}
+use Rattle.api_worlds.specs.PlatformWorlds.{CountsOn}
 use Rattle.go_model.specs.declared.files.platform.Platform.{Platform}
 use Rattle.go_model.specs.declared.files.tree.Tree.{Tree}
-use Rattle.go_units.specs.declared.unit_list.Units.{Units}
 
 module _ (barred : List (List ℕ)) (std_tree : Tree) where
   -- the packages of a tree on a platform, or none
-  pub data CountsOf (p : Platform) : Option Tree → ℕ → Type 0 where
-    no_package : {tree : Option Tree} → CountsOf p tree 0
-    all_packages : {tree : Tree} (units : Units) → AreUnitsOn barred tree std_tree p units → CountsOf p (Some tree) (length units.packages)
+  abbrev pub CountsOf : Platform → Option Tree → ℕ → Type 0
+  CountsOf p None n = n ≡ 0
+  CountsOf p (Some tree) n = CountsOn barred tree std_tree p n
 
   -- those of both trees on all platforms together
   pub data CountsPackages (old : Option Tree) (tree : Tree) : List Platform → ℕ → Type 0 where

@@ -1,16 +1,19 @@
 //! What a run finds in its trees on platforms.
-ghost use Rattle.std.specs.Prelude.{◌≡◌, ◌≢◌, IfOk, length};
+ghost use Rattle.std.specs.Prelude.{◌≡◌, ◌≢◌, ◌++◌, ◌∷◌, [], IfOk, OnOk, length};
 ghost use Rattle.std.specs.Option.{option_copied};
-ghost use Rattle.api_findings.specs.Findings.{AnswersFindings, IsOldTree};
 ghost use Rattle.api_findings.specs.Checks.{CountsAtMost};
+ghost use Rattle.api_findings.specs.Findings.{AnswersFindings, IsOldTree};
+ghost use Rattle.api_findings.specs.inner.Found.{verdicts_of};
 ghost use Rattle.api_lines.specs.Merging.{HasNoContext};
 ghost use Rattle.go_base.specs.Lists.{Each, Has};
 ghost use Rattle.go_model.specs.files.Trees.{IsTree};
 
+use crate::found::{Found, found_on};
 use api_judge::verdict::Verdict;
 use api_lines::line::Line;
 use api_worlds::error::PlatformError;
 use go_base::list::List;
+use go_base::memory::NoMemory;
 use go_base::steps::Steps;
 use go_base::text::Text;
 use go_model::files::platform::Platform;
@@ -32,6 +35,23 @@ impl Drop for Findings {
             features: _,
             verdicts: _,
         } = self;
+    }
+}
+
+impl Findings {
+    fn push(&mut self, found: Found) -> Result<(), NoMemory>
+        ensures features { OnOk result (self.new.features ≡ self.old.features ++ found.lines ∷ []) }
+        ensures verdicts { OnOk result (self.new.verdicts ≡ self.old.verdicts ++ verdicts_of found) }
+    {
+        let Found { lines, verdict } = found;
+        self.features.push(lines)?;
+        match verdict {
+            None => Ok(()),
+            Some(verdict) => {
+                self.verdicts.push(verdict)?;
+                Ok(())
+            }
+        }
     }
 }
 
@@ -58,5 +78,20 @@ pub fn findings<G: Gate, L: Copy + Send>(
     ensures plain { IfOk result (λ found. Each (Each HasNoContext) found.features) }
     ensures steps { CountsAtMost barred.now (option_copied old_tree.entry) tree.now std_tree.now platforms.now steps.old steps.new }
 {
-    Err(PlatformError::NoMemory)
+    let mut all = Findings {
+        features: List::new(alloc),
+        verdicts: List::new(alloc),
+    };
+    for platform in platforms {
+        match found_on(
+            alloc, old_tree, tree, std_tree, barred, *platform, gate, steps,
+        ) {
+            Err(error) => return Err(error),
+            Ok(found) => match all.push(found) {
+                Ok(()) => {}
+                Err(NoMemory) => return Err(PlatformError::NoMemory),
+            },
+        }
+    }
+    Ok(all)
 }

@@ -9,6 +9,10 @@ ghost use Rattle.go_model.specs.declared.files.platform.Platform.{Platform};
 ghost use Rattle.go_model.specs.declared.files.tree.Tree.{Tree};
 ghost use Rattle.go_model.specs.files.Trees.{IsTree};
 
+use api_judge::laws::one_verdict;
+use api_worlds::laws::one_world_on;
+use go_reading::laws::unit_paths;
+
 /// On some platforms trees have one list of features, by its texts, and one list of verdicts, as they are shown, or one refusal, and not
 /// both.
 pub fn one_finding()
@@ -23,4 +27,8 @@ pub fn one_finding()
         → IsFirstRefusal barred old tree std_tree ps a → IsFirstRefusal barred old tree std_tree ps b → a ≡ b }
     ensures apart { (barred : List (List ℕ)) (old : Option Tree) (tree std_tree : Tree) (ps : List Platform) (a : List (List Feature)) (vs : List Found) (line : List ℕ)
         → AreFindings barred old tree std_tree ps a vs → IsFirstRefusal barred old tree std_tree ps line → ⊥ }
-{}
+{
+    one_verdict();
+    one_world_on();
+    unit_paths();
+}

@@ -2,5 +2,6 @@
 #![tactic(auto)]
 
 pub mod findings;
+mod found;
 pub mod laws;
 pub mod merging;

@@ -1,11 +1,10 @@
 -- The world of a platform, or its first refusal, by what is answered of its packages.
-use Rattle.std.proofs.Common.{◌+◌, ◌≤◌, ℕ, List, [], ◌∷◌, length, Ok, Err, sym, subst, arith}
+use Rattle.std.proofs.Common.{◌+◌, ◌≤◌, ℕ, List, length, Ok, Err, sym, subst, arith}
 use Rattle.std.specs.Prelude.{Result}
 use Rattle.api_texts.specs.declared.lines.Side.{Side}
-use Rattle.api_worlds.specs.PlatformWorlds.{AreUnitsOn, CountsAtMost, count_none, count_skip, count_more, IsRefusedOn, packages_refused, package_refused}
+use Rattle.api_worlds.specs.PlatformWorlds.{AnswersWorld, AreUnitsOn, CountsAtMost, no_package, all_packages, IsErrorOn, IsRefusedOn, packages_refused, package_refused}
 use Rattle.api_worlds.specs.declared.error.PlatformError.{PlatformError}
 use Rattle.api_worlds.specs.declared.error.PlatformError.TheVariants as error
-use Rattle.api_worlds.specs.inner.Answers.{AnswersWorld, IsError}
 use Rattle.api_worlds.specs.inner.PlatformSteps.{AnswersOfUnits, IsUnitRefusal}
 use Rattle.go_model.specs.declared.files.platform.Platform.{Platform}
 use Rattle.go_model.specs.declared.files.tree.Tree.{Tree}
@@ -15,7 +14,7 @@ use Rattle.go_units.specs.declared.unit_error.UnitError.{UnitError}
 use Rattle.go_units.specs.declared.unit_list.Units.{Units}
 
 module _ (barred : List (List ℕ)) (tree std_tree : Tree) (s : Side) (p : Platform) where
-  pub units_error : (e : UnitError) (x : PlatformError) → AreUnitsOfTrees p barred tree std_tree (Err e) → IsUnitRefusal tree std_tree s p e x → IsError barred tree std_tree s p x
+  pub units_error : (e : UnitError) (x : PlatformError) → AreUnitsOfTrees p barred tree std_tree (Err e) → IsUnitRefusal tree std_tree s p e x → IsErrorOn barred tree std_tree s p x
   units_error e (error.Refused line) a h = subst (IsRefusedOn barred tree std_tree s p) (sym h.1) (packages_refused e h.0 a)
   units_error e error.NoMemory a h = tt
 
@@ -24,8 +23,8 @@ module _ (barred : List (List ℕ)) (tree std_tree : Tree) (s : Side) (p : Platf
   units_answer units (Err (error.Refused line)) a h = subst (IsRefusedOn barred tree std_tree s p) (sym h.3) (package_refused units h.0 h.1 a h.2)
   units_answer units (Err error.NoMemory) a h = tt
 
-  pub no_count : (before : ℕ) → CountsAtMost barred tree std_tree (p ∷ []) before before
-  no_count before = (0, count_skip count_none, omega arith)
+  pub no_count : (before : ℕ) → CountsAtMost barred tree std_tree p before before
+  no_count before = (0, no_package, omega arith)
 
-  pub units_count : (units : Units) (before now : ℕ) → AreUnitsOn barred tree std_tree p units → now ≤ before + length units.packages → CountsAtMost barred tree std_tree (p ∷ []) before now
-  units_count units before now a h = (length units.packages + 0, count_more units a count_none, omega (arith, h))
+  pub units_count : (units : Units) (before now : ℕ) → AreUnitsOn barred tree std_tree p units → now ≤ before + length units.packages → CountsAtMost barred tree std_tree p before now
+  units_count units before now a h = (length units.packages, all_packages units a, h)

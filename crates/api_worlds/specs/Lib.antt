@@ -1,3 +1,2 @@
-pub mod FeatureLists
 pub mod PlatformWorlds
 pub mod inner

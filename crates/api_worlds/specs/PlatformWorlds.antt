@@ -1,8 +1,10 @@
 -- What the trees of a module and of the standard library have on a platform: a world, or the first refusal with its fault line.
 -- Own: the order of refusals. All packages are taken before the first declaration is.
-use Rattle.std.specs.Prelude.{◌≢◌, ◌≤◌, ◌+◌, ℕ, List, [], ◌∷◌, length, map, Ok, Err}
+use Rattle.std.specs.Prelude.{◌≢◌, ◌≤◌, ◌+◌, ℕ, List, length, map, Result, Ok, Err}
 use Rattle.api_refusals.specs.Refusals.{package_text, refusal_line, unit_text}
 use Rattle.api_texts.specs.declared.lines.Side.{Side}
+use Rattle.api_worlds.specs.declared.error.PlatformError.{PlatformError}
+use Rattle.api_worlds.specs.declared.error.PlatformError.TheVariants as error
 use Rattle.go_model.specs.declared.files.platform.Platform.{Platform}
 use Rattle.go_model.specs.declared.files.tree.Tree.{Tree}
 use Rattle.go_model.specs.files.Platforms.{bits_of}
@@ -13,7 +15,7 @@ use Rattle.go_typings.specs.PackageWorlds.{IsFirstRefused, IsWorldOf}
 use Rattle.go_typings.specs.Refusals.{Refusal}
 use Rattle.go_typings.specs.Sources.{PackageSource}
 use Rattle.go_units.specs.declared.unit_error.UnitError.{UnitError}
-use Rattle.go_units.specs.declared.unit_error.UnitError.TheVariants as error
+use Rattle.go_units.specs.declared.unit_error.UnitError.TheVariants as unit
 use Rattle.go_units.specs.declared.unit_list.Units.{Units}
 
 -- the packages of units, as they are written
@@ -31,15 +33,24 @@ module _ (barred : List (List ℕ)) (tree std_tree : Tree) where
 
   -- the fault line of the trees of a side on a platform: of the first refusal of their packages, or else of the first package that is refused
   pub data IsRefusedOn (s : Side) (p : Platform) : List ℕ → Type 0 where
-    packages_refused : (e : UnitError) → e ≢ error.NoMemory → AreUnitsOfTrees p barred tree std_tree (Err e) → IsRefusedOn s p (refusal_line s p (unit_text tree std_tree e))
+    packages_refused : (e : UnitError) → e ≢ unit.NoMemory → AreUnitsOfTrees p barred tree std_tree (Err e) → IsRefusedOn s p (refusal_line s p (unit_text tree std_tree e))
     package_refused : (units : Units) (n : ℕ) (r : Refusal) → AreUnitsOn p units → IsFirstRefused (bits_of p) (sources_of units) n r → IsRefusedOn s p (refusal_line s p (package_text tree std_tree units.packages n r))
 
-  -- how many packages the trees have together on some of the platforms
-  pub data CountsPackages : List Platform → ℕ → Type 0 where
-    count_none : CountsPackages [] 0
-    count_skip : {p : Platform} {ps : List Platform} {n : ℕ} → CountsPackages ps n → CountsPackages (p ∷ ps) n
-    count_more : {p : Platform} {ps : List Platform} {n : ℕ} (units : Units) → AreUnitsOn p units → CountsPackages ps n → CountsPackages (p ∷ ps) (length units.packages + n)
+  -- the trees of a side have no world on a platform: that fault line, or want of memory, which may come at any time
+  abbrev pub IsErrorOn : Side → Platform → PlatformError → Type 0
+  IsErrorOn s p (error.Refused line) = IsRefusedOn s p line
+  IsErrorOn s p error.NoMemory = Unit {0}
+
+  -- the world on a platform, or that
+  abbrev pub AnswersWorld : Side → Platform → Result Packages PlatformError → Type 0
+  AnswersWorld s p (Ok w) = IsWorldOn p w
+  AnswersWorld s p (Err e) = IsErrorOn s p e
+
+  -- how many packages are checked on a platform: all that the trees have there, or none
+  pub data CountsOn (p : Platform) : ℕ → Type 0 where
+    no_package : CountsOn p 0
+    all_packages : (units : Units) → AreUnitsOn p units → CountsOn p (length units.packages)
 
   -- a counter rose by no more than that
-  abbrev pub CountsAtMost : List Platform → ℕ → ℕ → Type 0
-  CountsAtMost ps before now = (n : ℕ) × CountsPackages ps n × (now ≤ before + n)
+  abbrev pub CountsAtMost : Platform → ℕ → ℕ → Type 0
+  CountsAtMost p before now = (n : ℕ) × CountsOn p n × (now ≤ before + n)

@@ -1,7 +1,6 @@
-//! What trees have on platforms: worlds, and the features in them.
+//! The worlds of trees on platforms.
 #![tactic(auto)]
 
 pub mod error;
-pub mod features;
 pub mod laws;
 pub mod world;

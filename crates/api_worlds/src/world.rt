@@ -1,10 +1,9 @@
 //! The world of trees on a platform.
-ghost use Rattle.std.specs.Prelude.{◌≡◌, ◌≢◌, ◌≤◌, ◌+◌, ◌∷◌, [], length};
+ghost use Rattle.std.specs.Prelude.{◌≢◌, ◌≤◌, ◌+◌, [], length};
 ghost use Rattle.go_base.specs.Lists.{Has};
 ghost use Rattle.go_model.specs.files.Trees.{IsTree};
 ghost use Rattle.go_work.specs.Paths.{AreOfPackages};
-ghost use Rattle.api_worlds.specs.PlatformWorlds.{CountsAtMost};
-ghost use Rattle.api_worlds.specs.inner.Answers.{AnswersWorld};
+ghost use Rattle.api_worlds.specs.PlatformWorlds.{AnswersWorld, CountsAtMost};
 ghost use Rattle.api_worlds.specs.inner.PlatformSteps.{AnswersOfUnits, IsPackageRefusal, IsUnitRefusal, TellsFault};
 
 use crate::error::PlatformError;
@@ -128,7 +127,7 @@ pub fn world_on<G: Gate, L: Copy + Send>(
     requires named { tree.now.module ≢ [] }
     requires barred { Has barred.now tree.now.module }
     ensures answer { AnswersWorld barred.now tree.now std_tree.now side platform result }
-    ensures steps { CountsAtMost barred.now tree.now std_tree.now (platform ∷ []) steps.old steps.new }
+    ensures steps { CountsAtMost barred.now tree.now std_tree.now platform steps.old steps.new }
 {
     unit_paths();
     match units(alloc, tree, std_tree, barred, platform) {

@@ -2,8 +2,8 @@
 use Rattle.std.proofs.Common.{◌≡◌, ℕ, List, [], ◌∷◌, map, refl, ap, ◌∙◌, subst, inl, inr}
 use Rattle.api_lines.specs.Lines.{HasText, IsListing, printed}
 use Rattle.api_lines.specs.declared.line.Line.{Line}
-use Rattle.api_worlds.proofs.PlainPaths.{IsSimple, one_line}
-use Rattle.api_worlds.proofs.SortedTexts.{same_lists}
+use Rattle.api_findings.proofs.PlainPaths.{IsSimple, one_line}
+use Rattle.api_findings.proofs.SortedTexts.{same_lists}
 use Rattle.go_base.specs.Lists.{Has}
 
 pub text_in : (lines : List Line) (text : List ℕ) → HasText lines text → Has (map printed lines) text

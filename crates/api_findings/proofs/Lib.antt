@@ -1,0 +1,6 @@
+pub mod FoundOn
+pub mod OneFinding
+pub mod OneListing
+pub mod PlainPaths
+pub mod PlatformFindings
+pub mod SortedTexts

@@ -1,0 +1,37 @@
+-- What is found on one platform.
+use Rattle.std.specs.Prelude.{◌≡◌, ℕ, List, [], ◌∷◌, Option, Some, None, Result, Ok, Err}
+use Rattle.api_features.specs.Features.{IsFeature}
+use Rattle.api_findings.specs.Findings.{Finds, IsRefusal}
+use Rattle.api_findings.specs.declared.found.Found.{Found}
+use Rattle.api_judge.specs.Verdicts.{IsVerdict}
+use Rattle.api_judge.specs.declared.verdict.Verdict.{Verdict}
+use Rattle.api_lines.specs.Lines.{IsListing}
+use Rattle.api_worlds.specs.declared.error.PlatformError.{PlatformError}
+use Rattle.api_worlds.specs.declared.error.PlatformError.TheVariants as error
+use Rattle.go_model.specs.declared.files.platform.Platform.{Platform}
+use Rattle.go_model.specs.declared.files.tree.Tree.{Tree}
+use Rattle.go_model.specs.worlds.Worlds.{Packages}
+
+abbrev pub listed : Option Verdict → List Verdict
+listed None = []
+listed (Some v) = v ∷ []
+
+-- no verdict or one
+abbrev pub verdicts_of : Found → List Verdict
+verdicts_of found = listed found.verdict
+
+-- the features of the new world, and the verdict on both
+pub record IsCompared (old new : Packages) (found : Found) : Type 0 where
+  pub verdict : Verdict
+  pub is : found.verdict ≡ Some verdict
+  pub features : IsListing (IsFeature new) found.lines
+  pub judged : IsVerdict old new verdict
+
+module _ (barred : List (List ℕ)) (old : Option Tree) (tree std_tree : Tree) where
+  abbrev pub IsError : Platform → PlatformError → Type 0
+  IsError p (error.Refused line) = IsRefusal barred old tree std_tree p line
+  IsError p error.NoMemory = Unit {0}
+
+  abbrev pub AnswersFound : Platform → Result Found PlatformError → Type 0
+  AnswersFound p (Ok found) = Finds barred old tree std_tree p found.lines (verdicts_of found)
+  AnswersFound p (Err e) = IsError p e
