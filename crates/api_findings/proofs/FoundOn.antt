@@ -1,15 +1,14 @@
 -- What is found on a platform, by the worlds of its trees.
-use Rattle.std.proofs.Common.{◌≡◌, ◌+◌, ◌≤◌, ℕ, Option, Some, None, List, [], ◌∷◌, refl, sym, subst, arith}
+use Rattle.std.proofs.Common.{◌≡◌, ◌+◌, ℕ, Option, Some, None, List, [], ◌∷◌, refl, sym, subst, arith}
 use Rattle.api_features.specs.Features.{IsFeature}
-use Rattle.api_findings.specs.Checks.{CountsAtMost, CountsOf, count_more, count_none}
-use Rattle.api_findings.specs.Findings.{Finds, features_alone, with_verdict, IsRefusal, OldStands, old_refused, new_refused}
+use Rattle.api_findings.specs.Checks.{CountsAtMost, count_more, count_none}
+use Rattle.api_findings.specs.Findings.{Finds, features_alone, with_verdict, OldStands, old_refused, new_refused}
 use Rattle.api_findings.specs.declared.found.Found.{Found}
 use Rattle.api_findings.specs.inner.Found.{IsCompared, IsError, listed, verdicts_of}
 use Rattle.api_judge.specs.declared.verdict.Verdict.{Verdict}
 use Rattle.api_lines.specs.Lines.{IsListing}
-use Rattle.api_lines.specs.declared.line.Line.{Line}
 use Rattle.api_texts.specs.declared.lines.Side.TheVariants as side
-use Rattle.api_worlds.specs.PlatformWorlds.{CountsAtMost as CountsAtMostOn, CountsOn, no_package, IsErrorOn, IsWorldOn}
+use Rattle.api_worlds.specs.PlatformWorlds.{CountsAtMost as CountsAtMostOn, no_package, IsErrorOn, IsWorldOn}
 use Rattle.api_worlds.specs.declared.error.PlatformError.{PlatformError}
 use Rattle.api_worlds.specs.declared.error.PlatformError.TheVariants as error
 use Rattle.go_model.specs.declared.files.platform.Platform.{Platform}
@@ -31,7 +30,7 @@ module _ (barred : List (List ℕ)) (tree std_tree : Tree) (p : Platform) where
   alone_found w found i e f = subst (λ (v : Option Verdict). Finds barred None tree std_tree p found.lines (listed v)) (sym e) (features_alone w refl i f)
 
   pub alone_count : (before now : ℕ) → CountsAtMostOn barred tree std_tree p before now → CountsAtMost barred None tree std_tree (p ∷ []) before now
-  alone_count before now k = (0 + k.0 + 0, count_more refl k.1 count_none, omega (arith, k.2))
+  alone_count before now k = (0 + k.0 + 0, count_more 0 k.0 refl k.1 count_none, omega (arith, k.2))
 
   -- ---- where there is one
 
@@ -41,10 +40,10 @@ module _ (barred : List (List ℕ)) (tree std_tree : Tree) (p : Platform) where
     old_error error.NoMemory h = tt
 
     pub old_count : (before now : ℕ) → CountsAtMostOn barred old std_tree p before now → CountsAtMost barred (Some old) tree std_tree (p ∷ []) before now
-    old_count before now k = (k.0 + 0 + 0, count_more k.1 no_package count_none, omega (arith, k.2))
+    old_count before now k = (k.0 + 0 + 0, count_more k.0 0 k.1 no_package count_none, omega (arith, k.2))
 
     pub both_count : (before mid now : ℕ) → CountsAtMostOn barred old std_tree p before mid → CountsAtMostOn barred tree std_tree p mid now → CountsAtMost barred (Some old) tree std_tree (p ∷ []) before now
-    both_count before mid now k l = (k.0 + l.0 + 0, count_more k.1 l.1 count_none, omega (arith, k.2, l.2))
+    both_count before mid now k l = (k.0 + l.0 + 0, count_more k.0 l.0 k.1 l.1 count_none, omega (arith, k.2, l.2))
 
     module _ (w : Packages) (i : IsWorldOn barred old std_tree p w) where
       stands : OldStands barred (Some old) tree std_tree p

@@ -1,10 +1,10 @@
 -- On platforms trees have one list of features and one list of verdicts, or one refusal.
-use Rattle.std.proofs.Common.{◌≡◌, ℕ, true, Option, Some, None, List, [], ◌∷◌, ◌++◌, map, refl, sym, ap, ◌∙◌, subst, inl, inr}
+use Rattle.std.proofs.Common.{◌≡◌, ℕ, true, Option, List, [], ◌∷◌, ◌++◌, map, refl, sym, ap, ◌∙◌, subst, inl, inr}
 use Rattle.api_features.specs.Features.{IsFeature}
 use Rattle.api_findings.proofs.OneListing.{same_lines, same_texts}
 use Rattle.api_findings.proofs.PlainPaths.{IsPlain, IsSimple, elements_plain, package_of}
 use Rattle.api_findings.proofs.PlatformFindings.{IsFeatured, featured, old_stands}
-use Rattle.api_findings.specs.Findings.{AreFindings, find_none, find_more, Finds, features_alone, with_verdict, IsRefusal, old_refused, new_refused, IsFirstRefusal, refused_here, refused_later, OldStands, Shown, shown}
+use Rattle.api_findings.specs.Findings.{AreFindings, find_none, find_more, Finds, features_alone, with_verdict, IsRefusal, old_refused, new_refused, IsFirstRefusal, refused_here, refused_later, OldStands, shown}
 use Rattle.api_judge.specs.Verdicts.{IsVerdict}
 use Rattle.api_judge.specs.declared.verdict.Verdict.{Verdict}
 use Rattle.api_lines.specs.Lines.{IsListing, printed}

@@ -53,10 +53,10 @@ module _ (barred : List (List ℕ)) (old : Option Tree) (tree std_tree : Tree) w
 
   skip_all : (ps : List Platform) → Counts ps 0
   skip_all [] = count_none
-  skip_all (p ∷ ps) = count_more (no_packages p old) no_package (skip_all ps)
+  skip_all (p ∷ ps) = count_more 0 0 (no_packages p old) no_package (skip_all ps)
 
   counts_then : (p : Platform) (ps : List Platform) (k m : ℕ) → Counts (p ∷ []) k → Counts ps m → Counts (p ∷ ps) (k + m)
-  counts_then p ps k m (count_more {before = a} {now = b} h i count_none) d = let e : a + b + m ≡ a + b + 0 + m = omega arith in subst (Counts (p ∷ ps)) e (count_more h i d)
+  counts_then p ps k m (count_more a b h i count_none) d = let e : a + b + m ≡ a + b + 0 + m = omega arith in subst (Counts (p ∷ ps)) e (count_more a b h i d)
 
   -- ---- what is had so far of the platforms before the rest
 

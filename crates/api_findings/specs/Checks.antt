@@ -14,7 +14,7 @@ module _ (barred : List (List ℕ)) (std_tree : Tree) where
   -- those of both trees on all platforms together
   pub data CountsPackages (old : Option Tree) (tree : Tree) : List Platform → ℕ → Type 0 where
     count_none : CountsPackages old tree [] 0
-    count_more : {p : Platform} {ps : List Platform} {before now rest : ℕ} → CountsOf p old before → CountsOf p (Some tree) now → CountsPackages old tree ps rest
+    count_more : {p : Platform} {ps : List Platform} (before now : ℕ) {rest : ℕ} → CountsOf p old before → CountsOf p (Some tree) now → CountsPackages old tree ps rest
         → CountsPackages old tree (p ∷ ps) (before + now + rest)
 
 -- a counter rose by no more than that

@@ -43,7 +43,7 @@ impl Findings {
         ensures features { OnOk result (self.new.features ≡ self.old.features ++ found.lines ∷ []) }
         ensures verdicts { OnOk result (self.new.verdicts ≡ self.old.verdicts ++ verdicts_of found) }
     {
-        let Found { lines, verdict } = found;
+        let (lines, verdict) = found.into_parts();
         self.features.push(lines)?;
         match verdict {
             None => Ok(()),
@@ -58,7 +58,7 @@ impl Findings {
 /// What is found on these platforms in the new tree over the standard library's and, where there is an old tree, in both. Else the
 /// fault line of the first platform on which a tree is refused, the old one before the new. The barred paths are those of the run's
 /// modules. The counter rises by at most the number of the packages of both trees on all platforms together.
-pub fn findings<G: Gate, L: Copy + Send>(
+pub fn find<G: Gate, L: Copy + Send>(
     alloc: Global,
     old_tree: Option<&Tree>,
     tree: &Tree,
@@ -68,7 +68,7 @@ pub fn findings<G: Gate, L: Copy + Send>(
     gate: &G,
     steps: &mut Steps<L>,
 ) -> Result<Findings, PlatformError>
-    requires old { IsOldTree barred.now (option_copied old_tree.entry) }
+    requires old { IsOldTree barred.now (option_copied old_tree) }
     requires tree { IsTree tree.now }
     requires std { IsTree std_tree.now }
     requires named { tree.now.module ≢ [] }

@@ -45,6 +45,16 @@ impl Drop for Found {
     }
 }
 
+impl Found {
+    /// The features and the verdict, moved out.
+    pub(crate) fn into_parts(self) -> (List<Line>, Option<Verdict>)
+        ensures { result ≡ (self.lines, self.verdict) }
+    {
+        let Found { lines, verdict } = self;
+        (lines, verdict)
+    }
+}
+
 fn featured(alloc: Global, world: &World) -> Result<Found, NoMemory>
     ensures { IfOk result (λ found. (found.verdict ≡ None) × IsListing (IsFeature world.now) found.lines) }
 {
@@ -151,7 +161,7 @@ fn verdict_on<G: Gate, L: Copy + Send>(
     }
 }
 
-/// What is found on a platform: what `findings` says, on it alone.
+/// What is found on a platform: what `find` says, on it alone.
 pub(crate) fn found_on<G: Gate, L: Copy + Send>(
     alloc: Global,
     old_tree: Option<&Tree>,
@@ -162,7 +172,7 @@ pub(crate) fn found_on<G: Gate, L: Copy + Send>(
     gate: &G,
     steps: &mut Steps<L>,
 ) -> Result<Found, PlatformError>
-    requires old { IsOldTree barred.now (option_copied old_tree.entry) }
+    requires old { IsOldTree barred.now (option_copied old_tree) }
     requires tree { IsTree tree.now }
     requires std { IsTree std_tree.now }
     requires named { tree.now.module ≢ [] }
