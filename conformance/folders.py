@@ -1,0 +1,126 @@
+"""What the scripts share that run the program on modules in folders: Go's side, the cutter, merged lines, and runs."""
+import collections
+import os
+import re
+import shutil
+import subprocess
+import sys
+
+HERE = os.path.dirname(os.path.abspath(__file__))
+TOP = os.path.dirname(HERE)
+PLATFORMS = """linux-386 linux-arm windows-386 linux-amd64 linux-arm64 linux-riscv64 linux-s390x android-arm64 darwin-amd64 darwin-arm64
+ios-arm64 freebsd-amd64 illumos-amd64 windows-amd64""".split()
+PARTS = """modules.go module_trees.go module_sources.go package_answers.go package_references.go package_trees.go lines.go differences.go barred.go
+oracle/units.go oracle/choosing.go oracle/syntax.go oracle/scanning.go oracle/bodies.go""".split()
+PROGRAM = os.path.join(TOP, "crates/apigate/out/apigate")
+
+Answer = collections.namedtuple("Answer", "status lines error")
+
+
+def add_words(words):
+    """The options that say which programs are run."""
+    words.add_argument("--program", default=PROGRAM)
+    words.add_argument("--go", default="go")
+    words.add_argument("--cutter", default=os.path.join(TOP, "tools/stdcut"))
+
+
+class Tools:
+    """Go's side and the cutter, built into a folder."""
+
+    def __init__(self, words, folder, gopath=None):
+        self.program, self.go, self.folder = words.program, words.go, folder
+        if not os.access(self.program, os.X_OK):
+            sys.exit("the program isn't built: ./apigate --build")
+        self.settings = dict(os.environ, GO111MODULE="off", GOFLAGS="", GOCACHE=os.path.join(folder, "cache"))
+        if gopath:
+            self.settings["GOPATH"] = gopath
+        place = os.path.join(folder, "parts")
+        os.makedirs(place)
+        for part in PARTS:
+            shutil.copy(os.path.join(HERE, part), place)
+        self.asker, self.cutter = os.path.join(folder, "asker"), os.path.join(folder, "cutter")
+        names = [os.path.basename(part) for part in PARTS]
+        subprocess.run([self.go, "build", "-o", self.asker] + names, check=True, env=self.settings, cwd=place)
+        subprocess.run([self.go, "build", "-o", self.cutter, "."], check=True, env=dict(self.settings, GO111MODULE="auto"), cwd=words.cutter)
+        self.root = subprocess.run([self.go, "env", "GOROOT"], capture_output=True, text=True, check=True).stdout.strip()
+
+    def ask(self, *words, given=""):
+        """What Go's side answers."""
+        return subprocess.run([self.asker, *words], input=given.encode(), stdout=subprocess.PIPE, check=True, env=self.settings).stdout.decode()
+
+    def listed(self):
+        """The import paths of Go's own packages."""
+        told = subprocess.run([self.go, "list", "std"], capture_output=True, text=True, check=True, env=self.settings).stdout.split()
+        return [path for path in told if path != "unsafe"]
+
+    def cut(self, into, *words):
+        """Cuts declarations into a folder, and gives what the cutter told."""
+        done = subprocess.run([self.cutter, "--out", into, *words], capture_output=True, text=True, env=self.settings, cwd=self.folder)
+        os.makedirs(into, exist_ok=True)
+        if done.returncode not in (0, 1):
+            raise SystemExit("the cutter: status %d: %s" % (done.returncode, done.stderr[-500:]))
+        return done.stderr.splitlines()
+
+    def run(self, *words):
+        """One run of the program: its status, its report line by line, and what it says on its error output."""
+        done = subprocess.run([self.program, *words], stdin=subprocess.DEVNULL, capture_output=True)
+        assert not done.stdout or done.stdout.endswith(b"\n")
+        return Answer(done.returncode, done.stdout.split(b"\n")[:-1], done.stderr.decode(errors="replace"))
+
+
+def copied(place, into):
+    """Copies the files of a module that may be read; gives how many Go files."""
+    count = 0
+    for at, below, names in os.walk(place):
+        below[:] = [name for name in below if not os.path.islink(os.path.join(at, name)) and name not in ("testdata", "vendor")]
+        for name in names:
+            path = os.path.join(at, name)
+            if (name == "go.mod" or name.endswith(".go") and not name.endswith("_test.go")) and os.path.isfile(path) and not os.path.islink(path):
+                to = os.path.join(into, os.path.relpath(path, place))
+                os.makedirs(os.path.dirname(to), exist_ok=True)
+                shutil.copyfile(path, to)
+                count += name != "go.mod"
+    return count
+
+
+def write_module_line(folder, module):
+    with open(os.path.join(folder, "go.mod"), "w", encoding="utf-8") as file:
+        file.write("module %s\n" % module)
+
+
+def has_features(answer):
+    """Whether an answer of Go's side is a list of feature lines, which may be empty."""
+    return not answer["Lines"] or answer["Lines"][0].startswith("pkg ")
+
+
+def on(line, platform):
+    """A feature line with a platform as its context."""
+    at = line.index(b",")
+    return line[:at] + b" (" + platform.encode() + b")" + line[at:]
+
+
+def merged(lists):
+    """The lines of platforms, by these, in one list: what all have once, and what some have once for each of them."""
+    having = collections.defaultdict(list)
+    for platform, lines in lists.items():
+        for line in set(lines):
+            having[line].append(platform)
+    found = []
+    for line, platforms in having.items():
+        found += [line] if len(platforms) == len(lists) else [on(line, platform) for platform in platforms]
+    return sorted(found)
+
+
+def told_of(log):
+    """What a cutter left out, by the names of the objects and methods, and why."""
+    found = {}
+    for line in log:
+        at = re.match(r"dropped (\S+): (.*?)(?:, by \S+)?(?: \([^)]*\))?$", line)
+        if at:
+            found[at[1]] = at[2]
+    return found
+
+
+def path_of(line):
+    """The import path of a feature line."""
+    return re.match(rb"pkg ([^ ,]+)", line)[1]

@@ -1,0 +1,200 @@
+// Asks Go's packages go/build, go/parser and go/types about modules in folders. Its words are
+//
+//	lines PLATFORM OUT        reads lines of a name, a tab and a module's folder; writes the module's feature lines into OUT/NAME, by its
+//	                          own sources and those of all that it imports, wherever Go finds them
+//	answers PLATFORM          reads lines of a module's folder, a tab and a folder of declarations, as --std names one; answers each by
+//	                          a line of JSON, which package_answers.go describes, with refusals in the words of this gate
+//	counts FOLDER             tells what the limits count in a module's tree
+//	parts FOLDER              tells as JSON, for each folder of a module with a package, the folders of the module that it stands on
+//	tree CUT MODULE OUT       writes the packages of a folder of declarations as those of a module, where none is internal
+//	again CUT MODULE OUT      writes a module that declares anew, by its name, all that the packages of such a folder export
+package main
+
+import (
+	"bufio"
+	"encoding/json"
+	"fmt"
+	"os"
+	"path/filepath"
+	"sort"
+	"strings"
+)
+
+var out = bufio.NewWriterSize(os.Stdout, 1<<20)
+
+func fail(err error) {
+	if err != nil {
+		panic(err)
+	}
+}
+
+// pairs gives each line's two parts.
+func pairs(use func(one, other string)) {
+	lines := bufio.NewScanner(os.Stdin)
+	for lines.Scan() {
+		one, other, _ := strings.Cut(lines.Text(), "\t")
+		use(one, other)
+	}
+}
+
+func tell(what interface{}) {
+	text, err := json.Marshal(what)
+	fail(err)
+	fmt.Fprintf(out, "%s\n", text)
+}
+
+// refusals are the words of this gate for why a tree is refused.
+var refusals = map[string]string{
+	"no typing": "declaration has no typing", "declared twice": "declared twice", "import not found": "import not found",
+	"internal import": "internal package", "no token": "not a token", "not in the grammar": "not in the grammar of this profile",
+	"two build lines": "two go:build lines", "bad build expression": "go:build line not understood",
+	"a plus line alone": "+build without go:build", "several package names": "two package names", "import cycle": "import cycle",
+}
+
+// inWords is a refusal in the words of this gate: `PATH FILE: WHY at OFFSET`, `PATH FILE: WHY` or `PATH: WHY` becomes its line's end.
+func inWords(asked question, module, line string) string {
+	at, why, is := strings.Cut(line, ": ")
+	if !is {
+		return line
+	}
+	path, file, hasFile := strings.Cut(at, " ")
+	why, offset, placed := strings.Cut(why, " at ")
+	words, known := refusals[why]
+	if !known {
+		return line
+	}
+	if !hasFile {
+		return path + ": " + words
+	}
+	text, where := asked.files[file], file
+	if !under(path, module) {
+		text, where = asked.stdFiles[file], "std:"+file
+	}
+	if !placed {
+		return where + ": " + words
+	}
+	var until int
+	_, err := fmt.Sscan(offset, &until)
+	fail(err)
+	before := text[:until]
+	return fmt.Sprintf("%s:%d:%d: %s", where, 1+strings.Count(before, "\n"), until-strings.LastIndexByte(before, '\n'), words)
+}
+
+// causes are the forms in a file for which this gate's grammar hasn't it.
+func causes(asked question, module, line string) []string {
+	at, _, _ := strings.Cut(line, ": ")
+	path, file, _ := strings.Cut(at, " ")
+	text := asked.files[file]
+	if !under(path, module) {
+		text = asked.stdFiles[file]
+	}
+	_, met := verdict([]byte(text))
+	return met.sorted()
+}
+
+// fromFolders answers what a module's features are over a folder of declarations.
+func fromFolders(folder, platform string, std map[string]string) (all answers) {
+	defer func() {
+		if fault := recover(); fault != nil {
+			all = answers{Errors: []string{fmt.Sprint(fault)}}
+		}
+	}()
+	tree := readModule(folder)
+	asked := question{word: "features", platform: platform, files: tree.files, stdFiles: std}
+	asked.files["go.mod"] = "module " + tree.module + "\n"
+	all = answersTo(asked)
+	for i, one := range all.Answers {
+		all.Answers[i].Lost = nil
+		if len(one.Lines) != 1 || strings.HasPrefix(one.Lines[0], "pkg ") {
+			continue
+		}
+		for j, class := range one.Classes {
+			if class == unwritten && strings.HasSuffix(one.Lines[0], ": not in the grammar") {
+				one.Classes[j] = strings.Join(causes(asked, tree.module, one.Lines[0]), " and ")
+			}
+		}
+		one.Lines[0] = "apigate: new " + platform + ": " + inWords(asked, tree.module, one.Lines[0])
+	}
+	return all
+}
+
+// partsOf tells what each package of a module stands on in it.
+func partsOf(folder string) {
+	tree := readModule(folder)
+	needs := map[string]map[string]bool{}
+	for place, text := range tree.files {
+		at := filepath.ToSlash(filepath.Dir(place))
+		if needs[at] == nil {
+			needs[at] = map[string]bool{}
+		}
+		file, _, err := parsed(text)
+		if err != nil {
+			continue
+		}
+		for _, spec := range file.Imports {
+			if path := unquoted(spec); under(path, tree.module) {
+				below := strings.TrimPrefix(strings.TrimPrefix(path, tree.module), "/")
+				if below == "" {
+					below = "."
+				}
+				needs[at][below] = true
+			}
+		}
+	}
+	all := map[string][]string{}
+	for at := range needs {
+		seen, queue := map[string]bool{at: true}, []string{at}
+		for len(queue) > 0 {
+			for below := range needs[queue[0]] {
+				if needs[below] != nil && !seen[below] {
+					seen[below] = true
+					queue = append(queue, below)
+				}
+			}
+			queue = queue[1:]
+		}
+		all[at] = sortedKeys(seen)
+	}
+	tell(all)
+}
+
+// linesOf writes the feature lines of modules.
+func linesOf(platform, folder string) {
+	s := newSources(platform)
+	pairs(func(name, module string) {
+		lines := s.features(module)
+		sort.Strings(lines)
+		text := strings.Join(lines, "\n")
+		if text != "" {
+			text += "\n"
+		}
+		fail(os.WriteFile(filepath.Join(folder, name), []byte(text), 0o666))
+	})
+}
+
+func main() {
+	defer out.Flush()
+	switch words := os.Args[1:]; {
+	case len(words) == 3 && words[0] == "lines":
+		linesOf(words[1], words[2])
+	case len(words) == 2 && words[0] == "answers":
+		last, files := "", map[string]string{}
+		pairs(func(folder, std string) {
+			if std != last {
+				last, files = std, readBelow(std, false).files
+			}
+			tell(fromFolders(folder, words[1], files))
+		})
+	case len(words) == 2 && words[0] == "counts":
+		tell(readModule(words[1]).counts)
+	case len(words) == 2 && words[0] == "parts":
+		partsOf(words[1])
+	case len(words) == 4 && words[0] == "tree":
+		writeTree(words[1], words[2], words[3])
+	case len(words) == 4 && words[0] == "again":
+		writeAgain(words[1], words[2], words[3])
+	default:
+		fmt.Fprintln(os.Stderr, "modules: lines, answers, counts, parts, tree or again")
+		os.Exit(2)
+	}
+}
