@@ -1,5 +1,5 @@
 -- Findings that are shown the same have one report, or one reason for which no version is advised.
-use Rattle.std.proofs.Common.{◌≡◌, ℕ, Bool, ◌||◌, true, false, Option, Some, None, List, ◌++◌, length, map, refl, sym, ap, ◌∙◌, subst}
+use Rattle.std.proofs.Common.{◌≡◌, ℕ, Bool, ◌||◌, true, false, Option, Some, None, List, [], ◌∷◌, ◌++◌, length, map, refl, sym, ap, ◌∙◌, subst}
 use Rattle.std.proofs.lemmas.List.{length-map}
 use Rattle.std.specs.List.{list_any}
 use mathlib.Core.Bool.{true≢false}
@@ -7,6 +7,7 @@ use Rattle.api_advice.specs.Advice.{IsNext}
 use Rattle.api_advice.specs.declared.class.Class.{Class}
 use Rattle.api_advice.specs.declared.release.Release.{Release}
 use Rattle.api_findings.specs.Findings.{shown}
+use Rattle.api_frozen.specs.declared.signed.Signed.{Signed}
 use Rattle.api_inputs.specs.declared.inputs.Inputs.{Inputs}
 use Rattle.api_judge.specs.Verdicts.{class_of, has_break}
 use Rattle.api_judge.specs.declared.verdict.Verdict.{Verdict}

@@ -1,16 +1,18 @@
 -- What good words ask for, and what the inputs of a request keep.
-use Rattle.std.proofs.Common.{◌≡◌, ◌<◌, ℕ, Bool, true, false, ◌||◌, List, [], ◌∷◌, length, Option, Some, None, refl, sym, ap, ◌∙◌, subst, ◌⊎◌, inl, inr, Ok, arith}
+use Rattle.std.proofs.Common.{◌≡◌, ◌≤◌, ◌<◌, ◌+◌, ℕ, Bool, true, false, ◌||◌, List, [], ◌∷◌, length, map, Option, Some, None, refl, sym, ap, ◌∙◌, subst, ◌⊎◌, inl, inr, Ok, Err, arith}
 use Rattle.std.specs.Prelude.{Result}
 use Rattle.std.proofs.lemmas.List.{length-map}
+use Rattle.std.specs.List.{slice_split}
 use Rattle.std.proofs.lemmas.List.Splits.{length-slice_split}
 use mathlib.Core.Bool.{true≢false}
 use Rattle.api_findings.specs.Findings.{IsOldTree}
-use Rattle.api_inputs.specs.Inputs.{MayHaveOld}
+use Rattle.api_inputs.specs.Inputs.{AreInputs, MayHaveOld}
 use Rattle.api_inputs.specs.Reads.{MayHaveStd, MayLoad, no_tree}
 use Rattle.api_inputs.specs.declared.inputs.Inputs.{Inputs}
 use Rattle.api_words.specs.Options.{needs, permits}
 use Rattle.api_words.specs.Words.{ArePlatforms, IsGiven, IsMade, IsRequest, IsVersion, is_comma}
 use Rattle.api_words.specs.declared.option_name.Mode.{Mode}
+use Rattle.api_words.specs.declared.option_name.Mode.TheVariants as mode
 use Rattle.api_words.specs.declared.option_name.OptionName.{OptionName}
 use Rattle.api_words.specs.declared.option_name.OptionName.TheVariants as option
 use Rattle.api_words.specs.declared.request.AskedVersion.{AskedVersion}

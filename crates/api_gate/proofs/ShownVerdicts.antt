@@ -1,9 +1,9 @@
 -- Verdicts that are shown the same have one class and the same texts.
-use Rattle.std.proofs.Common.{◌≡◌, ◌+◌, ◌==◌, not, ◌||◌, if◌then◌else◌, List, [], ◌∷◌, ◌++◌, length, map, refl, sym, ap, ◌∙◌}
+use Rattle.std.proofs.Common.{◌≡◌, ℕ, ◌+◌, ◌==◌, not, Bool, ◌||◌, if◌then◌else◌, List, [], ◌∷◌, ◌++◌, length, map, refl, sym, ap, ◌∙◌}
 use Rattle.std.proofs.lemmas.List.{length-map}
 use Rattle.std.specs.List.{list_any}
 use Rattle.api_advice.specs.declared.class.Class.TheVariants as class
-use Rattle.api_findings.specs.Findings.{shown}
+use Rattle.api_findings.specs.Findings.{Shown, shown}
 use Rattle.api_judge.specs.Verdicts.{class_of, has_break, is_changed}
 use Rattle.api_judge.specs.declared.verdict.Verdict.{Verdict}
 use Rattle.api_reports.specs.Reports.{break_line, class_line, count_breaks, judge_text, platform_lines, unlines, verdict_lines, verdict_word}

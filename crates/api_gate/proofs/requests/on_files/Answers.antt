@@ -1,3 +1,4 @@
+use Rattle.std.proofs.Common.{inl, inr}
 use Rattle.api_gate.specs.inner.Decisions.{of_inputs}
 use Rattle.api_gate.proofs.DecisionEnds.{inputs_check, unread_decides}
 use Rattle.api_gate.proofs.RequestFacts.{named_module, old_tree}

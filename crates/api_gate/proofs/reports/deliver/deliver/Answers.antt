@@ -2,7 +2,7 @@ use Rattle.std.proofs.Common.{List, ℕ, ◌<◌, length, refl, subst}
 use Rattle.go_outside.specs.Sinks.{TakesSome}
 use Rattle.api_gate.specs.runs.Effects.{change}
 use Rattle.api_gate.specs.runs.Runs.{Tried, output_failed}
-use Rattle.api_gate.proofs.WrittenPieces.{tried}
+use Rattle.api_gate.proofs.WrittenPieces.{tried, never_fell}
 use Rattle.api_gate.proofs.reports.deliver.deliver.Goals as goal
 
 pub returns-in-Err-clause-written : goal.returns-in-Err-clause-written
