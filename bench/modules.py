@@ -53,10 +53,18 @@ def at_hand(words):
 
 
 def copy(folder, to):
-    """Copies what apigate may read of a module."""
+    """Copies what apigate may read of a module; gofmt gives files that have build lines of the old form alone those of the new one."""
+    old_form = []
     for path in sources(folder):
-        os.makedirs(os.path.dirname(os.path.join(to, path)), exist_ok=True)
-        shutil.copyfile(os.path.join(folder, path), os.path.join(to, path))
+        place = os.path.join(to, path)
+        os.makedirs(os.path.dirname(place), exist_ok=True)
+        shutil.copyfile(os.path.join(folder, path), place)
+        with open(place, "rb") as file:
+            text = file.read()
+        if re.search(rb"^// *\+build ", text, re.M) and not re.search(rb"^//go:build ", text, re.M):
+            old_form.append(place)
+    if old_form:
+        subprocess.run(["gofmt", "-w", *old_form], check=True)
 
 
 def add_more(folder):
