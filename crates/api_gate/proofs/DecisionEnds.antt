@@ -1,10 +1,10 @@
 -- What decisions are: those of findings, from the parts of their reports; and those of a request, as what a run may write.
 use Rattle.std.proofs.Common.{◌≡◌, ◌≤◌, ◌+◌, ◌-◌, ◌^◌, min, ℕ, Bool, true, false, ◌||◌, List, [], ◌∷◌, ◌++◌, Option, Some, None, Ok, Err, refl, sym, subst, ◌⊎◌, inl, inr, arith}
 use Rattle.std.specs.List.{list_any}
+use Rattle.std.specs.Prelude.{Result}
 use Rattle.api_findings.specs.Checks.{CountsAtMost}
 use Rattle.api_findings.specs.Findings.{AnswersFindings}
 use Rattle.api_findings.specs.declared.findings.Findings.{Findings}
-use Rattle.std.specs.Prelude.{Result}
 use Rattle.api_advice.specs.Advice.{IsNext}
 use Rattle.api_advice.specs.declared.class.Class.{Class}
 use Rattle.api_advice.specs.declared.release.Release.{Release}

@@ -75,7 +75,8 @@ fn after_version(alloc: Global, version: &AskedVersion, class: Class) -> Result<
     }
 }
 
-/// The version that may follow after a change of this class, as text: nothing where no version is given.
+/// The text of the version that may follow after a change of this class, and of none where no version is given. A version is refused
+/// that isn't a release, or that none can follow.
 pub fn advice(
     alloc: Global,
     version: &Option<AskedVersion>,
