@@ -15,7 +15,7 @@ use go_base::memory::NoMemory;
 use go_model::types::world::World;
 use std::alloc::Global;
 
-/// What `judge` says, where `before` and `after` are the features of both, which it lists itself.
+/// What `judge` says, over the features of both worlds, which are given.
 pub fn judge_listed(
     alloc: Global,
     old: &World,
@@ -44,7 +44,7 @@ pub fn judge(alloc: Global, old: &World, new: &World) -> Result<Verdict, NoMemor
     judge_listed(alloc, old, new, before.items(), after.items())
 }
 
-/// Whether one of these verdicts, those of several platforms, says that something is broken.
+/// Whether one of these verdicts says that something is broken.
 pub fn is_any_broken(verdicts: &[Verdict]) -> bool
     ensures { result ≡ list_any has_break verdicts.now }
 {

@@ -24,9 +24,9 @@ fn words_of(rt: &HostRuntime) -> io::Result<Vec<String>> {
 fn main(rt: HostRuntime) -> ExitCode {
     let words = match words_of(&rt) {
         Ok(words) => words,
-        Err(error) if error.kind() == ErrorKind::OutOfMemory => return ExitCode::from(
-            Status::NoMemory.code(),
-        ),
+        Err(error) if error.kind() == ErrorKind::OutOfMemory => {
+            return ExitCode::from(Status::NoMemory.code());
+        }
         // Words that aren't UTF-8 aren't good, as no words are.
         Err(_) => Vec::new(rt.alloc()),
     };

@@ -75,8 +75,8 @@ fn after_version(alloc: Global, version: &AskedVersion, class: Class) -> Result<
     }
 }
 
-/// The text of the version that may follow after a change of this class, and of none where no version is given. A version is refused
-/// that isn't a release, or that none can follow.
+/// The text of the version that may follow after a change of this class, and an empty one where no version is given. A version that
+/// isn't a release, or that none can follow, is refused.
 pub fn advice(
     alloc: Global,
     version: &Option<AskedVersion>,
