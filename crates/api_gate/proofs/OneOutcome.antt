@@ -1,5 +1,5 @@
 -- The definitions give one outcome for words and files.
-use Rattle.std.proofs.Common.{◌≡◌, ◌≢◌, ℕ, Bool, true, false, Option, Some, None, List, [], map, Ok, refl, sym, ap, ◌∙◌, subst}
+use Rattle.std.proofs.Common.{◌≡◌, ◌≢◌, ℕ, Bool, true, Option, Some, None, List, [], map, refl, sym, ap, subst}
 use Rattle.api_advice.specs.Advice.{IsNext}
 use Rattle.api_advice.specs.declared.class.Class.{Class}
 use Rattle.api_advice.specs.declared.release.Release.{Release}
@@ -24,7 +24,7 @@ use Rattle.api_generator.specs.MadeTrees.{made_contents}
 use Rattle.api_gate.proofs.OneReport.{report_or_refusal, same_report, same_unadvised}
 use Rattle.api_gate.proofs.RequestFacts.{named_module, std_tree, takes_version, version_in}
 use Rattle.api_gate.specs.declared.status.Status.TheVariants as status
-use Rattle.api_gate.specs.runs.Outcomes.{AreFound, AreMerged, Asks, EndsWith, bad_words, refused_inputs, refused_platform, refused_advice, reported_findings, IsAdviceRefusal, IsReportOn, Outcome, fault_alone, files_of, modules_of, reported}
+use Rattle.api_gate.specs.runs.Outcomes.{AreFound, AreMerged, EndsWith, bad_words, refused_inputs, refused_platform, refused_advice, reported_findings, IsAdviceRefusal, IsReportOn, Outcome, fault_alone, files_of, modules_of, reported}
 
 -- ---- of one request and its inputs
 

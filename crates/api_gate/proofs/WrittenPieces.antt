@@ -1,9 +1,7 @@
 -- Bytes that a sink takes in pieces.
 use Rattle.std.proofs.Common.{◌≡◌, ℕ, zero, suc, ◌+◌, ◌-◌, ◌≤◌, List, [], ◌∷◌, ◌++◌, length, take, drop, Option, Some, None, Result, Ok, Err, refl, sym, ap, ◌∙◌, subst, append_assoc, append-nil, inl, inr, arith, ◌^◌, min, length-drop, length-take-le}
-use Rattle.go_outside.specs.Faults.{Rose}
 use Rattle.go_outside.specs.Sinks.{Takes, TakesSome, AnswersWrite, SinkCause}
 use Rattle.go_outside.specs.declared.sink.SinkError.{SinkError}
-use Rattle.api_gate.specs.runs.Effects.{Change, Failed, NeverFell, change}
 use Rattle.api_gate.specs.runs.Runs.{Tried}
 
 pub takes_nothing : (old : Option (List ℕ)) → Takes old [] old

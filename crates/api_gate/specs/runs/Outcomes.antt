@@ -1,6 +1,6 @@
 -- What the definitions give for the words and the files: what goes to the output, the fault line and the status.
 -- Own: this project's reports and exit statuses.
-use Rattle.std.specs.Prelude.{◌≡◌, ◌≤◌, ◌||◌, ℕ, Bool, true, false, if◌then◌else◌, Option, Some, None, List, [], ◌∷◌, ◌++◌, length}
+use Rattle.std.specs.Prelude.{◌≡◌, ◌≤◌, ◌||◌, ℕ, Bool, false, if◌then◌else◌, Option, Some, None, List, [], ◌∷◌, ◌++◌, length}
 use Rattle.std.specs.List.{list_any}
 use Rattle.api_advice.specs.Advice.{IsNext}
 use Rattle.api_advice.specs.declared.class.Class.{Class}
