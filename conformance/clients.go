@@ -241,6 +241,7 @@ func prepare(old *tree) *prepared {
 	for _, pack := range old.public {
 		u := newUnit(old, pack, *most)
 		u.generate()
+		u.randomly(*seed, *random)
 		of := u.parse()
 		for _, one := range u.blocks {
 			one.kept = len(one.decls) > 0

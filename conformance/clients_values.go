@@ -55,6 +55,7 @@ type unit struct {
 	blocks  []*block
 	texts   map[string]bool
 	most    int
+	chooser *chooser // while clients are made by chance
 }
 
 const mostRecipes = 2
@@ -275,6 +276,9 @@ func (u *unit) client(write func(s *scope)) {
 	if len(u.blocks) >= u.most {
 		return
 	}
+	if c := u.chooser; c != nil && (c.left <= 0 || c.Float64() > c.share) {
+		return
+	}
 	s := &scope{unit: u, number: len(u.blocks) + 1, taken: map[string]bool{}}
 	defer func() {
 		if wrong := recover(); wrong != nil {
@@ -287,12 +291,28 @@ func (u *unit) client(write func(s *scope)) {
 		text += fmt.Sprintf("\nfunc F%d_(%s)%s {\n\t%s\n}", s.number, strings.Join(s.params, ", "), s.results, strings.Join(s.lines, "\n\t"))
 	}
 	text = strings.TrimLeft(text, "\n")
+	if !u.isUsed(text) {
+		return
+	}
 	same := strings.ReplaceAll(text, fmt.Sprintf("%d_", s.number), "_")
 	if u.texts[same] {
 		return
 	}
 	u.texts[same] = true
+	if u.chooser != nil {
+		u.chooser.left--
+	}
 	u.blocks = append(u.blocks, &block{name: fmt.Sprintf("c%d", s.number), text: text})
+}
+
+// isUsed says whether a text names a package of the module.
+func (u *unit) isUsed(text string) bool {
+	for path, name := range u.names {
+		if (path == u.tree.module || strings.HasPrefix(path, u.tree.module+"/")) && mentions(text, name) {
+			return true
+		}
+	}
+	return false
 }
 
 func (s *scope) fail() { panic(cannot{}) }
@@ -323,6 +343,9 @@ func (s *scope) param(typ string) string {
 
 // value is an expression of the type.
 func (s *scope) value(t types.Type) string {
+	if s.chooser != nil {
+		return s.composed(t, s.chooser.Intn(nested))
+	}
 	if s.canWrite(t) {
 		return s.param(s.typ(t))
 	}
