@@ -1,10 +1,12 @@
 // Makes clients of old versions of modules, and tells which of them stop compiling against the new version, by Go's type checker.
 //
-//	clients [--keep DIR] [--list DIR] [--most N] [--random N] [--seed N] [--workers N] [FILE]
+//	clients [--all] [--keep DIR] [--list DIR] [--shown N] [--most N] [--random N] [--seed N] [--workers N] [FILE]
 //
 // FILE, or the standard input, has a line `NAME OLD NEW STD` for each pair: the folders of two versions of a module, and of the
 // declarations of the packages that they import from elsewhere, or `-` for Go's own. Of each pair it prints `NAME clients N broken N`,
-// and for each client that is broken `NAME broken CLIENT MESSAGE`; or `NAME refused SIDE MESSAGE` where Go can't type a version.
+// and for some of the clients that are broken `NAME broken CLIENT MESSAGE`; or `NAME refused SIDE MESSAGE` where Go can't type a version.
+// Without --all the clients are those that name something whose declaration, or one that it leads to, isn't the same in both versions:
+// no other one can break.
 //
 // A client of the profile uses what the public packages of the module export in these ways:
 //
@@ -35,6 +37,7 @@ package main
 
 import (
 	"bufio"
+	"crypto/sha256"
 	"flag"
 	"fmt"
 	"go/ast"
@@ -54,7 +57,9 @@ import (
 var (
 	keep    = flag.String("keep", "", "a folder for the clients that stop compiling")
 	list    = flag.String("list", "", "a folder for all clients")
-	most    = flag.Int("most", 20000, "how many clients of one package")
+	all     = flag.Bool("all", false, "also clients of what leads to no change")
+	shown   = flag.Int("shown", 20, "how many clients of a pair are told")
+	most    = flag.Int("most", 4000, "how many clients of a pair, before those made by chance")
 	random  = flag.Int("random", 300, "how many random clients of one package")
 	seed    = flag.Int64("seed", 1, "of random clients")
 	workers = flag.Int("workers", runtime.NumCPU(), "how many pairs at once")
@@ -227,77 +232,94 @@ func (u *unit) alone(one *block, over *tree) (message string) {
 	return message
 }
 
-// A prepared old version has the clients that are typed against it and in the profile.
+// A prepared old version has its types explored, once for all pairs that have it.
 type prepared struct {
-	tree   *tree
-	units  []*unit
-	parsed []*parsedUnit
-	count  int
-	left   map[string]int
+	sync.Once
+	tree  *tree
+	units []*unit
+	facts map[string]fact
+	err   error
 }
 
-func prepare(old *tree) *prepared {
-	p := &prepared{tree: old, left: map[string]int{}}
-	for _, pack := range old.public {
-		u := newUnit(old, pack, *most)
-		u.generate()
-		u.randomly(*seed, *random)
-		of := u.parse()
-		for _, one := range u.blocks {
-			one.kept = len(one.decls) > 0
-		}
-		for _, one := range u.faulty(of, old, nil) {
-			one.kept = false
-			p.left["untyped"]++
-		}
-		info := &types.Info{Types: map[ast.Expr]types.TypeAndValue{}, Defs: map[*ast.Ident]types.Object{}, Uses: map[*ast.Ident]types.Object{}}
-		for _, one := range u.faulty(of, old, info) {
-			one.kept = false
-		}
-		for _, one := range u.blocks {
-			for _, decl := range one.decls {
-				if one.kept {
-					if why := outside(decl, info); why != "" {
-						one.kept = false
-						p.left[why]++
-					}
-				}
-			}
-			if one.kept {
-				p.count++
-			}
-		}
-		p.units, p.parsed = append(p.units, u), append(p.parsed, of)
+func (p *prepared) prepare(folder string, std *standard) {
+	if p.tree, p.err = load(folder, std); p.err != nil {
+		return
 	}
-	return p
+	for _, pack := range p.tree.public {
+		u := newUnit(p.tree, pack)
+		u.exploreAll()
+		p.units = append(p.units, u)
+	}
+	p.facts = p.tree.facts()
+}
+
+// profiled makes clients, and keeps those that are typed against the old version and in the profile.
+func (u *unit) profiled(old *tree) (p *parsedUnit, count int) {
+	u.generate()
+	u.randomly(*seed, *random)
+	p = u.parse()
+	for _, one := range u.blocks {
+		one.kept = len(one.decls) > 0
+	}
+	for _, one := range u.faulty(p, old, nil) {
+		one.kept = false
+	}
+	info := &types.Info{Types: map[ast.Expr]types.TypeAndValue{}, Defs: map[*ast.Ident]types.Object{}, Uses: map[*ast.Ident]types.Object{}}
+	for _, one := range u.faulty(p, old, info) {
+		one.kept = false
+	}
+	for _, one := range u.blocks {
+		for _, decl := range one.decls {
+			one.kept = one.kept && outside(decl, info) == ""
+		}
+		if one.kept {
+			count++
+		}
+	}
+	return p, count
 }
 
 // A pair is a line of the manifest.
 type pair struct{ name, old, new, std string }
 
 // compare tells of one pair.
-func (p *prepared) compare(of pair, now *tree, out io.Writer) {
+func (p *prepared) compare(of pair, now *tree) string {
+	var focus map[string]int
+	if !*all {
+		focus = changes(p.facts, now.facts())
+	}
 	var told []string
-	for i, u := range p.units {
-		for _, one := range u.faulty(p.parsed[i], now, nil) {
-			if u.alone(one, p.tree) != "" {
+	clients, broken := 0, 0
+	for _, explored := range p.units {
+		u := explored.over(focus, *most/len(p.units))
+		parsed, count := u.profiled(p.tree)
+		clients += count
+		for _, one := range u.blocks {
+			if one.kept && *list != "" {
+				write(filepath.Join(*list, of.name, u.nameOf(one)), u.text([]*block{one}))
+			}
+		}
+		for _, one := range u.faulty(parsed, now, nil) {
+			if broken++; len(told) >= *shown {
 				continue
 			}
 			message := u.alone(one, now)
-			if message == "" {
+			if message == "" || u.alone(one, p.tree) != "" {
+				broken--
 				continue
 			}
-			name := strings.ReplaceAll(strings.Trim(u.pack.Path(), "/"), "/", "_") + "_" + one.name
-			told = append(told, fmt.Sprintf("%s broken %s %s", of.name, name, strings.ReplaceAll(message, "\n", " ")))
+			told = append(told, fmt.Sprintf("%s broken %s %s", of.name, u.nameOf(one), strings.ReplaceAll(message, "\n", " ")))
 			if *keep != "" {
-				write(filepath.Join(*keep, of.name, name), u.text([]*block{one}))
+				write(filepath.Join(*keep, of.name, u.nameOf(one)), u.text([]*block{one}))
 			}
 		}
 	}
-	fmt.Fprintf(out, "%s clients %d broken %d\n", of.name, p.count, len(told))
-	for _, line := range told {
-		fmt.Fprintln(out, line)
-	}
+	return strings.Join(append([]string{fmt.Sprintf("%s clients %d broken %d", of.name, clients, broken)}, told...), "\n") + "\n"
+}
+
+// nameOf is the name of a client among all of a pair.
+func (u *unit) nameOf(one *block) string {
+	return strings.ReplaceAll(u.pack.Path(), "/", "_") + "_" + one.name
 }
 
 func write(folder, text string) {
@@ -312,53 +334,66 @@ func fail(err error) {
 	}
 }
 
-var (
-	standards     = map[string]*standard{}
-	standardsLock sync.Mutex
-)
-
-func standardOf(folder string) *standard {
-	standardsLock.Lock()
-	defer standardsLock.Unlock()
-	if standards[folder] == nil {
-		standards[folder] = newStandard(folder)
-	}
-	return standards[folder]
+// A cache has what is read once for several pairs.
+type cache struct {
+	sync.Mutex
+	standards map[string]*standard
+	olds      map[string]*prepared
 }
 
-// compareAll tells of pairs that have one old version.
-func compareAll(pairs []pair) []string {
-	told := make([]string, len(pairs))
-	std := standardOf(pairs[0].std)
-	old, err := load(pairs[0].old, std)
-	var p *prepared
-	if err == nil {
-		p = prepare(old)
-		if *list != "" {
-			for _, u := range p.units {
-				for _, one := range u.blocks {
-					if one.kept {
-						write(filepath.Join(*list, pairs[0].name, strings.ReplaceAll(u.pack.Path(), "/", "_")+"_"+one.name), u.text([]*block{one}))
-					}
-				}
-			}
-		}
+const remembered = 64
+
+func (c *cache) standard(folder string) *standard {
+	c.Lock()
+	defer c.Unlock()
+	if c.standards[folder] == nil {
+		c.standards[folder] = newStandard(folder)
 	}
-	for i, of := range pairs {
-		text := &strings.Builder{}
-		if err != nil {
-			fmt.Fprintf(text, "%s refused old %s\n", of.name, strings.ReplaceAll(err.Error(), "\n", " "))
-		} else if now, err := load(of.new, std); err != nil {
-			fmt.Fprintf(text, "%s refused new %s\n", of.name, strings.ReplaceAll(err.Error(), "\n", " "))
-		} else {
-			p.compare(of, now, text)
-		}
-		told[i] = text.String()
-	}
-	return told
+	return c.standards[folder]
 }
 
-const together = 16
+// old is the old version of a pair; folders with the same files are one.
+func (c *cache) old(of pair) *prepared {
+	key := contents(of.old) + of.std
+	c.Lock()
+	if len(c.olds) > remembered {
+		c.olds = map[string]*prepared{}
+	}
+	p := c.olds[key]
+	if p == nil {
+		p = &prepared{}
+		c.olds[key] = p
+	}
+	c.Unlock()
+	std := c.standard(of.std)
+	p.Do(func() { p.prepare(of.old, std) })
+	return p
+}
+
+// contents is a digest of the files of a folder.
+func contents(folder string) string {
+	digest := sha256.New()
+	filepath.Walk(folder, func(path string, info os.FileInfo, err error) error {
+		if err == nil && info.Mode().IsRegular() {
+			text, _ := os.ReadFile(path)
+			fmt.Fprintf(digest, "%s %d\n%s", strings.TrimPrefix(path, folder), len(text), text)
+		}
+		return nil
+	})
+	return string(digest.Sum(nil))
+}
+
+func (c *cache) tell(of pair) string {
+	p := c.old(of)
+	if p.err != nil {
+		return fmt.Sprintf("%s refused old %s\n", of.name, strings.ReplaceAll(p.err.Error(), "\n", " "))
+	}
+	now, err := load(of.new, c.standard(of.std))
+	if err != nil {
+		return fmt.Sprintf("%s refused new %s\n", of.name, strings.ReplaceAll(err.Error(), "\n", " "))
+	}
+	return p.compare(of, now)
+}
 
 func main() {
 	flag.Parse()
@@ -369,7 +404,7 @@ func main() {
 		fail(err)
 		source = file
 	}
-	var groups [][]pair
+	var pairs []pair
 	lines := bufio.NewScanner(source)
 	for lines.Scan() {
 		words := strings.Fields(lines.Text())
@@ -379,36 +414,27 @@ func main() {
 		if len(words) != 4 {
 			fail(fmt.Errorf("not NAME OLD NEW STD: %s", lines.Text()))
 		}
-		of := pair{words[0], words[1], words[2], words[3]}
-		if last := len(groups) - 1; last >= 0 && groups[last][0].old == of.old && groups[last][0].std == of.std && len(groups[last]) < together {
-			groups[last] = append(groups[last], of)
-			continue
-		}
-		groups = append(groups, []pair{of})
+		pairs = append(pairs, pair{words[0], words[1], words[2], words[3]})
 	}
-	results := make([]chan []string, len(groups))
+	results := make([]chan string, len(pairs))
 	for i := range results {
-		results[i] = make(chan []string, 1)
+		results[i] = make(chan string, 1)
 	}
+	c := &cache{standards: map[string]*standard{}, olds: map[string]*prepared{}}
 	next := make(chan int)
 	for i := 0; i < *workers; i++ {
 		go func() {
 			for at := range next {
-				results[at] <- compareAll(groups[at])
+				results[at] <- c.tell(pairs[at])
 			}
 		}()
 	}
 	go func() {
-		for at := range groups {
+		for at := range pairs {
 			next <- at
 		}
 	}()
-	out := bufio.NewWriter(os.Stdout)
-	defer out.Flush()
 	for _, one := range results {
-		for _, text := range <-one {
-			fmt.Fprint(out, text)
-		}
-		out.Flush()
+		fmt.Print(<-one)
 	}
 }

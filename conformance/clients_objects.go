@@ -5,6 +5,7 @@ import (
 	"fmt"
 	"go/constant"
 	"go/types"
+	"sort"
 	"strings"
 )
 
@@ -22,7 +23,7 @@ func (u *unit) enter(t types.Type, depth int) *entry {
 	}
 	e := u.entries[key]
 	if e == nil {
-		e = &entry{typ: t, named: u.canWrite(t), depth: depth}
+		e = &entry{typ: t, key: key, named: u.canWrite(t), depth: depth}
 		u.entries[key] = e
 		u.order = append(u.order, e)
 	}
@@ -170,18 +171,22 @@ func (u *unit) isOwn(named *types.Named) bool {
 	return path == u.tree.module || strings.HasPrefix(path, u.tree.module+"/")
 }
 
-// generate makes the clients of the unit.
-func (u *unit) generate() {
-	var objects []types.Object
+// objects are the exported objects of the package.
+func (u *unit) objects() (all []types.Object) {
 	for _, name := range u.pack.Scope().Names() {
 		if object := u.pack.Scope().Lookup(name); object.Exported() {
-			objects = append(objects, object)
+			all = append(all, object)
 		}
 	}
+	return all
+}
+
+// exploreAll notes all types that the package leads to.
+func (u *unit) exploreAll() {
 	u.enter(types.Universe.Lookup("error").Type(), deepest)
-	for _, object := range objects {
+	for _, object := range u.objects() {
 		object := object
-		whole := func(s *scope) string { return u.name(u.pack) + "." + object.Name() }
+		whole := func(s *scope) string { return s.name(object.Pkg()) + "." + object.Name() }
 		switch object := object.(type) {
 		case *types.Var:
 			u.reach(object.Type(), 0, variable, whole)
@@ -202,13 +207,52 @@ func (u *unit) generate() {
 	for at := 0; at < len(u.order); at++ {
 		u.explore(u.order[at])
 	}
-	for _, object := range objects {
-		u.useObject(object)
+}
+
+// generate makes the clients of the unit, first those of what is nearest to a change.
+func (u *unit) generate() {
+	type subject struct {
+		far int
+		use func()
+	}
+	var subjects []subject
+	add := func(far int, use func()) { subjects = append(subjects, subject{far, use}) }
+	for _, object := range u.objects() {
+		object := object
+		far := u.farObject(object)
+		if far < never {
+			add(far, func() { u.useObject(object) })
+			if name, is := object.(*types.TypeName); is {
+				add(far, func() { u.useType(u.name(u.pack)+"."+object.Name(), name.Type()) })
+			}
+		} else if of, is := object.(*types.Var); is {
+			add(never, func() {
+				u.useElsewhere(held{of.Type(), variable, func(s *scope) string { return s.name(u.pack) + "." + of.Name() }})
+			})
+		}
 	}
 	for _, e := range u.order {
-		u.useEntry(e)
+		e := e
+		far := u.far(e.typ)
+		if far == never && !e.named {
+			far--
+		}
+		add(far, func() { u.useEntry(e) })
+		for _, value := range []string{"nil", "0", `""`, "'a'", "false", "func() {}"} { // places take untyped constants
+			for _, take := range e.takers {
+				take, value := take, value
+				add(far, func() { u.client(func(s *scope) { take(s, value) }) })
+			}
+		}
+		if under, is := e.typ.Underlying().(*types.Interface); is && !e.named {
+			add(far, func() { u.implemented(held{e.typ, plain, func(s *scope) string { return s.made(e.typ) }}, under) })
+		}
 	}
-	u.useTypes(objects)
+	add(0, u.useTypes)
+	sort.SliceStable(subjects, func(i, j int) bool { return subjects[i].far < subjects[j].far })
+	for _, one := range subjects {
+		one.use()
+	}
 }
 
 // useEntry uses values of a type of the module, and of what can't be written.
@@ -220,6 +264,10 @@ func (u *unit) useEntry(e *entry) {
 		}
 		named, is := of.(*types.Named)
 		if !is || named.Obj().Pkg() != u.pack {
+			return
+		}
+		if u.far(e.typ) == never {
+			u.useElsewhere(held{e.typ, variable, func(s *scope) string { return s.param(s.typ(e.typ)) }})
 			return
 		}
 		u.useAll(held{e.typ, variable, func(s *scope) string { return s.param(s.typ(e.typ)) }})
@@ -352,17 +400,13 @@ func (u *unit) useConst(name string, object *types.Const) {
 	}
 }
 
-// useTypes uses the exported types of the package by their names.
-func (u *unit) useTypes(objects []types.Object) {
-	for _, object := range objects {
-		if object, is := object.(*types.TypeName); is {
-			u.useType(u.name(u.pack)+"."+object.Name(), object.Type())
-		}
-	}
+// useTypes uses several types at once.
+func (u *unit) useTypes() {
 	var all []string
+	var far []int
 	for _, e := range u.order {
 		if e.named {
-			all = append(all, u.typ(e.typ))
+			all, far = append(all, u.typ(e.typ)), append(far, u.far(e.typ))
 		}
 	}
 	one := func(names []string) {
@@ -374,30 +418,21 @@ func (u *unit) useTypes(objects []types.Object) {
 	}
 	one(all)
 	for i := range all {
-		for j := 0; j < i && len(all) < 40; j++ {
-			one([]string{all[i], all[j]})
+		for j := 0; j < i; j++ {
+			if far[i] == 0 || far[j] == 0 {
+				one([]string{all[i], all[j]})
+			}
 		}
 	}
-	for _, one := range objects { // names of one type
+	for _, object := range u.objects() { // names of one type
 		for _, other := range u.tree.exportedTypes() {
-			if one, is := one.(*types.TypeName); is && one != other && types.Identical(one.Type(), other.Type()) {
+			if one, is := object.(*types.TypeName); is && one != other && types.Identical(one.Type(), other.Type()) {
 				left, right := u.name(one.Pkg())+"."+one.Name(), u.name(other.Pkg())+"."+other.Name()
 				u.client(func(s *scope) { s.decl("var V%d_ %s = *new(%s)", s.number, left, right) })
 				u.client(func(s *scope) { s.decl("var V%d_ *%s = new(%s)", s.number, left, right) })
 				u.client(func(s *scope) { s.decl("var V%d_ func(%s) = func(%s) {}", s.number, right, left) })
 				u.client(func(s *scope) { s.decl("var V%d_ = []%s{*new(%s)}", s.number, left, right) })
 			}
-		}
-	}
-	for _, e := range u.order { // places take untyped constants
-		for _, value := range []string{"nil", "0", `""`, "'a'", "false", "func() {}"} {
-			for _, take := range e.takers {
-				take, value := take, value
-				u.client(func(s *scope) { take(s, value) })
-			}
-		}
-		if under, is := e.typ.Underlying().(*types.Interface); is && !e.named {
-			u.implemented(held{e.typ, plain, func(s *scope) string { return s.made(e.typ) }}, under)
 		}
 	}
 }

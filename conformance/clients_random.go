@@ -47,11 +47,17 @@ func (u *unit) randomly(seed int64, count int) {
 			}
 		}
 	}
-	u.chooser = c
+	u.chooser, u.most = c, len(u.blocks)+count
+	var near []*entry
+	for _, e := range u.order {
+		if u.far(e.typ) < never {
+			near = append(near, e)
+		}
+	}
 	for round := 0; round < 20*count && c.left > 0; round++ {
 		e := u.order[c.Intn(len(u.order))]
-		if e.named && !u.mentionsOwn(e.typ) && c.Intn(4) > 0 {
-			continue
+		if len(near) > 0 && c.Intn(4) > 0 {
+			e = near[c.Intn(len(near))]
 		}
 		in := mode(c.Intn(int(element)))
 		u.useAll(held{e.typ, in, func(s *scope) string { return s.composed(e.typ, nested) }})
@@ -62,9 +68,6 @@ func (u *unit) randomly(seed int64, count int) {
 	}
 	u.chooser = nil
 }
-
-// mentionsOwn says whether a type is of the module, or a part of it is.
-func (u *unit) mentionsOwn(t types.Type) bool { return strings.Contains(keyOf(t), u.tree.module) }
 
 func (c *chooser) produces(t types.Type, one producer) {
 	key := ""

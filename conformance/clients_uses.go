@@ -412,7 +412,7 @@ func (u *unit) useBasic(h held, under *types.Basic) {
 // useInterface asks a value of an interface which type it has.
 func (u *unit) useInterface(h held, under *types.Interface) {
 	for _, e := range u.order {
-		if !e.named || types.IsInterface(e.typ) || !types.Implements(e.typ, under) {
+		if !e.named || types.IsInterface(e.typ) || u.far(e.typ) == never && u.far(h.typ) == never || !types.Implements(e.typ, under) {
 			continue
 		}
 		t := e.typ
@@ -576,9 +576,10 @@ func selectors(t types.Type) (names []string) {
 
 // useElsewhere moves a value to places of other types.
 func (u *unit) useElsewhere(h held) {
+	isFar := u.far(h.typ) == never
 	for _, e := range u.order {
 		t := e.typ
-		if types.Identical(t, h.typ) || keyOf(t) == "interface{}" {
+		if isFar && u.far(t) == never || types.Identical(t, h.typ) || e.key == "interface{}" {
 			continue
 		}
 		if types.AssignableTo(h.typ, t) && barredAssignment(clientPath, h.typ, t) == "-" {
@@ -602,7 +603,9 @@ func (u *unit) useElsewhere(h held) {
 			u.with(h, func(s *scope, x string) { s.pin(fmt.Sprintf("%s.(%s)", x, s.typ(t)), t) })
 		}
 	}
-	u.subsets(h)
+	if !isFar {
+		u.subsets(h)
+	}
 }
 
 // subsets moves a value to interfaces of the client with some of its methods.

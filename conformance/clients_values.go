@@ -37,6 +37,7 @@ type recipe struct {
 // An entry is a type that the package leads to: values of it, and the places that take one.
 type entry struct {
 	typ     types.Type
+	key     string
 	named   bool // it can be written in a client
 	recipes [modes][]recipe
 	takers  []func(s *scope, value string)
@@ -55,7 +56,9 @@ type unit struct {
 	blocks  []*block
 	texts   map[string]bool
 	most    int
-	chooser *chooser // while clients are made by chance
+	chooser *chooser       // while clients are made by chance
+	focus   map[string]int // how far what is changed is from each name that leads to it; nothing where all clients are wanted
+	fars    map[types.Type]int
 }
 
 const mostRecipes = 2
@@ -74,10 +77,10 @@ type scope struct {
 	taken   map[string]bool
 }
 
-func newUnit(t *tree, pack *types.Package, most int) *unit {
+func newUnit(t *tree, pack *types.Package) *unit {
 	u := &unit{
 		tree: t, pack: pack, names: map[string]string{}, imports: map[string]string{}, aliases: map[string]*types.TypeName{},
-		entries: map[string]*entry{}, texts: map[string]bool{}, most: most,
+		entries: map[string]*entry{}, texts: map[string]bool{}, fars: map[types.Type]int{},
 	}
 	u.name(pack)
 	for _, public := range t.public {
@@ -90,6 +93,20 @@ func newUnit(t *tree, pack *types.Package, most int) *unit {
 		}
 	}
 	return u
+}
+
+// over is a unit that makes clients of its own of what was explored once.
+func (u *unit) over(focus map[string]int, most int) *unit {
+	copied := *u
+	copied.names, copied.imports, copied.texts, copied.fars = map[string]string{}, map[string]string{}, map[string]bool{}, map[types.Type]int{}
+	for path, name := range u.names {
+		copied.names[path] = name
+	}
+	for name, path := range u.imports {
+		copied.imports[name] = path
+	}
+	copied.focus, copied.most = focus, most
+	return &copied
 }
 
 // name is the name by which a package is imported.
@@ -113,6 +130,19 @@ type writing struct {
 	name    func(object *types.TypeName) string
 	replace func(t types.Type) string // an alias in place of what can't be written, or nothing
 	exact   bool                      // also what a client can't write
+}
+
+// namesIn are the defined types that are named in a type.
+func namesIn(t types.Type) (names []types.Object) {
+	defer func() { recover() }()
+	w := &writing{replace: func(types.Type) string { return "" }, exact: true, name: func(object *types.TypeName) string {
+		if object.Pkg() != nil {
+			names = append(names, object)
+		}
+		return ""
+	}}
+	w.typ(t)
+	return names
 }
 
 // keyOf writes a type so that identical types have one text.
@@ -291,7 +321,7 @@ func (u *unit) client(write func(s *scope)) {
 		text += fmt.Sprintf("\nfunc F%d_(%s)%s {\n\t%s\n}", s.number, strings.Join(s.params, ", "), s.results, strings.Join(s.lines, "\n\t"))
 	}
 	text = strings.TrimLeft(text, "\n")
-	if !u.isUsed(text) {
+	if u.farText(text) == never {
 		return
 	}
 	same := strings.ReplaceAll(text, fmt.Sprintf("%d_", s.number), "_")
@@ -305,14 +335,55 @@ func (u *unit) client(write func(s *scope)) {
 	u.blocks = append(u.blocks, &block{name: fmt.Sprintf("c%d", s.number), text: text})
 }
 
-// isUsed says whether a text names a package of the module.
-func (u *unit) isUsed(text string) bool {
-	for path, name := range u.names {
-		if (path == u.tree.module || strings.HasPrefix(path, u.tree.module+"/")) && mentions(text, name) {
-			return true
+// never is the distance of what leads to no change.
+const never = 1 << 30
+
+// farName is how far what is changed is from a name of the module.
+func (u *unit) farName(path, name string) int {
+	if path != u.tree.module && !strings.HasPrefix(path, u.tree.module+"/") {
+		return never
+	}
+	if u.focus == nil {
+		return 0
+	}
+	if far, is := u.focus[path+" "+name]; is {
+		return far
+	}
+	return never
+}
+
+func (u *unit) farObject(object types.Object) int {
+	return u.farName(object.Pkg().Path(), object.Name())
+}
+
+// far is how far what is changed is from a type.
+func (u *unit) far(t types.Type) int {
+	far, is := u.fars[t]
+	if !is {
+		far = never
+		for _, name := range namesIn(t) {
+			if at := u.farObject(name); at < far {
+				far = at
+			}
+		}
+		u.fars[t] = far
+	}
+	return far
+}
+
+var selected = regexp.MustCompile(`([\pL_][\pL\pN_]*)\.([\pL_][\pL\pN_]*)`)
+
+// farText is how far what is changed is from what a client names.
+func (u *unit) farText(text string) int {
+	far := never
+	for _, found := range selected.FindAllStringSubmatch(text, -1) {
+		if path := u.imports[found[1]]; path != "" {
+			if at := u.farName(path, found[2]); at < far {
+				far = at
+			}
 		}
 	}
-	return false
+	return far
 }
 
 func (s *scope) fail() { panic(cannot{}) }
