@@ -103,7 +103,7 @@ func mentions(text, name string) bool {
 			return false
 		}
 		at += found
-		if at == 0 || !isPart(text[at-1]) {
+		if at == 0 || !isPart(text[at-1]) && text[at-1] != '.' {
 			return true
 		}
 		at++
@@ -111,7 +111,7 @@ func mentions(text, name string) bool {
 }
 
 func isPart(one byte) bool {
-	return one == '_' || one == '.' || '0' <= one && one <= '9' || 'a' <= one && one <= 'z' || 'A' <= one && one <= 'Z'
+	return one == '_' || one >= 0x80 || '0' <= one && one <= '9' || 'a' <= one && one <= 'z' || 'A' <= one && one <= 'Z'
 }
 
 // A parsedUnit is a file with all clients of a unit.

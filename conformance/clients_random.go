@@ -21,6 +21,7 @@ type chooser struct {
 	left      int     // how many clients are wanted
 	share     float64 // how many of those that could be made are
 	producers map[string][]producer
+	lowers    map[string][]types.Type
 }
 
 const nested = 4
@@ -30,7 +31,7 @@ func (u *unit) randomly(seed int64, count int) {
 	if len(u.order) == 0 || count == 0 {
 		return
 	}
-	c := &chooser{Rand: rand.New(rand.NewSource(seed)), left: count, share: 0.02, producers: map[string][]producer{}}
+	c := &chooser{Rand: rand.New(rand.NewSource(seed)), left: count, share: 0.1, producers: map[string][]producer{}, lowers: map[string][]types.Type{}}
 	for _, e := range u.order {
 		for _, name := range selectors(e.typ) {
 			object, _, _ := types.LookupFieldOrMethod(e.typ, true, nil, name)
@@ -54,7 +55,7 @@ func (u *unit) randomly(seed int64, count int) {
 			near = append(near, e)
 		}
 	}
-	for round := 0; round < 20*count && c.left > 0; round++ {
+	for round := 0; round < 2*count && c.left > 0; round++ {
 		e := u.order[c.Intn(len(u.order))]
 		if len(near) > 0 && c.Intn(4) > 0 {
 			e = near[c.Intn(len(near))]
@@ -80,11 +81,15 @@ func (c *chooser) produces(t types.Type, one producer) {
 
 // lower is a type whose values can be assigned to a type: the type itself, or by chance another one.
 func (s *scope) lower(t types.Type) types.Type {
-	var all []types.Type
-	for _, e := range s.order {
-		if types.AssignableTo(e.typ, t) {
-			all = append(all, e.typ)
+	key := keyOf(t)
+	all, is := s.chooser.lowers[key]
+	if !is {
+		for _, e := range s.order {
+			if types.AssignableTo(e.typ, t) {
+				all = append(all, e.typ)
+			}
 		}
+		s.chooser.lowers[key] = all
 	}
 	if len(all) == 0 || s.chooser.Intn(2) == 0 {
 		return t

@@ -371,15 +371,23 @@ func (u *unit) far(t types.Type) int {
 	return far
 }
 
-var selected = regexp.MustCompile(`([\pL_][\pL\pN_]*)\.([\pL_][\pL\pN_]*)`)
-
 // farText is how far what is changed is from what a client names.
 func (u *unit) farText(text string) int {
 	far := never
-	for _, found := range selected.FindAllStringSubmatch(text, -1) {
-		if path := u.imports[found[1]]; path != "" {
-			if at := u.farName(path, found[2]); at < far {
-				far = at
+	for at := 1; at < len(text); at++ {
+		if text[at] != '.' || !isPart(text[at-1]) {
+			continue
+		}
+		start, end := at, at+1
+		for start > 0 && isPart(text[start-1]) {
+			start--
+		}
+		for end < len(text) && isPart(text[end]) {
+			end++
+		}
+		if path := u.imports[text[start:at]]; path != "" {
+			if near := u.farName(path, text[at+1:end]); near < far {
+				far = near
 			}
 		}
 	}
