@@ -470,12 +470,18 @@ func (u *unit) useType(name string, t types.Type) {
 		decl("var V# = @(" + constant + ")")
 	}
 	if basic, is := t.Underlying().(*types.Basic); is {
-		to := basic.Name()
-		decl("const C# = " + to + "(^@(0))")
-		decl("const C# = " + to + "(@(1) << 7 >> 7)")
-		decl("var V# = (*" + to + ")(new(@))")
-		decl("var V# = (*@)(new(" + to + "))")
-		decl("type D# " + to + "\nvar V# = (*D#)(new(@))")
+		decl("const C# = " + basic.Name() + "(^@(0))")
+		decl("const C# = " + basic.Name() + "(@(1) << 7 >> 7)")
+	}
+	if under := t.Underlying(); u.canWrite(under) {
+		to := u.typ(under)
+		for _, format := range []string{
+			"var V# = (*(%))(new(@))", "var V# = (*@)(new(%))", "type D# %\nvar V# = (*D#)(new(@))", "type D# %\nvar V# = D#(*new(@))", "type D# %\nvar V# = @(*new(D#))",
+			"var V# % = *new(@)", "var V# @ = *new(%)", "var V# = *new(@) == *new(%)", "var V# = interface{}(*new(@)) == interface{}(*new(%))", "var V# = append([]%{}, *new(@))",
+			"func F#(x interface{}) {\n\tswitch x.(type) {\n\tcase %, @:\n\t}\n}",
+		} {
+			decl(strings.ReplaceAll(format, "%", to))
+		}
 	}
 	for _, selector := range selectors(t) {
 		selector := selector
