@@ -145,7 +145,8 @@ func (u *unit) explore(e *entry) {
 	case *types.Map:
 		u.reach(under.Key(), depth, variable, func(s *scope) string {
 			name := s.fresh()
-			s.line("var %s %s", name, s.typ(under.Key()))
+			s.line("for %s := range %s {", name, base(s))
+			s.after = append(s.after, "}")
 			return name
 		})
 		u.reach(under.Elem(), depth, element, func(s *scope) string { return base(s) + "[" + s.value(under.Key()) + "]" })

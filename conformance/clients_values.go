@@ -73,6 +73,7 @@ type scope struct {
 	params  []string
 	results string
 	lines   []string
+	after   []string // what closes blocks
 	count   int
 	taken   map[string]bool
 }
@@ -316,6 +317,7 @@ func (u *unit) client(write func(s *scope)) {
 		}
 	}()
 	write(s)
+	s.lines = append(s.lines, s.after...)
 	text := strings.Join(s.decls, "\n")
 	if len(s.lines) > 0 || len(s.decls) == 0 {
 		text += fmt.Sprintf("\nfunc F%d_(%s)%s {\n\t%s\n}", s.number, strings.Join(s.params, ", "), s.results, strings.Join(s.lines, "\n\t"))
