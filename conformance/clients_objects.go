@@ -526,7 +526,7 @@ func (u *unit) useType(name string, t types.Type) {
 		to := u.typ(under)
 		for _, format := range []string{
 			"var V# = (*(%))(new(@))", "var V# = (*@)(new(%))", "type D# %\nvar V# = (*D#)(new(@))", "type D# %\nvar V# = D#(*new(@))", "type D# %\nvar V# = @(*new(D#))",
-			"var V# % = *new(@)", "var V# @ = *new(%)", "var V# = *new(@) == *new(%)", "var V# = interface{}(*new(@)) == interface{}(*new(%))", "var V# = append([]%{}, *new(@))",
+			"var V# % = *new(@)", "var V# *% = new(@)", "var V# []% = []@{}", "var V# func(%) = func(@) {}", "var V# @ = *new(%)", "var V# = *new(@) == *new(%)", "var V# = interface{}(*new(@)) == interface{}(*new(%))", "var V# = append([]%{}, *new(@))",
 			"func F#(x interface{}) {\n\tswitch x.(type) {\n\tcase %, @:\n\t}\n}",
 		} {
 			decl(strings.ReplaceAll(format, "%", to))

@@ -445,6 +445,26 @@ func (s *scope) made(t types.Type) string {
 			}
 		}
 	}
+	return s.constant(t)
+}
+
+// constant is an untyped constant, or nil, that can be used as the type.
+func (s *scope) constant(t types.Type) string {
+	basic, is := t.Underlying().(*types.Basic)
+	switch {
+	case !is && (types.IsInterface(t) || !types.Comparable(t)):
+		return "nil"
+	case is && basic.Info()&types.IsNumeric != 0:
+		return "0"
+	case is && basic.Info()&types.IsString != 0:
+		return `""`
+	case is && basic.Info()&types.IsBoolean != 0:
+		return "false"
+	}
+	switch t.Underlying().(type) {
+	case *types.Pointer, *types.Chan:
+		return "nil"
+	}
 	s.fail()
 	return ""
 }
