@@ -195,14 +195,23 @@ func (d *drawer) pair(bases []*tree, k kind) (old, new *tree, made []string) {
 func writePairs(seed int64, count int, std, out string) {
 	d := &drawer{over: readLibrary(std), kinds: allKinds()}
 	var bases []*tree
-	eachLine(func(words []string) { bases = append(bases, readTree(words[0])) })
+	folders := map[*tree]string{}
+	eachLine(func(words []string) {
+		bases = append(bases, readTree(words[0]))
+		folders[bases[len(bases)-1]] = words[0]
+	})
 	for i := 0; i < count; i++ {
 		d.Rand, d.count = rand.New(rand.NewSource(seed<<32+int64(i))), 0
 		old, new, made := d.pair(bases, d.kinds[i%len(d.kinds)])
 		name := fmt.Sprintf("pair%05d", i)
-		old.write(filepath.Join(out, name, "old"))
-		new.write(filepath.Join(out, name, "new"))
-		fmt.Println(strings.Join([]string{name, filepath.Join(out, name, "old"), filepath.Join(out, name, "new"), strings.Join(made, "; ")}, "\t"))
+		before, is := folders[old]
+		if !is {
+			before = filepath.Join(out, name, "old")
+			old.write(before)
+		}
+		after := filepath.Join(out, name, "new")
+		new.write(after)
+		fmt.Println(strings.Join([]string{name, before, after, strings.Join(made, "; ")}, "\t"))
 	}
 }
 

@@ -42,53 +42,150 @@ var breakClasses = []breakClass{
 	{"implements: an interface of another package", "implements", (*difference).ofAnother},
 	{"one-to-one: two types become one", "one-to-one", (*difference).merged},
 	{"one-to-one: a type becomes two of its name", "one-to-one", (*difference).splitByName},
+	{"a type that becomes one of its name in another package too", "", (*difference).ofSplit},
 	{"a type of a package that isn't public", "", (*difference).notPublic},
 	{"a type that moved to another package", "", (*difference).movedAway},
 }
 
-const byName = "apidiff alone: a type of another package is told by its name"
+// Classes of apidiff's messages.
+const (
+	byName   = "a type of another package is told by its name"
+	takenFor = "a type is told to become itself, since it was taken for another one"
+)
 
-// classified answers for each line of the judge, or of apidiff where the judge has none, by a class or by nothing.
-func classified(text []byte, over *library) (classes []string) {
+// An answer has for each line of the judge and each message of apidiff the class of difference, `both` where the other has one about
+// the same thing, or nothing.
+type answer struct {
+	Breaks, Messages []string
+}
+
+const inBoth = "both"
+
+func classified(text []byte, over *library) (found answer) {
 	one := &said{}
 	fail(json.Unmarshal(text, one))
 	d := &difference{said: one}
 	d.old, d.new = both(one.Old, one.New, over)
-	if len(one.Breaks) == 0 {
-		for _, message := range one.Messages {
-			class := ""
-			if d.isByName(message) {
-				class = byName
-			}
-			classes = append(classes, class)
-		}
-		return classes
-	}
 	for _, text := range one.Breaks {
-		words := strings.SplitN(text, " ", 3)
-		found := line{owner: words[0], rule: words[1], subject: words[2]}
-		for _, p := range d.old.packs {
-			if found.owner == p.path {
-				found.pack, found.object = p, nil
-				break
-			}
-			if name := strings.TrimPrefix(found.owner, p.path+"."); name != found.owner && !strings.Contains(name, "/") && !strings.Contains(name, ".") {
-				found.pack, found.object = p, p.types.Scope().Lookup(name)
-			}
-		}
-		d.lines = append(d.lines, found)
+		d.lines = append(d.lines, d.line(text))
 	}
-	for _, found := range d.lines {
+	for _, l := range d.lines {
+		found.Breaks = append(found.Breaks, d.classOf(l))
+	}
+	for _, message := range one.Messages {
 		class := ""
-		for _, one := range breakClasses {
-			if (one.rule == "" || one.rule == found.rule) && one.holds(d, found) {
-				class = one.name
-				break
+		for _, l := range d.lines {
+			if d.touches(l, message) {
+				class = inBoth
 			}
 		}
-		classes = append(classes, class)
+		switch {
+		case class != "":
+		case d.isByName(message):
+			class = byName
+		case d.isTakenFor(message):
+			class = takenFor
+		}
+		found.Messages = append(found.Messages, class)
 	}
-	return classes
+	return found
+}
+
+func (d *difference) line(text string) (found line) {
+	words := strings.SplitN(text, " ", 3)
+	found = line{owner: words[0], rule: words[1], subject: words[2]}
+	for _, p := range d.old.packs {
+		if found.owner == p.path {
+			found.pack, found.object = p, nil
+			break
+		}
+		if name := strings.TrimPrefix(found.owner, p.path+"."); name != found.owner && !strings.ContainsAny(name, "/.") {
+			found.pack, found.object = p, p.types.Scope().Lookup(name)
+		}
+	}
+	return found
+}
+
+func (d *difference) classOf(l line) string {
+	for _, message := range d.Messages {
+		if d.touches(l, message) {
+			return inBoth
+		}
+	}
+	for _, one := range breakClasses {
+		if (one.rule == "" || one.rule == l.rule) && one.holds(d, l) {
+			return one.name
+		}
+	}
+	return ""
+}
+
+var (
+	namesInMessage  = regexp.MustCompile(`^(?:\(\*)?(\w+)|(?:method set of \*?|no longer implements )(\w+)`)
+	memberInMessage = regexp.MustCompile(`^[^:,]*\.(\w+)[:,]`)
+	membersRules    = map[string]bool{"fields": true, "selectable": true, "interface-methods": true, "method-set": true}
+)
+
+// lookedUp are the objects of a name, of the package at a path or, where it has none, of others. An alias stands for its type.
+func (v *view) lookedUp(at, name string) (found []types.Object) {
+	in := func(p *pack) {
+		object := p.types.Scope().Lookup(name)
+		if alias, is := object.(*types.TypeName); is && alias.IsAlias() {
+			if named, is := alias.Type().(*types.Named); is {
+				object = named.Obj()
+			}
+		}
+		if object != nil {
+			found = append(found, object)
+		}
+	}
+	if p := v.byPath[at]; p != nil {
+		in(p)
+	}
+	if len(found) == 0 {
+		for _, p := range v.packs {
+			in(p)
+		}
+	}
+	return found
+}
+
+// touches tells whether a message of apidiff is about what the judge names, about what this leads to, or what leads to it; about a
+// member of the same name; or about a type of another module, which the judge tells for who leads to it.
+func (d *difference) touches(l line, message string) bool {
+	at, text, _ := strings.Cut(message, ": ")
+	if l.pack == nil || l.object == nil || text == "package removed" {
+		return l.pack != nil && at == l.pack.path && (l.object == nil) == (text == "package removed")
+	}
+	if told := memberInMessage.FindStringSubmatch(text); told != nil && membersRules[l.rule] && told[1] == l.subject {
+		return true
+	}
+	if from, _, _ := halves(l.subject); l.rule == "type" && from[strings.LastIndex(from, ".")+1:] == namesInMessage.FindStringSubmatch(text)[1] {
+		return true
+	}
+	about := func(v *view, object types.Object) bool {
+		if object == nil {
+			return false
+		}
+		from := v.reached(object)
+		for _, names := range namesInMessage.FindAllStringSubmatch(text, -1) {
+			for _, named := range v.lookedUp(at, names[1]+names[2]) {
+				name, is := named.(*types.TypeName)
+				if named == object || is && from[name] {
+					return true
+				}
+				if owner, is := object.(*types.TypeName); is && v.reached(named)[owner] {
+					return true
+				}
+			}
+		}
+		return false
+	}
+	if about(d.old, l.object) {
+		return true
+	}
+	q := d.new.byPath[l.pack.path]
+	return q != nil && about(d.new, q.types.Scope().Lookup(l.object.Name()))
 }
 
 func (d *difference) otherName(l line) bool {
@@ -161,15 +258,24 @@ func (d *difference) sameNames(l line) bool {
 	return before != nil && after != nil && from != to && before.Obj().Name() == after.Obj().Name()
 }
 
-var embeddings = regexp.MustCompile(`(?:struct\{|;) (\w+) ([\w./~-]+\.)(\w+)(?: |;)`)
-
 // embeddedRenamed holds where two structs are told that differ in the names of embedded fields of unexported types alone.
 func (d *difference) embeddedRenamed(l line) bool {
 	from, to, _ := halves(l.subject)
-	if !strings.HasPrefix(from, "struct{") || !strings.HasPrefix(to, "struct{") {
+	before, after := strings.Split(from, "; "), strings.Split(to, "; ")
+	if !strings.HasPrefix(from, "struct{ ") || !strings.HasPrefix(to, "struct{ ") || len(before) != len(after) {
 		return false
 	}
-	return embeddings.MatchString(from) && embeddings.ReplaceAllString(from, "") == embeddings.ReplaceAllString(to, "")
+	bare := func(field string) string { return strings.TrimSuffix(strings.TrimPrefix(field, "struct{ "), " }") }
+	for i := range before {
+		if before[i] == after[i] {
+			continue
+		}
+		was, is := d.old.typeNamed(bare(before[i])), d.new.typeNamed(bare(after[i]))
+		if was == nil || is == nil || !d.old.isOwn(was) || !d.new.isOwn(is) || was.Obj().Exported() || is.Obj().Exported() {
+			return false
+		}
+	}
+	return true
 }
 
 // A reach are the types of the module to which an object leads.
@@ -346,6 +452,16 @@ func (d *difference) splitByName(l line) bool {
 	return is
 }
 
+// ofSplit holds where what is told of a type may be of the other type that it becomes.
+func (d *difference) ofSplit(l line) bool {
+	for _, other := range d.lines {
+		if other.rule == "one-to-one" && other.owner == l.owner && d.splitByName(other) {
+			return true
+		}
+	}
+	return false
+}
+
 func (d *difference) notPublic(l line) bool {
 	if len(d.Wide) == 0 {
 		return false
@@ -390,6 +506,22 @@ func (d *difference) isByName(message string) bool {
 		differs = true
 	}
 	return differs
+}
+
+// isTakenFor holds where a type is told to become itself, since apidiff told one of its names to become something else before.
+func (d *difference) isTakenFor(message string) bool {
+	told := changedFrom.FindStringSubmatch(message)
+	if told == nil || told[2] != told[3] {
+		return false
+	}
+	for _, name := range words.FindAllString(told[2], -1) {
+		for _, other := range d.Messages {
+			if strings.HasPrefix(other, told[1]+": "+name[strings.LastIndex(name, ".")+1:]+": changed from ") {
+				return true
+			}
+		}
+	}
+	return false
 }
 
 func (v *view) inMessage(at, name string) *types.Named {

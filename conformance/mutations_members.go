@@ -23,12 +23,14 @@ var memberKinds = []kind{
 	{"field of a type added", (*mutator).addOwnField, ""},
 	{"embedded field gets a name", (*mutator).nameField, "type embedded"},
 	{"embedded by pointer", (*mutator).byPointer, "type embedded"},
-	{"embedded by value", (*mutator).byValue, "type embedded by pointer"},
+	{"embedded by value", func(m *mutator) bool { return m.byValue(false) }, "type embedded by pointer"},
+	{"unexported type embedded by value", func(m *mutator) bool { return m.byValue(true) }, "fields move into an unexported type embedded by pointer"},
 	{"type embedded", func(m *mutator) bool { return m.embed("") }, ""},
 	{"type embedded by pointer", func(m *mutator) bool { return m.embed("*") }, ""},
 	{"embedded field removed", (*mutator).dropEmbedded, "type embedded"},
 	{"fields move into an embedded type", func(m *mutator) bool { return m.moveFields("", m.one("Part", "part")) }, ""},
-	{"fields move into a type embedded by pointer", func(m *mutator) bool { return m.moveFields("*", m.one("Part", "part")) }, ""},
+	{"fields move into a type embedded by pointer", func(m *mutator) bool { return m.moveFields("*", "Part") }, ""},
+	{"fields move into an unexported type embedded by pointer", func(m *mutator) bool { return m.moveFields("*", "part") }, ""},
 	{"fields of an embedded type written out", (*mutator).writeOut, "fields move into an embedded type"},
 	{"type that is embedded in it replaced by a twin", (*mutator).embedTwin, "fields move into an embedded type"},
 	{"method hides a promoted field", (*mutator).hideField, "fields move into an embedded type"},
@@ -257,10 +259,10 @@ func (m *mutator) byPointer() bool {
 	return true
 }
 
-func (m *mutator) byValue() bool {
+func (m *mutator) byValue(unexported bool) bool {
 	_, field := m.aStruct(func(field *ast.Field) bool {
 		_, is := field.Type.(*ast.StarExpr)
-		return isEmbedded(field) && is
+		return isEmbedded(field) && is && !(unexported && token.IsExported(typeName(field.Type)))
 	})
 	if field == nil {
 		return false
