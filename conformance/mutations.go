@@ -22,6 +22,7 @@ import (
 	"os"
 	"path"
 	"path/filepath"
+	"runtime/debug"
 	"strconv"
 	"strings"
 )
@@ -252,6 +253,7 @@ func number(word string) int {
 
 func main() {
 	words := os.Args[1:]
+	debug.SetGCPercent(400)
 	switch words[0] {
 	case "bases":
 		eachLine(func(line []string) {

@@ -9,7 +9,7 @@ import (
 	"strings"
 )
 
-// A class of difference, and the test on a line; the judge's lines have their rule.
+// A class of difference, the rule of its lines, if it's one alone, and the test on a line.
 type breakClass struct {
 	name, rule string
 	holds      func(*difference, line) bool
@@ -29,19 +29,19 @@ type difference struct {
 }
 
 var breakClasses = []breakClass{
-	{"name: a package gets another name", "name", (*difference).otherName},
-	{"underlying: a number grows", "underlying", (*difference).numberGrows},
-	{"underlying: a channel type loses its direction", "underlying", (*difference).directionLost},
-	{"type: a type of the module becomes a basic one", "type", (*difference).becomesBasic},
-	{"type: a type of another package gives way to one of its name", "type", (*difference).sameNames},
-	{"type: an unexported type embedded in a struct without a name gets another name", "type", (*difference).embeddedRenamed},
-	{"selectable: a field is no longer found through a pointer", "selectable", (*difference).pointerLost},
-	{"selectable: a method hides a field", "selectable", (*difference).hiddenByMethod},
-	{"interface-methods: an interface loses all its unexported methods", "interface-methods", (*difference).unsealed},
-	{"implements: by the pointer alone", "implements", (*difference).byPointerAlone},
-	{"implements: an interface of another package", "implements", (*difference).ofAnother},
-	{"one-to-one: two types become one", "one-to-one", (*difference).merged},
-	{"one-to-one: a type becomes two of its name", "one-to-one", (*difference).splitByName},
+	{"a package gets another name", "name", (*difference).otherName},
+	{"a number grows", "underlying", (*difference).numberGrows},
+	{"a channel type loses its direction", "underlying", (*difference).directionLost},
+	{"a type of the module becomes a basic one", "type", (*difference).becomesBasic},
+	{"a type of another package gives way to one of its name", "type", (*difference).sameNames},
+	{"an unexported type embedded in a struct without a name gets another name", "type", (*difference).embeddedRenamed},
+	{"a field is no longer found through a pointer", "selectable", (*difference).pointerLost},
+	{"a method hides a field", "selectable", (*difference).hiddenByMethod},
+	{"an interface loses all its unexported methods", "interface-methods", (*difference).unsealed},
+	{"by the pointer alone", "implements", (*difference).byPointerAlone},
+	{"an interface of another package", "implements", (*difference).ofAnother},
+	{"two types become one", "one-to-one", (*difference).merged},
+	{"a type becomes two of its name", "one-to-one", (*difference).splitByName},
 	{"a type that becomes one of its name in another package too", "", (*difference).ofSplit},
 	{"a type of a package that isn't public", "", (*difference).notPublic},
 	{"a type that moved to another package", "", (*difference).movedAway},
@@ -114,7 +114,7 @@ func (d *difference) classOf(l line) string {
 	}
 	for _, one := range breakClasses {
 		if (one.rule == "" || one.rule == l.rule) && one.holds(d, l) {
-			return one.name
+			return l.rule + ": " + one.name
 		}
 	}
 	return ""
