@@ -8,6 +8,9 @@
 // Without --all the clients are those that name something whose declaration, or one that it leads to, isn't the same in both versions:
 // no other one can break.
 //
+// A line `NAME OLD NEW STD CLIENT` asks of the client in a folder. The answer is `NAME client WORD MESSAGE`: it is untyped against the old
+// version, outside the profile, broken, or kept.
+//
 // A client of the profile uses what the public packages of the module export in these ways:
 //
 //   - a constant as a value, in another constant, in the length of an array, as an index or key, as an operand and as the argument of a
@@ -280,7 +283,7 @@ func (u *unit) profiled(old *tree) (p *parsedUnit, count int) {
 }
 
 // A pair is a line of the manifest.
-type pair struct{ name, old, new, std string }
+type pair struct{ name, old, new, std, client string }
 
 // compare tells of one pair.
 func (p *prepared) compare(of pair, now *tree) string {
@@ -392,7 +395,43 @@ func (c *cache) tell(of pair) string {
 	if err != nil {
 		return fmt.Sprintf("%s refused new %s\n", of.name, strings.ReplaceAll(err.Error(), "\n", " "))
 	}
+	if of.client != "" {
+		return vet(of, p.tree, now)
+	}
 	return p.compare(of, now)
+}
+
+// vet tells of the client in a folder, whether it is one of the profile, and its first errors.
+func vet(of pair, old, now *tree) string {
+	set := token.NewFileSet()
+	files, err := filesOf(set, of.client)
+	if err != nil {
+		return fmt.Sprintf("%s client refused %s\n", of.name, err)
+	}
+	info := &types.Info{Types: map[ast.Expr]types.TypeAndValue{}, Defs: map[*ast.Ident]types.Object{}, Uses: map[*ast.Ident]types.Object{}}
+	check := func(over *tree, info *types.Info) (message string) {
+		settings := types.Config{Importer: over, Sizes: sizes, Error: func(err error) {
+			if message == "" {
+				message = strings.ReplaceAll(err.Error(), "\n", " ")
+			}
+		}}
+		settings.Check(clientPath, set, files, info)
+		return message
+	}
+	if message := check(old, info); message != "" {
+		return fmt.Sprintf("%s client untyped %s\n", of.name, message)
+	}
+	for _, file := range files {
+		for _, decl := range file.Decls {
+			if why := outside(decl, info); why != "" {
+				return fmt.Sprintf("%s client outside %s\n", of.name, why)
+			}
+		}
+	}
+	if message := check(now, nil); message != "" {
+		return fmt.Sprintf("%s client broken %s\n", of.name, message)
+	}
+	return fmt.Sprintf("%s client kept -\n", of.name)
 }
 
 func main() {
@@ -411,10 +450,10 @@ func main() {
 		if len(words) == 0 {
 			continue
 		}
-		if len(words) != 4 {
-			fail(fmt.Errorf("not NAME OLD NEW STD: %s", lines.Text()))
+		if len(words) != 4 && len(words) != 5 {
+			fail(fmt.Errorf("not NAME OLD NEW STD or NAME OLD NEW STD CLIENT: %s", lines.Text()))
 		}
-		pairs = append(pairs, pair{words[0], words[1], words[2], words[3]})
+		pairs = append(pairs, pair{words[0], words[1], words[2], words[3], strings.Join(words[4:], "")})
 	}
 	results := make([]chan string, len(pairs))
 	for i := range results {

@@ -145,7 +145,8 @@ func (u *unit) explore(e *entry) {
 	case *types.Map:
 		u.reach(under.Key(), depth, variable, func(s *scope) string {
 			name := s.fresh()
-			s.line("var %s %s", name, s.typ(under.Key()))
+			s.line("for %s := range %s {", name, base(s))
+			s.after = append(s.after, "}")
 			return name
 		})
 		u.reach(under.Elem(), depth, element, func(s *scope) string { return base(s) + "[" + s.value(under.Key()) + "]" })
@@ -270,6 +271,10 @@ func (u *unit) useEntry(e *entry) {
 			u.useElsewhere(held{e.typ, variable, func(s *scope) string { return s.param(s.typ(e.typ)) }})
 			return
 		}
+		for _, body := range bodies(e.typ, 2) {
+			body := body
+			u.client(func(s *scope) { s.use("(%s%s)", s.typ(e.typ), body(s)) })
+		}
 		u.useAll(held{e.typ, variable, func(s *scope) string { return s.param(s.typ(e.typ)) }})
 		u.useAll(held{e.typ, plain, func(s *scope) string { return s.param("func() "+s.typ(e.typ)) + "()" }})
 		at := held{e.typ, element, func(s *scope) string { return s.param("map[string]"+s.typ(e.typ)) + `[""]` }}
@@ -291,6 +296,50 @@ func (u *unit) useEntry(e *entry) {
 			}
 		}
 	}
+}
+
+// bodies are what stands in braces in literals of a type, with a value for each field; elements stand there without a type.
+func bodies(t types.Type, depth int) (all []func(s *scope) string) {
+	of := t
+	if pointer, is := t.(*types.Pointer); is && depth < 2 {
+		of = pointer.Elem()
+	}
+	add := func(body func(s *scope) string) { all = append(all, body) }
+	switch under := of.Underlying().(type) {
+	case *types.Struct:
+		add(func(s *scope) string { return "{}" })
+		for i := 0; i < under.NumFields(); i++ {
+			if field := under.Field(i); field.Exported() {
+				add(func(s *scope) string { return "{" + field.Name() + ": " + s.value(field.Type()) + "}" })
+			}
+		}
+	case *types.Slice:
+		all = bodiesOf(under.Elem(), depth, "")
+	case *types.Array:
+		all = bodiesOf(under.Elem(), depth, "0: ")
+	case *types.Map:
+		for _, body := range bodiesOf(under.Elem(), depth, "") {
+			body := body
+			add(func(s *scope) string { return "{" + s.value(under.Key()) + ": " + strings.TrimPrefix(body(s), "{") })
+		}
+		for _, body := range bodiesOf(under.Key(), depth, "") {
+			body := body
+			add(func(s *scope) string { return strings.TrimSuffix(body(s), "}") + ": " + s.value(under.Elem()) + "}" })
+		}
+	}
+	return all
+}
+
+// bodiesOf are those of what has elements of a type.
+func bodiesOf(t types.Type, depth int, key string) (all []func(s *scope) string) {
+	if depth == 0 {
+		return nil
+	}
+	for _, body := range bodies(t, depth-1) {
+		body := body
+		all = append(all, func(s *scope) string { return "{" + key + body(s) + "}" })
+	}
+	return all
 }
 
 // useObject uses an object by its name.
@@ -477,14 +526,18 @@ func (u *unit) useType(name string, t types.Type) {
 		to := u.typ(under)
 		for _, format := range []string{
 			"var V# = (*(%))(new(@))", "var V# = (*@)(new(%))", "type D# %\nvar V# = (*D#)(new(@))", "type D# %\nvar V# = D#(*new(@))", "type D# %\nvar V# = @(*new(D#))",
-			"var V# % = *new(@)", "var V# @ = *new(%)", "var V# = *new(@) == *new(%)", "var V# = interface{}(*new(@)) == interface{}(*new(%))", "var V# = append([]%{}, *new(@))",
+			"var V# % = *new(@)", "var V# *% = new(@)", "var V# []% = []@{}", "var V# func(%) = func(@) {}", "var V# @ = *new(%)", "var V# = *new(@) == *new(%)", "var V# = interface{}(*new(@)) == interface{}(*new(%))", "var V# = append([]%{}, *new(@))",
 			"func F#(x interface{}) {\n\tswitch x.(type) {\n\tcase %, @:\n\t}\n}",
 		} {
 			decl(strings.ReplaceAll(format, "%", to))
 		}
 	}
+	u.useDefined(name, t)
 	for _, selector := range selectors(t) {
 		selector := selector
+		decl("type D# *@\nvar V# = D#(new(@))." + selector)
+		decl("type D# struct{ X @ }\nvar V# = D#{}.X." + selector)
+		decl("type D# struct{ X *@ }\nvar V# = D#{}.X." + selector)
 		for _, of := range []types.Type{t, types.NewPointer(t)} {
 			method, _, _ := types.LookupFieldOrMethod(of, false, nil, selector)
 			if method, is := method.(*types.Func); is {
@@ -537,6 +590,53 @@ func (u *unit) useType(name string, t types.Type) {
 	line(func(s *scope) string { return "_ = " + s.param("interface{}") + ".(@)" })
 	line(func(s *scope) string { return "_ = []*@{new(@)}\n_ = [...]@{0: *new(@)}" })
 	decl("var V# = func(x ...@) []@ { return x }")
+}
+
+// useDefined uses values of a type that the client defines by the name of another one.
+func (u *unit) useDefined(name string, t types.Type) {
+	use := func(write func(s *scope, x string) string) {
+		u.client(func(s *scope) {
+			own := s.global("D")
+			s.decl("type %s %s", own, name)
+			s.line("%s", write(s, s.param(own)))
+		})
+	}
+	use(func(s *scope, x string) string { return "var v " + name + " = " + name + "(" + x + ")\n\t_ = v" })
+	use(func(s *scope, x string) string { return "_ = " + x + " == " + x })
+	use(func(s *scope, x string) string { return "_ = " + x + " == nil" })
+	use(func(s *scope, x string) string { return "var v " + s.typ(t.Underlying()) + " = " + x + "\n\t_ = v" })
+	switch under := t.Underlying().(type) {
+	case *types.Slice:
+		use(func(s *scope, x string) string { return x + "[0] = " + s.value(under.Elem()) })
+		use(func(s *scope, x string) string { return "_ = append(" + x + ", " + s.value(under.Elem()) + ")" })
+		for _, selector := range selectors(under.Elem()) {
+			selector := selector
+			use(func(s *scope, x string) string { return "_ = " + x + "[0]." + selector })
+		}
+	case *types.Map:
+		use(func(s *scope, x string) string {
+			return x + "[" + s.value(under.Key()) + "] = " + s.value(under.Elem())
+		})
+	case *types.Chan:
+		use(func(s *scope, x string) string { return x + " <- " + s.value(under.Elem()) })
+		use(func(s *scope, x string) string { return "_ = <-" + x })
+	case *types.Signature:
+		use(func(s *scope, x string) string { return s.call(x, under) })
+		use(func(s *scope, x string) string { return x + " = " + s.typ(under) + " { panic(0) }" })
+	case *types.Pointer:
+		use(func(s *scope, x string) string { return "*" + x + " = " + s.value(under.Elem()) })
+		for _, selector := range selectors(under.Elem()) {
+			selector := selector
+			use(func(s *scope, x string) string { return "_ = " + x + "." + selector })
+			use(func(s *scope, x string) string { return "_ = &" + x + "." + selector })
+		}
+	}
+	for _, body := range bodies(t, 2) {
+		body := body
+		use(func(s *scope, x string) string {
+			return x + " = " + s.global("D") + body(s)
+		})
+	}
 }
 
 // useStruct writes literals of a struct.

@@ -73,6 +73,7 @@ type scope struct {
 	params  []string
 	results string
 	lines   []string
+	after   []string // what closes blocks
 	count   int
 	taken   map[string]bool
 }
@@ -316,6 +317,7 @@ func (u *unit) client(write func(s *scope)) {
 		}
 	}()
 	write(s)
+	s.lines = append(s.lines, s.after...)
 	text := strings.Join(s.decls, "\n")
 	if len(s.lines) > 0 || len(s.decls) == 0 {
 		text += fmt.Sprintf("\nfunc F%d_(%s)%s {\n\t%s\n}", s.number, strings.Join(s.params, ", "), s.results, strings.Join(s.lines, "\n\t"))
@@ -442,6 +444,26 @@ func (s *scope) made(t types.Type) string {
 				return one.make(s)
 			}
 		}
+	}
+	return s.constant(t)
+}
+
+// constant is an untyped constant, or nil, that can be used as the type.
+func (s *scope) constant(t types.Type) string {
+	basic, is := t.Underlying().(*types.Basic)
+	switch {
+	case !is && (types.IsInterface(t) || !types.Comparable(t)):
+		return "nil"
+	case is && basic.Info()&types.IsNumeric != 0:
+		return "0"
+	case is && basic.Info()&types.IsString != 0:
+		return `""`
+	case is && basic.Info()&types.IsBoolean != 0:
+		return "false"
+	}
+	switch t.Underlying().(type) {
+	case *types.Pointer, *types.Chan:
+		return "nil"
 	}
 	s.fail()
 	return ""
