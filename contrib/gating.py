@@ -8,6 +8,8 @@ TOP = os.path.dirname(os.path.dirname(os.path.abspath(__file__)))
 PROGRAM = os.path.join(TOP, "apigate")
 NUMBER = "(0|[1-9][0-9]*)"
 RELEASE = re.compile(r"v?%s\.%s\.%s$" % (NUMBER, NUMBER, NUMBER))
+OLD_FORM = re.compile(rb"^//[ \t]*\+build[ \t]", re.M)
+NEW_FORM = re.compile(rb"^//go:build[ \t]", re.M)
 
 
 class Stop(Exception):
@@ -22,6 +24,22 @@ def numbers(version):
     """The three numbers of a release, or None for what is none."""
     found = RELEASE.match(version)
     return tuple(int(number) for number in found.groups()) if found else None
+
+
+def renew(folder):
+    """Gives the files of a copy that have build lines of the old form alone those of the new one, as gofmt does."""
+    found = []
+    for at, _, names in os.walk(folder):
+        for path in (os.path.join(at, name) for name in names if name.endswith(".go") and not name.endswith("_test.go")):
+            if os.path.islink(path):
+                continue
+            with open(path, "rb") as file:
+                text = file.read()
+            if OLD_FORM.search(text) and not NEW_FORM.search(text):
+                found.append(path)
+    if found:
+        subprocess.run(["gofmt", "-w", *sorted(found)])
+        print("note: gofmt gave a go:build line to " + ", ".join(sorted(os.path.relpath(path, folder) for path in found)), file=sys.stderr)
 
 
 def cut(room, platforms, old, new, settings=None):
