@@ -26,8 +26,8 @@ def numbers(version):
     return tuple(int(number) for number in found.groups()) if found else None
 
 
-def renew(folder):
-    """Gives the files of a copy that have build lines of the old form alone those of the new one, as gofmt does."""
+def old_form(folder):
+    """The files that have build lines of the old form alone."""
     found = []
     for at, _, names in os.walk(folder):
         for path in (os.path.join(at, name) for name in names if name.endswith(".go") and not name.endswith("_test.go")):
@@ -36,10 +36,16 @@ def renew(folder):
             with open(path, "rb") as file:
                 text = file.read()
             if OLD_FORM.search(text) and not NEW_FORM.search(text):
-                found.append(path)
+                found.append(os.path.relpath(path, folder))
+    return sorted(found)
+
+
+def renew(folder):
+    """Gives these files of a copy build lines of the new form, as gofmt does."""
+    found = old_form(folder)
     if found:
-        subprocess.run(["gofmt", "-w", *sorted(found)])
-        print("note: gofmt gave a go:build line to " + ", ".join(sorted(os.path.relpath(path, folder) for path in found)), file=sys.stderr)
+        subprocess.run(["gofmt", "-w", "--", *found], cwd=folder)
+        print("note: gofmt gave a go:build line to %s" % " ".join(found), file=sys.stderr)
 
 
 def cut(room, platforms, old, new, settings=None):
