@@ -67,10 +67,15 @@ def cut(room, platforms, old, new, settings=None):
 
 def gate(room, std, platforms, old, new, api, exceptions, version):
     """Runs the gate; without files of frozen lines the features of the old tree are the promises. Returns its status and report."""
+    built = subprocess.run([PROGRAM, "--build"])
+    if built.returncode:
+        raise Stop("the program can't be built", built.returncode)
     common = ["--std", std, "--platforms", platforms]
     if not api:
         api = os.path.join(room, "api.txt")
-        ran = subprocess.run([PROGRAM, "features", "--new", old, *common], stdout=subprocess.PIPE)
+        ran = subprocess.run([PROGRAM, "features", "--new", old, *common], stdout=subprocess.PIPE, stderr=subprocess.PIPE)
+        # what is new to this run is the old tree
+        sys.stderr.write(ran.stderr.decode(errors="replace").replace("apigate: new", "apigate: old"))
         if ran.returncode:
             return ran.returncode, ""
         with open(api, "wb") as file:
