@@ -8,6 +8,8 @@ TOP = os.path.dirname(os.path.dirname(os.path.abspath(__file__)))
 PROGRAM = os.path.join(TOP, "apigate")
 NUMBER = "(0|[1-9][0-9]*)"
 RELEASE = re.compile(r"v?%s\.%s\.%s$" % (NUMBER, NUMBER, NUMBER))
+OLD_FORM = re.compile(rb"^//[ \t]*\+build[ \t]", re.M)
+NEW_FORM = re.compile(rb"^//go:build[ \t]", re.M)
 
 
 class Stop(Exception):
@@ -22,6 +24,28 @@ def numbers(version):
     """The three numbers of a release, or None for what is none."""
     found = RELEASE.match(version)
     return tuple(int(number) for number in found.groups()) if found else None
+
+
+def old_form(folder):
+    """The files that have build lines of the old form alone."""
+    found = []
+    for at, _, names in os.walk(folder):
+        for path in (os.path.join(at, name) for name in names if name.endswith(".go") and not name.endswith("_test.go")):
+            if os.path.islink(path):
+                continue
+            with open(path, "rb") as file:
+                text = file.read()
+            if OLD_FORM.search(text) and not NEW_FORM.search(text):
+                found.append(os.path.relpath(path, folder))
+    return sorted(found)
+
+
+def renew(folder):
+    """Gives these files of a copy build lines of the new form, as gofmt does."""
+    found = old_form(folder)
+    if found:
+        subprocess.run(["gofmt", "-w", "--", *found], cwd=folder)
+        print("note: gofmt gave a go:build line to %s" % " ".join(found), file=sys.stderr)
 
 
 def cut(room, platforms, old, new, settings=None):
@@ -43,10 +67,15 @@ def cut(room, platforms, old, new, settings=None):
 
 def gate(room, std, platforms, old, new, api, exceptions, version):
     """Runs the gate; without files of frozen lines the features of the old tree are the promises. Returns its status and report."""
+    built = subprocess.run([PROGRAM, "--build"])
+    if built.returncode:
+        raise Stop("the program can't be built", built.returncode)
     common = ["--std", std, "--platforms", platforms]
     if not api:
         api = os.path.join(room, "api.txt")
-        ran = subprocess.run([PROGRAM, "features", "--new", old, *common], stdout=subprocess.PIPE)
+        ran = subprocess.run([PROGRAM, "features", "--new", old, *common], stdout=subprocess.PIPE, stderr=subprocess.PIPE)
+        # what is new to this run is the old tree
+        sys.stderr.write(ran.stderr.decode(errors="replace").replace("apigate: new", "apigate: old"))
         if ran.returncode:
             return ran.returncode, ""
         with open(api, "wb") as file:
