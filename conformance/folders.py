@@ -10,8 +10,10 @@ HERE = os.path.dirname(os.path.abspath(__file__))
 TOP = os.path.dirname(HERE)
 PLATFORMS = """linux-386 linux-arm windows-386 linux-amd64 linux-arm64 linux-riscv64 linux-s390x android-arm64 darwin-amd64 darwin-arm64
 ios-arm64 freebsd-amd64 illumos-amd64 windows-amd64""".split()
-PARTS = """modules.go module_trees.go module_sources.go package_answers.go package_references.go package_trees.go lines.go differences.go barred.go
-oracle/units.go oracle/choosing.go oracle/syntax.go oracle/scanning.go oracle/bodies.go""".split()
+PARTS = """modules.go module_trees.go module_sources.go module_shuffles.go package_answers.go package_references.go package_trees.go lines.go differences.go
+barred.go oracle/units.go oracle/choosing.go oracle/syntax.go oracle/scanning.go oracle/bodies.go""".split()
+# hosts below which a module's path has three elements, where no go.mod says it
+LONG = ["github.com", "golang.org", "bitbucket.org", "code.google.com", "launchpad.net"]
 PROGRAM = os.path.join(TOP, "crates/apigate/out/apigate")
 
 Answer = collections.namedtuple("Answer", "status lines error")
@@ -22,13 +24,14 @@ def add_words(words):
     words.add_argument("--program", default=PROGRAM)
     words.add_argument("--go", default="go")
     words.add_argument("--cutter", default=os.path.join(TOP, "tools/stdcut"))
+    words.add_argument("--library")
 
 
 class Tools:
     """Go's side and the cutter, built into a folder."""
 
     def __init__(self, words, folder, gopath=None):
-        self.program, self.go, self.folder = words.program, words.go, folder
+        self.program, self.go, self.folder, self.kept = words.program, words.go, folder, words.library
         if not os.access(self.program, os.X_OK):
             sys.exit("the program isn't built: ./apigate --build")
         self.settings = dict(os.environ, GO111MODULE="off", GOFLAGS="", GOCACHE=os.path.join(folder, "cache"))
@@ -61,11 +64,41 @@ class Tools:
             raise SystemExit("the cutter: status %d: %s" % (done.returncode, done.stderr[-500:]))
         return done.stderr.splitlines()
 
-    def run(self, *words):
-        """One run of the program: its status, its report line by line, and what it says on its error output."""
-        done = subprocess.run([self.program, *words], stdin=subprocess.DEVNULL, capture_output=True)
+    def library(self, into):
+        """Go's standard library, cut for all platforms: its folder, and what was left out. It is cut once where a folder for it was named."""
+        place = self.kept or into
+        told = place.rstrip("/") + ".told"
+        if not os.path.exists(told):
+            log = self.cut(place, "--platforms", "all", "--whole", ",".join(self.listed()))
+            with open(told, "w", encoding="utf-8") as file:
+                file.writelines(line + "\n" for line in log)
+        with open(told, encoding="utf-8") as file:
+            return place, told_of(file.read().splitlines())
+
+    def run(self, *words, program=None):
+        """One run of the program or of another: its status, its report line by line, and what it says on its error output."""
+        done = subprocess.run([program or self.program, *words], stdin=subprocess.DEVNULL, capture_output=True)
         assert not done.stdout or done.stdout.endswith(b"\n")
         return Answer(done.returncode, done.stdout.split(b"\n")[:-1], done.stderr.decode(errors="replace"))
+
+
+def modules_below(path):
+    """The modules below a folder of sources, and their folders."""
+    found, top = {}, os.path.join(path, "src")
+    for at, below, names in os.walk(top):
+        below[:] = sorted(name for name in below if not os.path.islink(os.path.join(at, name)) and name not in ("testdata", "vendor") and name[0] not in "._")
+        module = os.path.relpath(at, top)
+        if "go.mod" in names:
+            with open(os.path.join(at, "go.mod"), encoding="utf-8", errors="replace") as file:
+                said = re.search(r'^module\s+"?([^"\s]+)', file.read(), re.M)
+            found[module] = (said[1] if said else module, at)
+        elif any(name.endswith(".go") and not name.endswith("_test.go") for name in names):
+            elements = module.split("/")
+            if not any("/".join(elements[:count]) in found for count in range(1, len(elements) + 1)):
+                count = 3 if elements[0] in LONG else 2
+                module = "/".join(elements[:count])
+                found[module] = (module, os.path.join(top, module))
+    return list(found.values())
 
 
 def copied(place, into):
