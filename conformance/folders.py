@@ -34,7 +34,7 @@ class Tools:
         self.program, self.go, self.folder, self.kept = words.program, words.go, folder, words.library
         if not os.access(self.program, os.X_OK):
             sys.exit("the program isn't built: ./apigate --build")
-        self.settings = dict(os.environ, GO111MODULE="off", GOFLAGS="", GOCACHE=os.path.join(folder, "cache"))
+        self.settings = dict(os.environ, GO111MODULE="off", GOFLAGS="", GOCACHE=os.environ.get("GOCACHE", os.path.join(folder, "cache")))
         if gopath:
             self.settings["GOPATH"] = gopath
         place = os.path.join(folder, "parts")
@@ -74,6 +74,21 @@ class Tools:
                 file.writelines(line + "\n" for line in log)
         with open(told, encoding="utf-8") as file:
             return place, told_of(file.read().splitlines())
+
+    def api(self, root, cut):
+        """The command of Go's cmd/api over the cut library: its words, before those that say for which platforms. ROOT becomes a tree of Go's."""
+        built = os.path.join(self.folder, "api")
+        subprocess.run([self.go, "build", "-o", built, "cmd/api"], check=True, env=self.settings, cwd=self.folder)
+        os.makedirs(root)
+        for name in os.listdir(self.root):
+            if name != "src":
+                os.symlink(os.path.join(self.root, name), os.path.join(root, name))
+        shutil.copytree(cut, os.path.join(root, "src"))
+        os.makedirs(os.path.join(root, "src/unsafe"))
+        shutil.copy(os.path.join(self.root, "src/unsafe/unsafe.go"), os.path.join(root, "src/unsafe"))
+        with open(os.path.join(root, "src/go.mod"), "w", encoding="utf-8") as file:
+            file.write("module std\n\ngo 1.19\n")
+        return ["env", "GOROOT=" + root, "GOCACHE=" + self.settings["GOCACHE"], "GO111MODULE=off", "GOFLAGS=", built]
 
     def run(self, *words, program=None):
         """One run of the program or of another: its status, its report line by line, and what it says on its error output."""
@@ -116,6 +131,19 @@ def copied(place, into):
     return count
 
 
+def renew(folder):
+    """Gives the files of a module that have build lines of the old form alone those of the new one, by gofmt."""
+    found = []
+    for at, _, names in os.walk(folder):
+        for name in names:
+            with open(os.path.join(at, name), "rb") as file:
+                text = file.read()
+            if re.search(rb"^// *\+build ", text, re.M) and not re.search(rb"^//go:build ", text, re.M):
+                found.append(os.path.join(at, name))
+    if found:
+        subprocess.run(["gofmt", "-w", *found], capture_output=True, check=False)
+
+
 def write_module_line(folder, module):
     with open(os.path.join(folder, "go.mod"), "w", encoding="utf-8") as file:
         file.write("module %s\n" % module)
@@ -152,6 +180,13 @@ def told_of(log):
         if at:
             found[at[1]] = at[2]
     return found
+
+
+def lines_of_api(lines):
+    """What cmd/api writes where these are the lines of the library as a module: without packages that are internal in the library, and
+    without runtime/cgo, which Go's list of the library has only with cgo."""
+    moved = (b"pkg " + line.split(b"/", 1)[1] for line in lines)
+    return sorted(line for line in moved if b"-open" not in path_of(line) and path_of(line) != b"runtime/cgo")
 
 
 def path_of(line):
