@@ -10,8 +10,10 @@ HERE = os.path.dirname(os.path.abspath(__file__))
 TOP = os.path.dirname(HERE)
 PLATFORMS = """linux-386 linux-arm windows-386 linux-amd64 linux-arm64 linux-riscv64 linux-s390x android-arm64 darwin-amd64 darwin-arm64
 ios-arm64 freebsd-amd64 illumos-amd64 windows-amd64""".split()
-PARTS = """modules.go module_trees.go module_sources.go package_answers.go package_references.go package_trees.go lines.go differences.go barred.go
-oracle/units.go oracle/choosing.go oracle/syntax.go oracle/scanning.go oracle/bodies.go""".split()
+PARTS = """modules.go module_trees.go module_sources.go module_shuffles.go package_answers.go package_references.go package_trees.go lines.go differences.go
+barred.go oracle/units.go oracle/choosing.go oracle/syntax.go oracle/scanning.go oracle/bodies.go""".split()
+# hosts below which a module's path has three elements, where no go.mod says it
+LONG = ["github.com", "golang.org", "bitbucket.org", "code.google.com", "launchpad.net"]
 PROGRAM = os.path.join(TOP, "crates/apigate/out/apigate")
 
 Answer = collections.namedtuple("Answer", "status lines error")
@@ -22,16 +24,17 @@ def add_words(words):
     words.add_argument("--program", default=PROGRAM)
     words.add_argument("--go", default="go")
     words.add_argument("--cutter", default=os.path.join(TOP, "tools/stdcut"))
+    words.add_argument("--library")
 
 
 class Tools:
     """Go's side and the cutter, built into a folder."""
 
     def __init__(self, words, folder, gopath=None):
-        self.program, self.go, self.folder = words.program, words.go, folder
+        self.program, self.go, self.folder, self.kept = words.program, words.go, folder, words.library
         if not os.access(self.program, os.X_OK):
             sys.exit("the program isn't built: ./apigate --build")
-        self.settings = dict(os.environ, GO111MODULE="off", GOFLAGS="", GOCACHE=os.path.join(folder, "cache"))
+        self.settings = dict(os.environ, GO111MODULE="off", GOFLAGS="", GOCACHE=os.environ.get("GOCACHE", os.path.join(folder, "cache")))
         if gopath:
             self.settings["GOPATH"] = gopath
         place = os.path.join(folder, "parts")
@@ -61,11 +64,56 @@ class Tools:
             raise SystemExit("the cutter: status %d: %s" % (done.returncode, done.stderr[-500:]))
         return done.stderr.splitlines()
 
-    def run(self, *words):
-        """One run of the program: its status, its report line by line, and what it says on its error output."""
-        done = subprocess.run([self.program, *words], stdin=subprocess.DEVNULL, capture_output=True)
+    def library(self, into):
+        """Go's standard library, cut for all platforms: its folder, and what was left out. It is cut once where a folder for it was named."""
+        place = self.kept or into
+        told = place.rstrip("/") + ".told"
+        if not os.path.exists(told):
+            log = self.cut(place, "--platforms", "all", "--whole", ",".join(self.listed()))
+            with open(told, "w", encoding="utf-8") as file:
+                file.writelines(line + "\n" for line in log)
+        with open(told, encoding="utf-8") as file:
+            return place, told_of(file.read().splitlines())
+
+    def api(self, root, cut):
+        """The command of Go's cmd/api over the cut library: its words, before those that say for which platforms. ROOT becomes a tree of Go's."""
+        built = os.path.join(self.folder, "api")
+        subprocess.run([self.go, "build", "-o", built, "cmd/api"], check=True, env=self.settings, cwd=self.folder)
+        os.makedirs(root)
+        for name in os.listdir(self.root):
+            if name != "src":
+                os.symlink(os.path.join(self.root, name), os.path.join(root, name))
+        shutil.copytree(cut, os.path.join(root, "src"))
+        os.makedirs(os.path.join(root, "src/unsafe"))
+        shutil.copy(os.path.join(self.root, "src/unsafe/unsafe.go"), os.path.join(root, "src/unsafe"))
+        with open(os.path.join(root, "src/go.mod"), "w", encoding="utf-8") as file:
+            file.write("module std\n\ngo 1.19\n")
+        return ["env", "GOROOT=" + root, "GOCACHE=" + self.settings["GOCACHE"], "GO111MODULE=off", "GOFLAGS=", built]
+
+    def run(self, *words, program=None):
+        """One run of the program or of another: its status, its report line by line, and what it says on its error output."""
+        done = subprocess.run([program or self.program, *words], stdin=subprocess.DEVNULL, capture_output=True)
         assert not done.stdout or done.stdout.endswith(b"\n")
         return Answer(done.returncode, done.stdout.split(b"\n")[:-1], done.stderr.decode(errors="replace"))
+
+
+def modules_below(path):
+    """The modules below a folder of sources, and their folders."""
+    found, top = {}, os.path.join(path, "src")
+    for at, below, names in os.walk(top):
+        below[:] = sorted(name for name in below if not os.path.islink(os.path.join(at, name)) and name not in ("testdata", "vendor") and name[0] not in "._")
+        module = os.path.relpath(at, top)
+        if "go.mod" in names:
+            with open(os.path.join(at, "go.mod"), encoding="utf-8", errors="replace") as file:
+                said = re.search(r'^module\s+"?([^"\s]+)', file.read(), re.M)
+            found[module] = (said[1] if said else module, at)
+        elif any(name.endswith(".go") and not name.endswith("_test.go") for name in names):
+            elements = module.split("/")
+            if not any("/".join(elements[:count]) in found for count in range(1, len(elements) + 1)):
+                count = 3 if elements[0] in LONG else 2
+                module = "/".join(elements[:count])
+                found[module] = (module, os.path.join(top, module))
+    return list(found.values())
 
 
 def copied(place, into):
@@ -81,6 +129,19 @@ def copied(place, into):
                 shutil.copyfile(path, to)
                 count += name != "go.mod"
     return count
+
+
+def renew(folder):
+    """Gives the files of a module that have build lines of the old form alone those of the new one, by gofmt."""
+    found = []
+    for at, _, names in os.walk(folder):
+        for name in names:
+            with open(os.path.join(at, name), "rb") as file:
+                text = file.read()
+            if re.search(rb"^// *\+build ", text, re.M) and not re.search(rb"^//go:build ", text, re.M):
+                found.append(os.path.join(at, name))
+    if found:
+        subprocess.run(["gofmt", "-w", *found], capture_output=True, check=False)
 
 
 def write_module_line(folder, module):
@@ -119,6 +180,13 @@ def told_of(log):
         if at:
             found[at[1]] = at[2]
     return found
+
+
+def lines_of_api(lines):
+    """What cmd/api writes where these are the lines of the library as a module: without packages that are internal in the library, and
+    without runtime/cgo, which Go's list of the library has only with cgo."""
+    moved = (b"pkg " + line.split(b"/", 1)[1] for line in lines)
+    return sorted(line for line in moved if b"-open" not in path_of(line) and path_of(line) != b"runtime/cgo")
 
 
 def path_of(line):

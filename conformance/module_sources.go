@@ -80,6 +80,18 @@ func linesOrNone(pack *types.Package, object types.Object) (lines []string) {
 	return writer{pack}.lines(object)
 }
 
+// linesIn are the lines of a package at a path.
+func linesIn(pack *types.Package, at string) (lines []string) {
+	for _, name := range pack.Scope().Names() {
+		if object := pack.Scope().Lookup(name); object.Exported() {
+			for _, line := range linesOrNone(pack, object) {
+				lines = append(lines, "pkg "+at+", "+line)
+			}
+		}
+	}
+	return lines
+}
+
 // features are the lines of all public packages of the module in a folder.
 func (s *sources) features(folder string) (lines []string) {
 	tree := readModule(folder)
@@ -94,13 +106,7 @@ func (s *sources) features(folder string) (lines []string) {
 		if err != nil || pack.Name() == "main" || strings.Contains("/"+at+"/", "/internal/") {
 			continue
 		}
-		for _, name := range pack.Scope().Names() {
-			if object := pack.Scope().Lookup(name); object.Exported() {
-				for _, line := range linesOrNone(pack, object) {
-					lines = append(lines, "pkg "+at+", "+line)
-				}
-			}
-		}
+		lines = append(lines, linesIn(pack, at)...)
 	}
 	sort.Strings(lines)
 	return lines

@@ -8,6 +8,10 @@
 //	parts FOLDER              tells as JSON, for each folder of a module with a package, the folders of the module that it stands on
 //	tree CUT MODULE OUT       writes the packages of a folder of declarations as those of a module, where none is internal
 //	again CUT MODULE OUT      writes a module that declares anew, by its name, all that the packages of such a folder export
+//	paths PLATFORM            reads import paths; writes the feature lines of these packages as Go finds them
+//	shuffled FOLDER STD OUT SEED PLATFORM..
+//	                          writes a module whose declarations are dealt out anew among the files that the same platforms choose;
+//	                          tells how many stand in another file
 package main
 
 import (
@@ -172,6 +176,19 @@ func linesOf(platform, folder string) {
 	})
 }
 
+// linesOfPaths writes the feature lines of packages.
+func linesOfPaths(platform string) {
+	s := newSources(platform)
+	s.module = "-"
+	pairs(func(path, _ string) {
+		if pack, err := s.Import(path); err == nil {
+			for _, line := range linesIn(pack, path) {
+				fmt.Fprintln(out, line)
+			}
+		}
+	})
+}
+
 func main() {
 	defer out.Flush()
 	switch words := os.Args[1:]; {
@@ -186,15 +203,19 @@ func main() {
 			tell(fromFolders(folder, words[1], files))
 		})
 	case len(words) == 2 && words[0] == "counts":
-		tell(readModule(words[1]).counts)
+		tell(readBelow(words[1], true).counts)
 	case len(words) == 2 && words[0] == "parts":
 		partsOf(words[1])
 	case len(words) == 4 && words[0] == "tree":
 		writeTree(words[1], words[2], words[3])
 	case len(words) == 4 && words[0] == "again":
 		writeAgain(words[1], words[2], words[3])
+	case len(words) == 2 && words[0] == "paths":
+		linesOfPaths(words[1])
+	case len(words) > 5 && words[0] == "shuffled":
+		writeShuffled(words[1], words[2], words[3], words[4], words[5:])
 	default:
-		fmt.Fprintln(os.Stderr, "modules: lines, answers, counts, parts, tree or again")
+		fmt.Fprintln(os.Stderr, "modules: lines, answers, counts, parts, tree, again, paths or shuffled")
 		os.Exit(2)
 	}
 }
