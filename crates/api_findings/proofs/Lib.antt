@@ -3,4 +3,3 @@ pub mod OneFinding
 pub mod OneListing
 pub mod PlainPaths
 pub mod PlatformFindings
-pub mod SortedTexts

@@ -1,5 +1,6 @@
 -- On platforms trees have one list of features and one list of verdicts, or one refusal.
-use Rattle.std.proofs.Common.{◌≡◌, ℕ, true, Option, List, [], ◌∷◌, ◌++◌, map, refl, sym, ap, ◌∙◌, subst, inl, inr}
+use Rattle.std.proofs.Common.{◌≡◌, ℕ, true, Option, List, [], ◌∷◌, ◌++◌, map, refl, sym, ap, ◌∙◌, subst}
+use Rattle.std.proofs.lemmas.List.{map-append}
 use Rattle.api_features.specs.Features.{IsFeature}
 use Rattle.api_findings.proofs.OneListing.{same_lines, same_texts}
 use Rattle.api_findings.proofs.PlainPaths.{IsPlain, IsSimple, elements_plain, package_of}
@@ -7,6 +8,7 @@ use Rattle.api_findings.proofs.PlatformFindings.{IsFeatured, featured, old_stand
 use Rattle.api_findings.specs.Findings.{AreFindings, find_none, find_more, Finds, features_alone, with_verdict, IsRefusal, old_refused, new_refused, IsFirstRefusal, refused_here, refused_later, OldStands, shown}
 use Rattle.api_judge.specs.Verdicts.{IsVerdict}
 use Rattle.api_judge.specs.declared.verdict.Verdict.{Verdict}
+use Rattle.api_lines.proofs.OrderedTexts.{map_has}
 use Rattle.api_lines.specs.Lines.{IsListing, printed}
 use Rattle.api_lines.specs.Merging.{IsMerged}
 use Rattle.api_lines.specs.declared.line.Line.{Line}
@@ -24,15 +26,6 @@ use Rattle.go_sources.specs.UnitSources.{source_of}
 use Rattle.go_typings.specs.Sources.{PackageSource}
 use Rattle.go_units.specs.declared.unit.«Unit».{«Unit» as PackageUnit}
 use Rattle.go_units.specs.declared.unit_list.Units.{Units}
-
-source_in : (us : List PackageUnit) (s : PackageSource) → Has (map source_of us) s → (u : PackageUnit) × Has us u × (source_of u ≡ s)
-source_in [] s h = absurd h
-source_in (u ∷ us) s (inl e) = (u, inl refl, e)
-source_in (u ∷ us) s (inr h) = let k = source_in us s h in (k.0, inr k.1, k.2)
-
-map_append : {A : Type 0} {B : Type 0} (f : A → B) (xs ys : List A) → map f (xs ++ ys) ≡ map f xs ++ map f ys
-map_append f [] ys = refl
-map_append f (x ∷ xs) ys = ap (λ zs. f x ∷ zs) (map_append f xs ys)
 
 module _ (barred : List (List ℕ)) (old : Option Tree) (tree std_tree : Tree)
     (same_world : (t : Tree) (p : Platform) (v w : Packages) → IsWorldOn barred t std_tree p v → IsWorldOn barred t std_tree p w → v ≡ w)
@@ -69,7 +62,7 @@ module _ (barred : List (List ℕ)) (old : Option Tree) (tree std_tree : Tree)
     simple : (p : Platform) (w : Packages) → IsWorldOn barred tree std_tree p w → (l : Line) → IsFeature w l → IsSimple l
     simple p w i l f =
         let k = package_of (bits_of p) (sources_of i.0) w i.2 f.of f.here in
-        let u = source_in i.0.packages k.0 k.1 in
+        let u = map_has source_of i.0.packages k.0 k.1 in
         let same : u.0.path ≡ l.path = ap (λ (s : PackageSource). s.path) u.2 ∙ sym k.2 ∙ f.path in
         record { context = f.context; path = subst IsPlain same (elements_plain u.0.path (paths p i.0 i.1 u.0 u.1)) }
 
@@ -107,4 +100,4 @@ module _ (barred : List (List ℕ)) (old : Option Tree) (tree std_tree : Tree)
     one_verdicts (find_more {vs = vs} {ws = rest} f a) (find_more {vs = ws} {ws = others} g b) =
         let first : map shown vs ≡ map shown ws = shown_once f g in
         let more : map shown rest ≡ map shown others = one_verdicts a b in
-        map_append shown vs rest ∙ ap (λ w. w ++ map shown rest) first ∙ ap (λ w. map shown ws ++ w) more ∙ sym (map_append shown ws others)
+        map-append shown vs rest ∙ ap (λ w. w ++ map shown rest) first ∙ ap (λ w. map shown ws ++ w) more ∙ sym (map-append shown ws others)

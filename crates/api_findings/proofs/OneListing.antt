@@ -1,25 +1,20 @@
 -- Listings of lines with one property have the same texts.
-use Rattle.std.proofs.Common.{◌≡◌, ℕ, List, [], ◌∷◌, map, refl, ap, ◌∙◌, subst, inl, inr}
+use Rattle.std.proofs.Common.{◌≡◌, ℕ, List, [], ◌∷◌, map, refl, subst, inl, inr}
+use Rattle.api_judge.proofs.SortedTexts.{same_lists}
+use Rattle.api_lines.proofs.OrderedTexts.{has_map, map_has}
 use Rattle.api_lines.specs.Lines.{HasText, IsListing, printed}
 use Rattle.api_lines.specs.declared.line.Line.{Line}
 use Rattle.api_findings.proofs.PlainPaths.{IsSimple, one_line}
-use Rattle.api_findings.proofs.SortedTexts.{same_lists}
 use Rattle.go_base.specs.Lists.{Has}
 
+-- a text that one of the lines has is among their texts
 pub text_in : (lines : List Line) (text : List ℕ) → HasText lines text → Has (map printed lines) text
-text_in [] text h = absurd h.1
-text_in (l ∷ lines) text (k, inl e, p) = inl (ap printed e ∙ p)
-text_in (l ∷ lines) text (k, inr h, p) = inr (text_in lines text (k, h, p))
-
-pub in_text : (lines : List Line) (text : List ℕ) → Has (map printed lines) text → HasText lines text
-in_text [] text h = absurd h
-in_text (l ∷ lines) text (inl e) = (l, inl refl, e)
-in_text (l ∷ lines) text (inr h) = let k = in_text lines text h in (k.0, inr k.1, k.2)
+text_in lines text h = subst (Has (map printed lines)) h.2 (has_map printed lines h.0 h.1)
 
 module _ (P : Line → Type 0) where
   covered : (xs ys : List Line) → IsListing P xs → IsListing P ys → (text : List ℕ) → Has (map printed xs) text → Has (map printed ys) text
   covered xs ys a b text h =
-      let k = in_text xs text h in
+      let k = map_has printed xs text h in
       text_in ys text (subst (HasText ys) k.2 (b.complete k.0 (a.sound k.0 k.1)))
 
   pub same_texts : (xs ys : List Line) → IsListing P xs → IsListing P ys → map printed xs ≡ map printed ys

@@ -1,15 +1,15 @@
 -- The paths of packages have no comma, so that a feature line has one path and one rest.
-use Rattle.std.proofs.Common.{◌≡◌, ◌≢◌, ℕ, Bool, true, false, ◌&&◌, nat_eq, cond, Option, None, List, [], ◌∷◌, ◌++◌, refl, sym, ap, ◌∙◌, subst, ◌⊎◌, inl, inr, arith, append_assoc, drop, eqb-true}
+use Rattle.std.proofs.Common.{◌≡◌, ◌≢◌, ℕ, Bool, true, false, ◌&&◌, nat_eq, cond, None, List, [], ◌∷◌, ◌++◌, refl, sym, ap, ◌∙◌, subst, ◌⊎◌, inl, inr, arith, drop, eqb-true}
 use mathlib.Core.Bool.{true≢false}
-use Rattle.std.specs.Prelude.{codes, if◌then◌else◌}
+use Rattle.std.specs.Prelude.{if◌then◌else◌}
 use Rattle.std.specs.Cmp.Lexicographic.{slice_cmp}
 use Rattle.std.specs.List.{list_all, onto_first, slice_split}
 use Rattle.std.specs.Ordering.{is_lt, nat_cmp}
-use Rattle.api_lines.specs.Lines.{context_text, printed}
+use Rattle.api_judge.proofs.LineTexts.{plain_text}
+use Rattle.api_lines.specs.Lines.{printed}
 use Rattle.api_lines.specs.declared.line.Line.{Line}
 use Rattle.go_base.specs.Keys.{placed}
 use Rattle.go_base.specs.Lists.{Each, Has}
-use Rattle.go_model.specs.declared.files.platform.Platform.{Platform}
 use Rattle.go_model.specs.declared.types.package.Package.{Package}
 use Rattle.go_model.specs.files.Trees.{are_elements, begins_element, is_element, is_element_byte, is_within}
 use Rattle.go_model.specs.worlds.Worlds.{Packages, path_of}
@@ -130,24 +130,10 @@ pub record IsSimple (l : Line) : Type 0 where
   pub context : l.context ≡ None
   pub path : IsPlain l.path
 
-plain_text : (l : Line) → l.context ≡ None → printed l ≡ codes "pkg " ++ (l.path ++ 44 ∷ 32 ∷ l.rest)
-plain_text l e =
-    ap (λ (c : Option Platform). codes "pkg " ++ l.path ++ context_text c ++ codes ", " ++ l.rest) e
-    ∙ append_assoc (codes "pkg " ++ l.path ++ []) (codes ", ") l.rest
-    ∙ ap (λ (w : List ℕ). w ++ (44 ∷ 32 ∷ l.rest)) (append_none (codes "pkg " ++ l.path))
-    ∙ append_assoc (codes "pkg ") l.path (44 ∷ 32 ∷ l.rest)
-  where
-    append_none : (xs : List ℕ) → xs ++ [] ≡ xs
-    append_none [] = refl
-    append_none (x ∷ xs) = ap (λ ys. x ∷ ys) (append_none xs)
-
-behind : (xs ys : List ℕ) → codes "pkg " ++ xs ≡ codes "pkg " ++ ys → xs ≡ ys
-behind xs ys e = ap (drop 4) e
-
 -- such lines are one where their texts are
 pub one_line : (k l : Line) → IsSimple k → IsSimple l → printed k ≡ printed l → k ≡ l
 one_line k l a b e =
-    let same = before_comma k.path l.path (32 ∷ k.rest) (32 ∷ l.rest) a.path b.path (behind (k.path ++ 44 ∷ 32 ∷ k.rest) (l.path ++ 44 ∷ 32 ∷ l.rest) (sym (plain_text k a.context) ∙ e ∙ plain_text l b.context)) in
+    let same = before_comma k.path l.path (32 ∷ k.rest) (32 ∷ l.rest) a.path b.path (ap (drop 4) (sym (plain_text k a.context) ∙ e ∙ plain_text l b.context)) in
     let rest : k.rest ≡ l.rest = ap (drop 1) same.1 in
     let context : k.context ≡ l.context = a.context ∙ sym b.context in
     (λ i. record { path = same.0 i; context = context i; rest = rest i })

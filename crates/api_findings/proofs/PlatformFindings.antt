@@ -1,11 +1,12 @@
 -- What is found, platform by platform.
-use Rattle.std.proofs.Common.{◌≡◌, ◌+◌, ◌<◌, ◌≤◌, ℕ, Option, Some, None, List, [], ◌∷◌, ◌++◌, length, get_or, drop, Err, refl, sym, ap, ◌∙◌, subst, append_assoc, inl, inr, arith}
+use Rattle.std.proofs.Common.{◌≡◌, ◌+◌, ◌<◌, ◌≤◌, ℕ, Option, Some, None, List, [], ◌∷◌, ◌++◌, length, get_or, drop, Err, refl, sym, ap, ◌∙◌, subst, append_assoc, append-nil, arith}
 use Rattle.std.proofs.lemmas.List.{drop_more}
 use Rattle.api_findings.specs.Checks.{CountsAtMost, CountsOf, CountsPackages, count_more, count_none}
 use Rattle.api_findings.specs.Findings.{AnswersFindings, AreFindings, find_none, find_more, Finds, features_alone, with_verdict, IsFirstRefusal, refused_here, refused_later, OldStands}
 use Rattle.api_findings.specs.inner.Found.{IsError}
 use Rattle.api_judge.specs.declared.verdict.Verdict.{Verdict}
 use Rattle.api_features.specs.Features.{IsFeature}
+use Rattle.api_lines.proofs.Growing.{each_of}
 use Rattle.api_lines.specs.Lines.{IsListing}
 use Rattle.api_lines.specs.Merging.{HasNoContext}
 use Rattle.api_lines.specs.declared.line.Line.{Line}
@@ -13,14 +14,10 @@ use Rattle.api_worlds.specs.PlatformWorlds.{IsWorldOn, no_package}
 use Rattle.api_worlds.specs.declared.error.PlatformError.{PlatformError}
 use Rattle.api_worlds.specs.declared.error.PlatformError.TheVariants as error
 use Rattle.go_base.proofs.Lists.{drop_past}
-use Rattle.go_base.specs.Lists.{Each, Has}
+use Rattle.go_base.specs.Lists.{Each}
 use Rattle.go_model.specs.declared.files.platform.Platform.{Platform}
 use Rattle.go_model.specs.declared.files.tree.Tree.{Tree}
 use Rattle.go_model.specs.worlds.Worlds.{Packages}
-
-append_none : {A : Type 0} (xs : List A) → xs ++ [] ≡ xs
-append_none [] = refl
-append_none (x ∷ xs) = ap (λ ys. x ∷ ys) (append_none xs)
 
 -- what is put between is in the middle of both lists
 regroup : {A : Type 0} (before new more here : List A) → new ≡ before ++ here → before ++ (here ++ more) ≡ new ++ more
@@ -107,8 +104,8 @@ module _ (barred : List (List ℕ)) (old : Option Tree) (tree std_tree : Tree) w
 
     pub taken_all : AreFindings barred old tree std_tree ps lists vs
     taken_all =
-        subst (AreFindings barred old tree std_tree ps lists) (append_none vs)
-        (subst (λ (w : List (List Line)). AreFindings barred old tree std_tree ps w (vs ++ [])) (append_none lists) (t.forth [] [] (subst (λ (w : List Platform). AreFindings barred old tree std_tree w [] []) (sym done) find_none)))
+        subst (AreFindings barred old tree std_tree ps lists) (append-nil vs)
+        (subst (λ (w : List (List Line)). AreFindings barred old tree std_tree ps w (vs ++ [])) (append-nil lists) (t.forth [] [] (subst (λ (w : List Platform). AreFindings barred old tree std_tree w [] []) (sym done) find_none)))
 
     pub count_all : CountsAtMost barred old tree std_tree ps before now
     count_all = (t.count, subst (Counts ps) (omega arith) (t.counts 0 (subst (λ (w : List Platform). Counts w 0) (sym done) count_none)), t.counted)
@@ -119,10 +116,6 @@ module _ (barred : List (List ℕ)) (old : Option Tree) (tree std_tree : Tree) w
   same_length find_none = refl
   same_length (find_more f a) = omega (arith, same_length a)
 
-  each_of : (lines : List Line) → ((l : Line) → Has lines l → l.context ≡ None) → Each HasNoContext lines
-  each_of [] f = tt
-  each_of (l ∷ lines) f = (f l (inl refl), each_of lines (λ k h. f k (inr h)))
-
   pub are_plain : {ps : List Platform} {lists : List (List Line)} {vs : List Verdict} → AreFindings barred old tree std_tree ps lists vs → Each (Each HasNoContext) lists
   are_plain find_none = tt
-  are_plain (find_more {lines = lines} f a) = (each_of lines (λ k h. ((featured f).features.sound k h).context), are_plain a)
+  are_plain (find_more {lines = lines} f a) = (each_of HasNoContext lines (λ k h. ((featured f).features.sound k h).context), are_plain a)

@@ -39,6 +39,7 @@ impl Drop for Findings {
 }
 
 impl Findings {
+    // Adds what is found on one platform more.
     fn push(&mut self, found: Found) -> Result<(), NoMemory>
         ensures features { OnOk result (self.new.features ≡ self.old.features ++ found.lines ∷ []) }
         ensures verdicts { OnOk result (self.new.verdicts ≡ self.old.verdicts ++ verdicts_of found) }
@@ -55,9 +56,10 @@ impl Findings {
     }
 }
 
-/// What is found on these platforms in the new tree over the standard library's and, where there is an old tree, in both. Else the
-/// fault line of the first platform on which a tree is refused, the old one before the new. The barred paths are those of the run's
-/// modules. The counter rises by at most the number of the packages of both trees on all platforms together.
+/// What is found on these platforms in the new tree over the standard library's and, where there is an old tree, in both; or `Refused`
+/// with the fault line of the first platform on which a tree is refused, the old one before the new; or `NoMemory`. The barred paths are
+/// those of the run's modules, which no package of the standard library may have. The counter rises by at most the number of the
+/// packages of both trees on all platforms together.
 pub fn find<G: Gate, L: Copy + Send>(
     alloc: Global,
     old_tree: Option<&Tree>,

@@ -55,6 +55,7 @@ impl Found {
     }
 }
 
+// The features of a world, and no verdict.
 fn featured(alloc: Global, world: &World) -> Result<Found, NoMemory>
     ensures { IfOk result (λ found. (found.verdict ≡ None) × IsListing (IsFeature world.now) found.lines) }
 {
@@ -65,6 +66,7 @@ fn featured(alloc: Global, world: &World) -> Result<Found, NoMemory>
     })
 }
 
+// The features of the new world, and the verdict on both.
 fn compared(alloc: Global, old: &World, new: &World) -> Result<Found, NoMemory>
     requires { ShareStd old.now new.now }
     ensures { IfOk result (IsCompared old.now new.now) }
@@ -78,6 +80,7 @@ fn compared(alloc: Global, old: &World, new: &World) -> Result<Found, NoMemory>
     })
 }
 
+// What is found on a platform where there is no old tree.
 fn features_on<G: Gate, L: Copy + Send>(
     alloc: Global,
     tree: &Tree,
@@ -112,6 +115,7 @@ fn features_on<G: Gate, L: Copy + Send>(
     }
 }
 
+// What is found on a platform where there is an old tree.
 fn verdict_on<G: Gate, L: Copy + Send>(
     alloc: Global,
     old_tree: &Tree,

@@ -1,6 +1,6 @@
 //! Laws of the definitions: what a run finds in its trees is one thing.
 ghost use Rattle.std.specs.Prelude.{◌≡◌, ◌≢◌, ℕ, List, [], Option, map};
-ghost use Rattle.api_findings.specs.Findings.{AreFindings, IsFirstRefusal, IsOldTree, shown};
+ghost use Rattle.api_findings.specs.Findings.{AreFindings, IsFirstRefusal, shown};
 ghost use Rattle.api_judge.specs.declared.verdict.Verdict.{Verdict as Found};
 ghost use Rattle.api_lines.specs.Lines.{IsListing, printed};
 ghost use Rattle.api_lines.specs.Merging.{IsMerged};
@@ -17,11 +17,10 @@ use go_reading::laws::unit_paths;
 /// both.
 pub fn one_finding()
     ensures features { (barred : List (List ℕ)) (old : Option Tree) (tree std_tree : Tree) (ps : List Platform) (a b : List (List Feature)) (vs ws : List Found)
-        (merged other : List Feature) → IsOldTree barred old → IsTree tree → IsTree std_tree → tree.module ≢ []
+        (merged other : List Feature) → IsTree tree → IsTree std_tree → tree.module ≢ []
         → AreFindings barred old tree std_tree ps a vs → AreFindings barred old tree std_tree ps b ws → IsListing (IsMerged a ps) merged
         → IsListing (IsMerged b ps) other → map printed merged ≡ map printed other }
     ensures verdicts { (barred : List (List ℕ)) (old : Option Tree) (tree std_tree : Tree) (ps : List Platform) (a b : List (List Feature)) (vs ws : List Found)
-        → IsOldTree barred old → IsTree tree → IsTree std_tree → tree.module ≢ []
         → AreFindings barred old tree std_tree ps a vs → AreFindings barred old tree std_tree ps b ws → map shown vs ≡ map shown ws }
     ensures refusal { (barred : List (List ℕ)) (old : Option Tree) (tree std_tree : Tree) (ps : List Platform) (a b : List ℕ)
         → IsFirstRefusal barred old tree std_tree ps a → IsFirstRefusal barred old tree std_tree ps b → a ≡ b }

@@ -4,4 +4,3 @@
 pub mod findings;
 mod found;
 pub mod laws;
-pub mod merging;

@@ -1,10 +1,10 @@
 -- What decisions are: those of findings, from the parts of their reports; and those of a request, as what a run may write.
-use Rattle.std.proofs.Common.{◌≡◌, ◌≤◌, ◌+◌, ◌-◌, ◌^◌, min, ℕ, Bool, true, false, ◌||◌, List, [], ◌∷◌, ◌++◌, Option, Some, None, Ok, Err, refl, sym, subst, ◌⊎◌, inl, inr, arith}
+use Rattle.std.proofs.Common.{◌≡◌, ◌≤◌, ◌+◌, ◌-◌, ℕ, Bool, true, false, ◌||◌, List, ◌++◌, Option, Some, None, Ok, Err, refl, sym, subst, ◌⊎◌, inl, inr, arith}
 use Rattle.std.specs.List.{list_any}
+use Rattle.std.specs.Prelude.{Result}
 use Rattle.api_findings.specs.Checks.{CountsAtMost}
 use Rattle.api_findings.specs.Findings.{AnswersFindings}
 use Rattle.api_findings.specs.declared.findings.Findings.{Findings}
-use Rattle.std.specs.Prelude.{Result}
 use Rattle.api_advice.specs.Advice.{IsNext}
 use Rattle.api_advice.specs.declared.class.Class.{Class}
 use Rattle.api_advice.specs.declared.release.Release.{Release}
@@ -15,14 +15,14 @@ use Rattle.api_worlds.specs.declared.error.PlatformError.TheVariants as platform
 use Rattle.go_model.specs.declared.files.platform.Platform.{Platform}
 use Rattle.go_model.specs.declared.files.tree.Tree.{Tree}
 use Rattle.api_generator.specs.MadeTrees.{made_contents}
-use Rattle.api_inputs.specs.Inputs.{AnswersInputs, AreInputs, IsInputRefusal}
+use Rattle.api_inputs.specs.Inputs.{AnswersInputs, AreInputs}
 use Rattle.api_inputs.specs.declared.inputs.InputError.{InputError}
 use Rattle.api_inputs.specs.declared.inputs.InputError.TheVariants as input
 use Rattle.api_inputs.specs.declared.inputs.Inputs.{Inputs}
 use Rattle.api_judge.specs.Verdicts.{class_of, has_break}
 use Rattle.api_judge.specs.declared.verdict.Verdict.{Verdict}
 use Rattle.api_lines.specs.declared.line.Line.{Line}
-use Rattle.api_reports.specs.Reports.{class_text, features_text, judge_text}
+use Rattle.api_reports.specs.Reports.{class_text, judge_text}
 use Rattle.api_words.specs.Words.{IsRequest}
 use Rattle.api_words.specs.declared.option_name.Mode.TheVariants as mode
 use Rattle.api_words.specs.declared.request.MadeTrees.{MadeTrees}
@@ -33,9 +33,9 @@ use Rattle.api_gate.specs.declared.reports.advice.AdviceFault.{AdviceFault}
 use Rattle.api_gate.specs.declared.reports.advice.AdviceFault.TheVariants as fault
 use Rattle.api_gate.specs.declared.reports.decision.Decision.{Decision}
 use Rattle.api_gate.specs.declared.reports.decision.Decision.TheVariants as decision
-use Rattle.api_gate.specs.inner.Decisions.{AnswersAdvice, ChecksFor, IsComparison, IsFeaturesText, IsGateDecision, IsMakeText, IsOfFindings, IsOfInputs, of_findings, of_platform, no_room, IsOfStore, of_inputs, of_refusal, of_fault, no_space, decision_of, outcome_of, report_of, unadvised, unfound, IsFaultOf}
+use Rattle.api_gate.specs.inner.Decisions.{AnswersAdvice, ChecksFor, IsFeaturesText, IsGateDecision, IsMakeText, IsOfFindings, IsOfInputs, of_findings, of_platform, no_room, IsOfStore, of_inputs, of_refusal, of_fault, no_space, decision_of, outcome_of, report_of, unadvised, unfound, IsFaultOf}
 use Rattle.api_gate.specs.runs.Effects.{Change}
-use Rattle.api_gate.specs.runs.Outcomes.{AreFound, AreMerged, Asks, ChecksAtMost, checked, no_check, EndsWith, bad_words, refused_inputs, refused_platform, refused_advice, reported_findings, IsAdvice, IsAdviceRefusal, no_release, no_version, IsReportOn, features_report, frozen_report, judge_report, advise_report, gate_report, make_report, IsSignedReport, files_of, modules_of}
+use Rattle.api_gate.specs.runs.Outcomes.{AreFound, ChecksAtMost, checked, no_check, refused_inputs, refused_platform, refused_advice, reported_findings, IsAdvice, IsAdviceRefusal, no_release, no_version, IsReportOn, features_report, judge_report, advise_report, gate_report, make_report, IsSignedReport, files_of, modules_of}
 use Rattle.api_gate.specs.runs.Runs.{MayWrite, defined, store_failed, no_memory}
 
 -- ---- advice

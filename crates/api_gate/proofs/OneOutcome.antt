@@ -1,9 +1,9 @@
 -- The definitions give one outcome for words and files.
-use Rattle.std.proofs.Common.{◌≡◌, ◌≢◌, ℕ, Bool, true, false, Option, Some, None, List, [], map, Ok, refl, sym, ap, ◌∙◌, subst}
+use Rattle.std.proofs.Common.{◌≡◌, ◌≢◌, ℕ, Bool, true, Option, Some, None, List, [], map, refl, sym, ap, subst}
 use Rattle.api_advice.specs.Advice.{IsNext}
 use Rattle.api_advice.specs.declared.class.Class.{Class}
 use Rattle.api_advice.specs.declared.release.Release.{Release}
-use Rattle.api_findings.specs.Findings.{AreFindings, IsFirstRefusal, IsOldTree, shown}
+use Rattle.api_findings.specs.Findings.{AreFindings, IsFirstRefusal, shown}
 use Rattle.api_inputs.specs.Inputs.{AreInputs, IsInputRefusal}
 use Rattle.api_inputs.specs.declared.inputs.Inputs.{Inputs}
 use Rattle.api_judge.specs.Verdicts.{class_of}
@@ -22,9 +22,9 @@ use Rattle.go_model.specs.files.Trees.{IsTree}
 use Rattle.go_outside.specs.Stores.{Contents}
 use Rattle.api_generator.specs.MadeTrees.{made_contents}
 use Rattle.api_gate.proofs.OneReport.{report_or_refusal, same_report, same_unadvised}
-use Rattle.api_gate.proofs.RequestFacts.{named_module, old_tree, std_tree, takes_version, version_in}
+use Rattle.api_gate.proofs.RequestFacts.{named_module, std_tree, takes_version, version_in}
 use Rattle.api_gate.specs.declared.status.Status.TheVariants as status
-use Rattle.api_gate.specs.runs.Outcomes.{AreFound, AreMerged, Asks, EndsWith, bad_words, refused_inputs, refused_platform, refused_advice, reported_findings, IsAdviceRefusal, IsReportOn, Outcome, fault_alone, files_of, modules_of, reported}
+use Rattle.api_gate.specs.runs.Outcomes.{AreFound, AreMerged, EndsWith, bad_words, refused_inputs, refused_platform, refused_advice, reported_findings, IsAdviceRefusal, IsReportOn, Outcome, fault_alone, files_of, modules_of, reported}
 
 -- ---- of one request and its inputs
 
@@ -44,9 +44,9 @@ data RequestEnds (files : Option Contents) (r : Request) : Outcome → Type 0 wh
   ends_read : {o : Outcome} (i : Inputs) → AreInputs files r i → InputsEnd r i o → RequestEnds files r o
 
 module _ (one_next : (r : Release) (c : Class) (a b : Option Release) → IsNext r c a → IsNext r c b → a ≡ b)
-    (one_merged : (barred : List (List ℕ)) (old : Option Tree) (tree std : Tree) (ps : List Platform) (a b : List (List Line)) (vs ws : List Verdict) (f g : List Line) → IsOldTree barred old → IsTree tree → IsTree std → tree.«module» ≢ []
+    (one_merged : (barred : List (List ℕ)) (old : Option Tree) (tree std : Tree) (ps : List Platform) (a b : List (List Line)) (vs ws : List Verdict) (f g : List Line) → IsTree tree → IsTree std → tree.«module» ≢ []
     → AreFindings barred old tree std ps a vs → AreFindings barred old tree std ps b ws → IsListing (IsMerged a ps) f → IsListing (IsMerged b ps) g → map printed f ≡ map printed g)
-    (one_verdict : (barred : List (List ℕ)) (old : Option Tree) (tree std : Tree) (ps : List Platform) (a b : List (List Line)) (vs ws : List Verdict) → IsOldTree barred old → IsTree tree → IsTree std → tree.«module» ≢ []
+    (one_verdict : (barred : List (List ℕ)) (old : Option Tree) (tree std : Tree) (ps : List Platform) (a b : List (List Line)) (vs ws : List Verdict)
     → AreFindings barred old tree std ps a vs → AreFindings barred old tree std ps b ws → map shown vs ≡ map shown ws)
     (one_line : (barred : List (List ℕ)) (old : Option Tree) (tree std : Tree) (ps : List Platform) (a b : List ℕ) → IsFirstRefusal barred old tree std ps a → IsFirstRefusal barred old tree std ps b → a ≡ b)
     (found_or : (barred : List (List ℕ)) (old : Option Tree) (tree std : Tree) (ps : List Platform) (a : List (List Line)) (vs : List Verdict) (line : List ℕ) → AreFindings barred old tree std ps a vs → IsFirstRefusal barred old tree std ps line → ⊥)
@@ -63,9 +63,6 @@ module _ (one_next : (r : Release) (c : Class) (a b : Option Release) → IsNext
     -- ---- of inputs
 
     module _ (files : Option Contents) (r : Request) (i : Inputs) (inputs : AreInputs files r i) where
-      old_kept : IsOldTree (modules_of i) i.old_tree
-      old_kept = old_tree files r.old i inputs.old_tree
-
       std_kept : IsTree i.std_tree
       std_kept = std_tree files r.std i.std_tree inputs.std_tree
 
@@ -78,8 +75,8 @@ module _ (one_next : (r : Release) (c : Class) (a b : Option Release) → IsNext
       one_of_inputs a b (ends_found fs vs h p) (ends_refused {line = y} k) = absurd (found_or (modules_of i) i.old_tree i.tree i.std_tree r.platforms fs vs y h k)
       one_of_inputs a b (ends_found fs vs h p) (ends_found gs ws k q) =
           one_found r i fs gs vs ws
-          (λ f g m n. one_merged (modules_of i) i.old_tree i.tree i.std_tree r.platforms fs gs vs ws f g old_kept inputs.tree.tree std_kept named h k m n)
-          (one_verdict (modules_of i) i.old_tree i.tree i.std_tree r.platforms fs gs vs ws old_kept inputs.tree.tree std_kept named h k)
+          (λ f g m n. one_merged (modules_of i) i.old_tree i.tree i.std_tree r.platforms fs gs vs ws f g inputs.tree.tree std_kept named h k m n)
+          (one_verdict (modules_of i) i.old_tree i.tree i.std_tree r.platforms fs gs vs ws h k)
           a b p q
 
     -- ---- of words

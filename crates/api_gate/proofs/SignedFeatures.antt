@@ -1,28 +1,19 @@
 -- Features with the same texts lost and gained the same.
-use Rattle.std.proofs.Common.{◌≡◌, ℕ, Bool, true, false, List, [], ◌∷◌, map, refl, sym, ap, subst, inl, inr}
+use Rattle.std.proofs.Common.{◌≡◌, ℕ, Bool, true, false, List, [], ◌∷◌, map, refl, sym, subst, inl, inr}
+use Rattle.api_findings.proofs.OneListing.{text_in}
 use Rattle.api_frozen.specs.Comparison.{IsLost, IsNew, IsReport, IsSigned, IsSignedAs}
 use Rattle.api_frozen.specs.declared.signed.Signed.{Signed}
+use Rattle.api_judge.proofs.SortedTexts.{same_lists}
+use Rattle.api_lines.proofs.OrderedTexts.{has_map, map_has}
 use Rattle.api_lines.specs.Lines.{HasText, printed}
 use Rattle.api_lines.specs.declared.line.Line.{Line}
-use Rattle.api_findings.proofs.OneListing.{in_text, text_in}
-use Rattle.api_findings.proofs.SortedTexts.{same_lists}
 use Rattle.go_base.specs.Lists.{Has}
 
 abbrev line_in : Signed → List ℕ
 line_in s = s.line
 
-line_has : (xs : List Signed) (s : Signed) → Has xs s → Has (map line_in xs) s.line
-line_has [] s h = absurd h
-line_has (x ∷ xs) s (inl e) = inl (ap line_in e)
-line_has (x ∷ xs) s (inr h) = inr (line_has xs s h)
-
-has_line : (xs : List Signed) (text : List ℕ) → Has (map line_in xs) text → (s : Signed) × Has xs s × (s.line ≡ text)
-has_line [] text h = absurd h
-has_line (x ∷ xs) text (inl e) = (x, inl refl, e)
-has_line (x ∷ xs) text (inr h) = let k = has_line xs text h in (k.0, inr k.1, k.2)
-
 text_as : (f g : List Line) (text : List ℕ) → map printed f ≡ map printed g → HasText f text → HasText g text
-text_as f g text e h = in_text g text (subst (λ (w : List (List ℕ)). Has w text) e (text_in f text h))
+text_as f g text e h = map_has printed g text (subst (λ (w : List (List ℕ)). Has w text) e (text_in f text h))
 
 module _ (required exceptions : List (List ℕ)) where
   lost_as : (f g : List Line) (text : List ℕ) → map printed f ≡ map printed g → IsLost f required exceptions text → IsLost g required exceptions text
@@ -46,8 +37,8 @@ module _ (required exceptions : List (List ℕ)) where
 
   covered : (f g : List Line) (xs ys : List Signed) → map printed f ≡ map printed g → IsReport f required exceptions xs → IsReport g required exceptions ys → (text : List ℕ) → Has (map line_in xs) text → Has (map line_in ys) text
   covered f g xs ys e a b text h =
-      let k = has_line xs text h in
-      subst (Has (map line_in ys)) k.2 (line_has ys k.0 (b.complete k.0 (signed_as f g k.0 e (a.sound k.0 k.1))))
+      let k = map_has line_in xs text h in
+      subst (Has (map line_in ys)) k.2 (has_map line_in ys k.0 (b.complete k.0 (signed_as f g k.0 e (a.sound k.0 k.1))))
 
   by_lines : (g : List Line) (xs ys : List Signed) → map line_in xs ≡ map line_in ys → ((s : Signed) → Has xs s → IsSigned g required exceptions s) → ((s : Signed) → Has ys s → IsSigned g required exceptions s) → xs ≡ ys
   by_lines g [] [] e f h = refl

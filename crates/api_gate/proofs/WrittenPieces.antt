@@ -1,15 +1,12 @@
 -- Bytes that a sink takes in pieces.
-use Rattle.std.proofs.Common.{◌≡◌, ℕ, zero, suc, ◌+◌, ◌-◌, ◌≤◌, List, [], ◌∷◌, ◌++◌, length, take, drop, Option, Some, None, Result, Ok, Err, refl, sym, ap, ◌∙◌, subst, append_assoc, inl, inr, arith, ◌^◌, min, length-drop, length-take-le}
-use Rattle.go_outside.specs.Faults.{Rose}
+use Rattle.std.proofs.Common.{◌≡◌, ℕ, zero, suc, ◌+◌, ◌-◌, ◌≤◌, List, [], ◌∷◌, ◌++◌, length, take, drop, Option, Some, None, Result, Ok, Err, refl, sym, ap, ◌∙◌, subst, append_assoc, append-nil, inl, inr, arith, ◌^◌, min, length-drop, length-take-le}
 use Rattle.go_outside.specs.Sinks.{Takes, TakesSome, AnswersWrite, SinkCause}
 use Rattle.go_outside.specs.declared.sink.SinkError.{SinkError}
-use Rattle.api_gate.specs.runs.Effects.{Change, Failed, NeverFell, change}
 use Rattle.api_gate.specs.runs.Runs.{Tried}
-use Rattle.api_gate.proofs.ListRests.{append_nothing}
 
 pub takes_nothing : (old : Option (List ℕ)) → Takes old [] old
 takes_nothing None = refl
-takes_nothing (Some xs) = ap Some (sym (append_nothing xs))
+takes_nothing (Some xs) = ap Some (sym (append-nil xs))
 
 same_bytes : (a b : List ℕ) → ◌≡◌ {A = Option (List ℕ)} (Some a) (Some b) → a ≡ b
 same_bytes a b e = cc

@@ -18,7 +18,8 @@ parts_same (x ∷ xs) (y ∷ ys) rs ss n e =
     let k = parts_same xs ys rs ss (omega arith) (let s : xs ++ rs ≡ ys ++ ss = cc in s) in
     ((λ i. first i ∷ k.0 i), k.1)
 
-plain_text : (l : Line) → l.context ≡ None → printed l ≡ codes "pkg " ++ (l.path ++ 44 ∷ 32 ∷ l.rest)
+-- a line without context, its prefix apart
+pub plain_text : (l : Line) → l.context ≡ None → printed l ≡ codes "pkg " ++ (l.path ++ 44 ∷ 32 ∷ l.rest)
 plain_text l e =
     ap (λ (c : Option Platform). codes "pkg " ++ l.path ++ context_text c ++ codes ", " ++ l.rest) e
     ∙ append_assoc (codes "pkg " ++ l.path ++ []) (codes ", ") l.rest

@@ -43,9 +43,11 @@ pub record AreBreaks (old new : Packages) (breaks : List Broken) : Type 0 where
 abbrev pub HasFeature : Packages → List ℕ → Type 0
 HasFeature w text = (l : Line) × IsFeature w l × (line_text l ≡ text)
 
+-- what one world has among its features, the other has too, by the texts
 abbrev pub HaveSameFeatures : Packages → Packages → Type 0
 HaveSameFeatures old new = (text : List ℕ) → HasFeature old text ↔ HasFeature new text
 
+-- exactly what is broken, and whether the features differ
 pub record IsVerdict (old new : Packages) (v : Verdict) : Type 0 where
   pub breaks : AreBreaks old new v.breaks
   pub changed : Decides v.changed (HaveSameFeatures old new → ⊥)
@@ -54,6 +56,7 @@ pub record IsVerdict (old new : Packages) (v : Verdict) : Type 0 where
 abbrev pub has_break : Verdict → Bool
 has_break v = not (length v.breaks == 0)
 
+-- the features differ
 abbrev pub is_changed : Verdict → Bool
 is_changed v = v.changed
 

@@ -7,7 +7,7 @@ use api_lines::line::Line;
 use go_base::memory::NoMemory;
 use std::alloc::Global;
 
-// Whether the texts of two lines are one exactly where their parts are.
+// Whether neither line has a context and their paths are equally long: then their texts are one exactly where their parts are.
 fn are_alike(a: &Line, b: &Line) -> bool
     ensures { result ≡ true → AreAlike a.now b.now }
 {

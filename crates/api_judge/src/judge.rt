@@ -15,7 +15,7 @@ use go_base::memory::NoMemory;
 use go_model::types::world::World;
 use std::alloc::Global;
 
-/// What is broken where `new` takes the place of `old`, and whether their features differ, which are given.
+/// What `judge` says, over the features of both worlds, which are given.
 pub fn judge_listed(
     alloc: Global,
     old: &World,
@@ -44,7 +44,7 @@ pub fn judge(alloc: Global, old: &World, new: &World) -> Result<Verdict, NoMemor
     judge_listed(alloc, old, new, before.items(), after.items())
 }
 
-/// Whether something is broken, on some platform.
+/// Whether one of these verdicts says that something is broken.
 pub fn is_any_broken(verdicts: &[Verdict]) -> bool
     ensures { result ≡ list_any has_break verdicts.now }
 {
@@ -57,7 +57,8 @@ fn is_any_changed(verdicts: &[Verdict]) -> bool
     verdicts.iter().any(|verdict| verdict.changed)
 }
 
-/// How much a release changes of which these are the verdicts, platform by platform.
+/// How much a release changes by its verdicts, platform by platform: `Major` where one says that something is broken; else `Minor`
+/// where one says that the feature lines differ; else `Patch`.
 pub fn class(verdicts: &[Verdict]) -> Class
     ensures { result ≡ class_of verdicts.now }
 {

@@ -1,12 +1,8 @@
 -- Texts of lines, line by line.
-use Rattle.std.proofs.Common.{◌≡◌, ℕ, ◌+◌, ◌<◌, ◌≤◌, List, [], ◌∷◌, ◌++◌, length, get_or, drop, map, refl, sym, ap, ◌∙◌, append_assoc}
+use Rattle.std.proofs.Common.{◌≡◌, ℕ, ◌+◌, ◌<◌, ◌≤◌, List, [], ◌∷◌, ◌++◌, length, get_or, drop, map, refl, sym, ap, ◌∙◌, append_assoc, append-nil}
 use Rattle.std.proofs.lemmas.List.{drop_more}
 use Rattle.go_base.proofs.Lists.{drop_past}
 use Rattle.api_reports.specs.Reports.{unlines}
-
-pub append_none : {A : Type 0} (xs : List A) → xs ++ [] ≡ xs
-append_none [] = refl
-append_none (x ∷ xs) = ap (λ ys. x ∷ ys) (append_none xs)
 
 module _ {A : Type 0} (text_of : A → List ℕ) (items : List A) where
   from_here : (i : ℕ) (x : A) → i < length items → x ≡ get_or items i x → drop i items ≡ x ∷ drop (i + 1) items
@@ -20,7 +16,7 @@ module _ {A : Type 0} (text_of : A → List ℕ) (items : List A) where
       ∙ ap (λ (w : List A). old ++ unlines (map text_of w)) (sym (from_here i x h is)) ∙ r
 
   pub text_done : {all : List ℕ} (i : ℕ) (text : List ℕ) → length items ≤ i → text ++ unlines (map text_of (drop i items)) ≡ all → text ≡ all
-  text_done i text h r = sym (append_none text) ∙ ap (λ (w : List A). text ++ unlines (map text_of w)) (sym (drop_past i items h)) ∙ r
+  text_done i text h r = sym (append-nil text) ∙ ap (λ (w : List A). text ++ unlines (map text_of w)) (sym (drop_past i items h)) ∙ r
 
 pub unlines_both : (a b : List (List ℕ)) → unlines (a ++ b) ≡ unlines a ++ unlines b
 unlines_both [] b = refl

@@ -21,6 +21,7 @@ abbrev pub unlines : List (List ℕ) → List ℕ
 unlines [] = []
 unlines (line ∷ lines) = line ++ 10 ∷ unlines lines
 
+-- the text of feature lines
 abbrev pub features_text : List Line → List ℕ
 features_text lines = unlines (map printed lines)
 
@@ -29,25 +30,30 @@ abbrev pub sign_of : Bool → ℕ
 sign_of true = 45
 sign_of false = 43
 
+-- a line behind its sign
 abbrev pub signed : Signed → List ℕ
 signed s = sign_of s.lost ∷ s.line
 
+-- the text of lost and new lines
 abbrev pub signed_text : List Signed → List ℕ
 signed_text lines = unlines (map signed lines)
 
+-- the line is lost
 abbrev pub is_lost : Signed → Bool
 is_lost s = s.lost
 
--- a line is lost
+-- one of the lines is lost
 abbrev pub has_loss : List Signed → Bool
 has_loss lines = list_any is_lost lines
 
 -- ---- verdicts
 
+-- the word for a verdict, by whether something is broken
 abbrev pub verdict_word : Bool → List ℕ
 verdict_word true = codes "incompatible"
 verdict_word false = codes "compatible"
 
+-- the line of what is broken on a platform
 abbrev pub break_line : Platform → Broken → List ℕ
 break_line p b = codes "break " ++ name_of p ++ codes " " ++ break_text b
 
@@ -61,6 +67,7 @@ verdict_lines [] vs = []
 verdict_lines (p ∷ ps) [] = []
 verdict_lines (p ∷ ps) (v ∷ vs) = platform_lines p v ++ verdict_lines ps vs
 
+-- the word for a class, and its line
 abbrev pub class_name : Class → List ℕ
 class_name class.Major = codes "major"
 class_name class.Minor = codes "minor"
@@ -69,9 +76,11 @@ class_name class.Patch = codes "patch"
 abbrev pub class_line : Class → List ℕ
 class_line c = codes "class " ++ class_name c
 
+-- the verdicts on all platforms, and then the class
 abbrev pub judge_text : List Platform → List Verdict → List ℕ
 judge_text ps vs = unlines (verdict_lines ps vs) ++ unlines (class_line (class_of vs) ∷ [])
 
+-- the class alone
 abbrev pub class_text : Class → List ℕ
 class_text c = unlines (class_line c ∷ [])
 
@@ -82,6 +91,7 @@ abbrev pub v_of : List ℕ → List ℕ
 v_of [] = []
 v_of (b ∷ bytes) = if nat_eq b 118 then codes "v" else []
 
+-- the three numbers of a release
 abbrev pub release_text : Release → List ℕ
 release_text r = decimal r.major ++ codes "." ++ decimal r.minor ++ codes "." ++ decimal r.patch
 

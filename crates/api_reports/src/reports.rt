@@ -1,4 +1,4 @@
-//! The texts of reports.
+//! The texts of feature lines, and of lines that were lost or are new.
 ghost use Rattle.std.specs.Prelude.{◌≡◌, ◌++◌, ◌∷◌, [], OnOk, IfOk};
 ghost use Rattle.api_lines.specs.Lines.{printed};
 ghost use Rattle.api_reports.specs.Reports.{features_text, has_loss, sign_of, signed, signed_text};
@@ -29,6 +29,7 @@ pub fn features_text(alloc: Global, lines: &[Line]) -> Result<Text, NoMemory>
     Ok(Text::from_vec(text))
 }
 
+// The sign in front of a lost line, or of a new one.
 fn sign_of(lost: bool) -> u8
     ensures { result ≡ sign_of lost }
 {

@@ -1,7 +1,5 @@
-//! The texts of verdicts and classes.
+//! The texts of verdicts and of classes, and how much verdicts say is broken.
 ghost use Rattle.std.specs.Prelude.{◌≡◌, ◌+◌, ◌++◌, ◌∷◌, [], OnOk, IfOk, map};
-ghost use Rattle.std.specs.List.{list_any};
-ghost use Rattle.api_judge.specs.Verdicts.{has_break};
 ghost use Rattle.api_reports.specs.Reports.{break_line, class_line, class_name, class_text, count_breaks, judge_text, platform_lines, unlines, verdict_lines, verdict_word};
 
 use api_advice::class::Class;
@@ -12,13 +10,6 @@ use go_base::memory::NoMemory;
 use go_base::text::Text;
 use go_model::files::platform::Platform;
 use std::alloc::Global;
-
-/// Whether something is broken on one of the platforms.
-pub fn has_break(verdicts: &[Verdict]) -> bool
-    ensures { result ≡ list_any has_break verdicts.now }
-{
-    verdicts.iter().any(|verdict| verdict.has_break())
-}
 
 /// How much is broken on all platforms together. `NoMemory` where that is more than memory can hold.
 pub fn count_breaks(verdicts: &[Verdict]) -> Result<usize, NoMemory>
@@ -139,7 +130,7 @@ pub fn judge_text(
     Ok(Text::from_vec(text))
 }
 
-/// The line of a class, as a text.
+/// The text of a class: its line.
 pub fn class_text(alloc: Global, class: Class) -> Result<Text, NoMemory>
     ensures { IfOk result (λ text. text ≡ class_text class) }
 {

@@ -9,6 +9,7 @@ use go_base::text::Text;
 use itoa::Buffer;
 use std::alloc::Global;
 
+// The `v` in front of a version, where it is written so.
 fn v_of(last: &[u8]) -> &'static [u8]
     ensures { result.now ≡ v_of last.now }
 {
@@ -36,7 +37,7 @@ fn add_release(text: &mut Vec<u8>, release: Release) -> Result<(), NoMemory>
     add_number(text, release.patch)
 }
 
-/// The line of the version that is advised, as a text; it has a `v` in front where the last one is written so.
+/// The text of the version that is advised, which is one line: a `v` stands in front of it where the last version is written so.
 pub fn version_text(alloc: Global, last: &[u8], next: Release) -> Result<Text, NoMemory>
     ensures { IfOk result (λ text. text ≡ version_text last.now next) }
 {

@@ -3,6 +3,7 @@
 #![tactic(auto)]
 
 use api_gate::run::run;
+use api_gate::status::Status;
 use go_base::steps::Steps;
 use go_outside::gate::OpenGate;
 use go_outside::host_files::HostFiles;
@@ -23,7 +24,9 @@ fn words_of(rt: &HostRuntime) -> io::Result<Vec<String>> {
 fn main(rt: HostRuntime) -> ExitCode {
     let words = match words_of(&rt) {
         Ok(words) => words,
-        Err(error) if error.kind() == ErrorKind::OutOfMemory => return ExitCode::from(6),
+        Err(error) if error.kind() == ErrorKind::OutOfMemory => {
+            return ExitCode::from(Status::NoMemory.code());
+        }
         // Words that aren't UTF-8 aren't good, as no words are.
         Err(_) => Vec::new(rt.alloc()),
     };

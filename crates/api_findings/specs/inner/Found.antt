@@ -12,11 +12,12 @@ use Rattle.go_model.specs.declared.files.platform.Platform.{Platform}
 use Rattle.go_model.specs.declared.files.tree.Tree.{Tree}
 use Rattle.go_model.specs.worlds.Worlds.{Packages}
 
+-- no verdict or one
 abbrev pub listed : Option Verdict → List Verdict
 listed None = []
 listed (Some v) = v ∷ []
 
--- no verdict or one
+-- the verdict that is found, where there is one
 abbrev pub verdicts_of : Found → List Verdict
 verdicts_of found = listed found.verdict
 
@@ -28,10 +29,12 @@ pub record IsCompared (old new : Packages) (found : Found) : Type 0 where
   pub judged : IsVerdict old new verdict
 
 module _ (barred : List (List ℕ)) (old : Option Tree) (tree std_tree : Tree) where
+  -- the fault line of the trees on a platform; want of memory may come at any time
   abbrev pub IsError : Platform → PlatformError → Type 0
   IsError p (error.Refused line) = IsRefusal barred old tree std_tree p line
   IsError p error.NoMemory = Unit {0}
 
+  -- what is found on a platform, or such an error
   abbrev pub AnswersFound : Platform → Result Found PlatformError → Type 0
   AnswersFound p (Ok found) = Finds barred old tree std_tree p found.lines (verdicts_of found)
   AnswersFound p (Err e) = IsError p e

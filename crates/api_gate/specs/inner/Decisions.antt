@@ -1,5 +1,5 @@
 -- What the steps of a run decide, and the outcome that a decision is.
-use Rattle.std.specs.Prelude.{◌≡◌, ◌≤◌, ◌||◌, ◌⊎◌, ℕ, Bool, true, false, List, [], ◌++◌, Option, Some, None, Result, Ok, Err}
+use Rattle.std.specs.Prelude.{◌≡◌, ◌≤◌, ◌||◌, ◌⊎◌, ℕ, Bool, true, false, List, ◌++◌, Option, Some, None, Result, Ok, Err}
 use Rattle.std.specs.List.{list_any}
 use Rattle.api_advice.specs.declared.class.Class.{Class}
 use Rattle.api_advice.specs.declared.release.Release.{Release}
@@ -50,7 +50,7 @@ abbrev pub unfound : PlatformError → Decision
 unfound (platform.Refused line) = Refused line
 unfound platform.NoMemory = NoMemory
 
--- the report with this text, in which a line is lost or something is broken or not
+-- the report with this text, which holds a lost line or a break, or doesn't
 abbrev pub report_of : Bool → List ℕ → Decision
 report_of true text = Broken text
 report_of false text = Report text
@@ -91,6 +91,7 @@ AnswersAdvice version c (Err fault.NoMemory) = Unit {0}
 abbrev pub IsClassedText : Request → List Line → List Verdict → List ℕ → Type 0
 IsClassedText r features vs text = (first : List ℕ) × IsMadeText r.made features vs first × (text ≡ first ++ class_text (class_of vs))
 
+-- the report of the mode `make`
 abbrev pub IsMakeText : Request → List (List Line) → List Verdict → List ℕ → Type 0
 IsMakeText r lists vs text = (features : List Line) × AreMerged r lists features × IsClassedText r features vs text
 

@@ -38,6 +38,7 @@ pub record Effects : Type 0 where
   pub output : Change (List ℕ)
   pub error_output : Change (List ℕ)
 
+-- the effects with these changes
 abbrev pub effects : Change Contents → Change (List ℕ) → Change (List ℕ) → Effects
 effects store output error_output = record { store = store; output = output; error_output = error_output }
 

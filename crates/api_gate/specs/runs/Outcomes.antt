@@ -1,6 +1,6 @@
 -- What the definitions give for the words and the files: what goes to the output, the fault line and the status.
 -- Own: this project's reports and exit statuses.
-use Rattle.std.specs.Prelude.{◌≡◌, ◌≤◌, ◌||◌, ℕ, Bool, true, false, if◌then◌else◌, Option, Some, None, List, [], ◌∷◌, ◌++◌, length}
+use Rattle.std.specs.Prelude.{◌≡◌, ◌≤◌, ◌||◌, ℕ, Bool, false, if◌then◌else◌, Option, Some, None, List, [], ◌∷◌, ◌++◌, length}
 use Rattle.std.specs.List.{list_any}
 use Rattle.api_advice.specs.Advice.{IsNext}
 use Rattle.api_advice.specs.declared.class.Class.{Class}
@@ -36,7 +36,7 @@ pub record Outcome : Type 0 where
   pub fault_line : List ℕ
   pub status : Status
 
--- a report and no fault line; it says whether a line is lost or something is broken
+-- a report and no fault line, and whether the report holds a lost line or a break
 abbrev pub reported : Bool → List ℕ → Outcome
 reported is_broken text = record { output = text; fault_line = []; status = if is_broken then status.Broken else status.Pass }
 
@@ -85,7 +85,7 @@ abbrev pub IsMadeText : Option MadeTrees → List Line → List Verdict → List
 IsMadeText None features vs text = text ≡ []
 IsMadeText (Some m) features vs text = text ≡ made_text m.size (length features) (count_breaks vs)
 
--- the report of a request on its inputs and on what is found there, and whether a line is lost or something is broken
+-- the report of a request on its inputs and on what is found there, and whether it holds a lost line or a break
 pub data IsReportOn (r : Request) (i : Inputs) (lists : List (List Line)) (vs : List Verdict) : Bool → List ℕ → Type 0 where
   features_report : (features : List Line) → r.mode ≡ mode.Features → AreMerged r lists features → IsReportOn r i lists vs false (features_text features)
   frozen_report : {is_broken : Bool} {text : List ℕ} → r.mode ≡ mode.Frozen → IsSignedReport r i lists is_broken text → IsReportOn r i lists vs is_broken text

@@ -75,7 +75,8 @@ fn after_version(alloc: Global, version: &AskedVersion, class: Class) -> Result<
     }
 }
 
-/// The version that may follow after a change of this class, as text: nothing where no version is given.
+/// The text of the version that may follow after a change of this class, and an empty one where no version is given. A version that
+/// isn't a release, or that none can follow, is refused.
 pub fn advice(
     alloc: Global,
     version: &Option<AskedVersion>,

@@ -9,9 +9,9 @@ use go_base::text::Text;
 /// What a run is to write.
 #[derive(Debug, Drop)]
 pub enum Decision {
-    /// The whole report, in which nothing is lost or broken.
+    /// The whole report, which holds no lost line and no break.
     Report(Text),
-    /// The whole report, in which a line is lost or something is broken.
+    /// The whole report, which holds a lost line or a break.
     Broken(Text),
     /// The words aren't good.
     Words,
@@ -27,7 +27,7 @@ impl Decision {
     ghost use Rattle.std.specs.Prelude.{◌≡◌};
     ghost use Rattle.api_gate.specs.inner.Decisions.{decision_of, outcome_of, report_of, unadvised, unfound};
 
-    /// What is decided where a run isn't given what it reads.
+    /// What is decided where the inputs aren't read: that they are refused, that the store failed, or that no memory was left.
     pub(crate) fn unread(error: InputError) -> Decision
         ensures { result ≡ decision_of error }
     {
@@ -38,7 +38,7 @@ impl Decision {
         }
     }
 
-    /// What is decided where nothing is found in the trees.
+    /// What is decided where nothing is found in the trees: that they are refused, or that no memory was left.
     pub(crate) fn unfound(error: PlatformError) -> Decision
         ensures { result ≡ unfound error }
     {
@@ -48,7 +48,7 @@ impl Decision {
         }
     }
 
-    /// The report with this text.
+    /// The report with this text, which holds a lost line or a break, or doesn't.
     pub(crate) fn report(is_broken: bool, text: Text) -> Decision
         ensures { result ≡ report_of is_broken text }
     {
@@ -59,7 +59,7 @@ impl Decision {
         }
     }
 
-    /// What is decided where no version is advised.
+    /// What is decided where no version is advised: that the version is refused, or that no memory was left.
     pub(crate) fn unadvised(fault: AdviceFault) -> Decision
         ensures { result ≡ unadvised fault }
     {
@@ -69,7 +69,7 @@ impl Decision {
         }
     }
 
-    /// What goes to the output.
+    /// What goes to the output: a report.
     pub fn output(&self) -> &[u8]
         ensures { result.now ≡ (outcome_of self.now).output }
     {
@@ -80,7 +80,7 @@ impl Decision {
         }
     }
 
-    /// What goes to the error output.
+    /// What goes to the error output: the fault line, where there is no report.
     pub fn fault_line(&self) -> &[u8]
         ensures { result.now ≡ (outcome_of self.now).fault_line }
     {

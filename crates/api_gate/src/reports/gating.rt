@@ -86,7 +86,7 @@ fn gate_advised(
 }
 
 /// What the module lost and gained against the lines that were read, what is broken on each platform, the class of
-/// the release, and the version that follows.
+/// the release, and the version that follows; or that the last version is refused.
 pub(crate) fn gate_report(
     alloc: Global,
     request: &Request,

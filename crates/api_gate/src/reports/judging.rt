@@ -49,7 +49,7 @@ fn advise_with(alloc: Global, request: &Request, verdicts: &[Verdict], advice: &
     }
 }
 
-/// The class of the release, and the version that follows.
+/// The class of the release, and the version that follows, where the last one is given; or that the last one is refused.
 pub(crate) fn advise_report(alloc: Global, request: &Request, verdicts: &[Verdict]) -> Decision
     requires { request.now.mode ≡ Mode.Advise }
     ensures { (i : Inputs) (lists : List (List Line)) → IsOfFindings request.now i lists verdicts.now result }

@@ -7,11 +7,11 @@ ghost use Rattle.api_reports.specs.Reports.{has_loss, signed_text};
 ghost use Rattle.go_base.specs.Lists.{Each};
 
 use crate::reports::decision::Decision;
-use api_findings::merging::merged;
 use api_frozen::compare::compare;
 use api_frozen::signed::Signed;
 use api_inputs::inputs::Inputs;
 use api_lines::line::Line;
+use api_lines::merge::merge;
 use api_reports::reports::{features_text, has_loss, signed_text};
 use api_words::request::Request;
 use go_base::list::List;
@@ -48,7 +48,7 @@ pub(crate) fn features_report(
     requires plain { Each (Each HasNoContext) lists.now }
     ensures { IfOk result (IsFeaturesText request.now lists.now) }
 {
-    let features = merged(alloc, request.platforms.items(), lists)?;
+    let features = merge(alloc, lists, request.platforms.items())?;
     features_text(alloc, features.items())
 }
 
@@ -87,6 +87,6 @@ pub(crate) fn signed_report(
     requires plain { Each (Each HasNoContext) lists.now }
     ensures { IfOk result (λ signed. IsSignedReport request.now inputs.now lists.now signed.lost signed.text) }
 {
-    let features = merged(alloc, request.platforms.items(), lists)?;
+    let features = merge(alloc, lists, request.platforms.items())?;
     compared(alloc, inputs, features.items())
 }

@@ -7,10 +7,10 @@ ghost use Rattle.go_base.specs.Lists.{Each};
 
 use crate::reports::joining::joined;
 use api_findings::findings::Findings;
-use api_findings::merging::merged;
 use api_judge::judge::class;
 use api_judge::verdict::Verdict;
 use api_lines::line::Line;
+use api_lines::merge::merge;
 use api_reports::made::made_text;
 use api_reports::verdicts::{class_text, count_breaks};
 use api_words::request::{MadeTrees, Request};
@@ -61,6 +61,6 @@ pub(crate) fn make_report(
     requires plain { Each (Each HasNoContext) found.now.features }
     ensures { IfOk result (IsMakeText request.now found.now.features found.now.verdicts) }
 {
-    let features = merged(alloc, request.platforms.items(), found.features.items())?;
+    let features = merge(alloc, found.features.items(), request.platforms.items())?;
     with_class(alloc, request, features.items(), found.verdicts.items())
 }

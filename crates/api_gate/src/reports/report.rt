@@ -16,7 +16,8 @@ use api_words::request::Request;
 use go_base::memory::NoMemory;
 use std::alloc::Global;
 
-/// The report of a request on its inputs and on what is found there, or why no version is advised.
+/// The report of a request on its inputs and on what is found there; or that the last version is refused, where the mode advises a
+/// version; or that no memory was left.
 pub fn report(alloc: Global, request: &Request, inputs: &Inputs, found: &Findings) -> Decision
     requires some { 0 < length request.now.platforms }
     requires same { length found.now.features ≡ length request.now.platforms }

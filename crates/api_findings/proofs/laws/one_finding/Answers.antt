@@ -2,13 +2,13 @@ use Rattle.api_findings.proofs.OneFinding as finding
 use Rattle.api_findings.proofs.laws.one_finding.Goals as goal
 
 pub returns-clause-features : goal.returns-clause-features
-returns-clause-features c = λ barred old tree std_tree ps a b vs ws merged other o t s n f g h k.
+returns-clause-features c = λ barred old tree std_tree ps a b vs ws merged other t s n f g h k.
     finding.one_features barred old tree std_tree (λ t. c.one_world_on.ensures.world barred t std_tree) (λ t. c.one_world_on.ensures.refusal barred t std_tree) (λ t. c.one_world_on.ensures.apart barred t std_tree)
     (λ p units i u m. (c.unit_paths.ensures p barred tree std_tree units t s n i u m).2)
     merged other f g h k
 
 pub returns-clause-verdicts : goal.returns-clause-verdicts
-returns-clause-verdicts c = λ barred old tree std_tree ps a b vs ws o t s n f g.
+returns-clause-verdicts c = λ barred old tree std_tree ps a b vs ws f g.
     finding.one_verdicts barred old tree std_tree (λ t. c.one_world_on.ensures.world barred t std_tree) (λ t. c.one_world_on.ensures.refusal barred t std_tree) (λ t. c.one_world_on.ensures.apart barred t std_tree) c.one_verdict.ensures f g
 
 pub returns-clause-refusal : goal.returns-clause-refusal
