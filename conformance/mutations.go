@@ -5,9 +5,8 @@
 //	kinds                      prints the kinds of change
 //	pairs SEED COUNT STD OUT   reads lines of folders of modules; writes COUNT pairs of trees into OUT, and prints for each a line of its
 //	                           name, the old folder, the new one, and the kinds of change between them, parted by tabs
-//	verdicts STD               reads lines of an old folder, a tab and a new one; prints for each what apidiff says, as JSON
-//	classes STD                reads lines of JSON with the folders of a pair, what the judge breaks and what apidiff says; prints for
-//	                           each of these its class of difference, as JSON
+//	answers STD                reads lines of JSON with the folders of a pair and what the judge breaks; prints for each what apidiff says,
+//	                           and the classes of difference, as JSON
 //	shuffled SEED              reads lines of a folder, a tab and a new folder; copies the tree with its declarations in another order
 package main
 
@@ -265,12 +264,9 @@ func main() {
 		}
 	case "pairs":
 		writePairs(int64(number(words[1])), number(words[2]), words[3], words[4])
-	case "verdicts":
+	case "answers":
 		over := readLibrary(words[1])
-		eachLine(func(line []string) { tell(verdict(line[0], line[1], over)) })
-	case "classes":
-		over := readLibrary(words[1])
-		eachLine(func(line []string) { tell(classified([]byte(line[0]), over)) })
+		eachLine(func(line []string) { tell(answered([]byte(line[0]), over)) })
 	case "shuffled":
 		over := readLibrary(words[2])
 		draw := rand.New(rand.NewSource(int64(number(words[1]))))

@@ -2,6 +2,7 @@
 package main
 
 import (
+	"encoding/json"
 	"fmt"
 	"go/types"
 	"os"
@@ -10,37 +11,40 @@ import (
 	"golang.org/x/exp/apidiff"
 )
 
-// A said is what apidiff says of a pair.
+// A said is what apidiff says of a pair, and why it and the judge differ: for each line of the judge and each message the class of
+// difference, `both` where the other has one about the same thing, or nothing.
 type said struct {
-	Old, New string   // the folders
-	Messages []string // what is incompatible, each behind the path of its package
-	Added    []string // what is compatible
-	Wide     []string // what is incompatible where internal packages are asked too
-	Fails    string   // why there is no answer
-	Breaks   []string // what the judge says: owner, rule and subject
+	Messages         []string // what is incompatible, each behind the path of its package
+	Wide             []string // what is incompatible where internal packages are asked too
+	Fails            string   // why there is no answer
+	OfLines, OfThese []string // the classes, of the judge's lines and of the messages
+}
+
+// A question is a pair and what the judge breaks in it: owner, rule and subject of each line. It is answered by what apidiff says, and by
+// the classes of the lines of both.
+type question struct {
+	Old, New string
+	Breaks   []string
 }
 
 var nowhere, _ = os.OpenFile(os.DevNull, os.O_WRONLY, 0)
 
-// changes are what apidiff says of two packages; it writes notes of its own.
-func changes(old, new *types.Package) (incompatible, compatible []string) {
+// changes are what apidiff calls incompatible of two packages; it writes notes of its own.
+func changes(old, new *types.Package) (incompatible []string) {
 	out := os.Stdout
 	os.Stdout = nowhere
 	defer func() { os.Stdout = out }()
 	for _, change := range apidiff.Changes(old, new).Changes {
-		text := old.Path() + ": " + change.Message
-		if change.Compatible {
-			compatible = append(compatible, text)
-		} else {
-			incompatible = append(incompatible, text)
+		if !change.Compatible {
+			incompatible = append(incompatible, old.Path()+": "+change.Message)
 		}
 	}
-	return incompatible, compatible
+	return incompatible
 }
 
 // asked asks apidiff about each public package, and with the flag about internal ones too. A package that isn't there any more, or
 // isn't public, is removed.
-func asked(old, new *view, wide bool) (incompatible, compatible []string) {
+func asked(old, new *view, wide bool) (incompatible []string) {
 	for _, p := range old.packs {
 		if p.types.Name() == "main" || !wide && p.isInternal() {
 			continue
@@ -50,11 +54,10 @@ func asked(old, new *view, wide bool) (incompatible, compatible []string) {
 			incompatible = append(incompatible, p.path+": package removed")
 			continue
 		}
-		less, more := changes(p.types, q.types)
-		incompatible, compatible = append(incompatible, less...), append(compatible, more...)
+		incompatible = append(incompatible, changes(p.types, q.types)...)
 	}
 	sort.Strings(incompatible)
-	return incompatible, compatible
+	return incompatible
 }
 
 func both(old, new string, over *library) (*view, *view) {
@@ -65,15 +68,20 @@ func both(old, new string, over *library) (*view, *view) {
 	return before, after
 }
 
-func verdict(old, new string, over *library) (found *said) {
-	found = &said{Old: old, New: new}
+func answered(text []byte, over *library) (found *said) {
+	one := &question{}
+	fail(json.Unmarshal(text, one))
+	before, after := both(one.Old, one.New, over)
+	found = &said{}
 	defer func() {
 		if why := recover(); why != nil {
 			found.Fails = fmt.Sprint(why)
 		}
 	}()
-	before, after := both(old, new, over)
-	found.Messages, found.Added = asked(before, after, false)
-	found.Wide, _ = asked(before, after, true)
+	found.Messages = asked(before, after, false)
+	if len(one.Breaks) > 0 {
+		found.Wide = asked(before, after, true)
+	}
+	found.classify(one.Breaks, before, after)
 	return found
 }

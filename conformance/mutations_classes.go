@@ -2,7 +2,6 @@
 package main
 
 import (
-	"encoding/json"
 	"go/types"
 	"path"
 	"regexp"
@@ -53,26 +52,18 @@ const (
 	takenFor = "a type is told to become itself, since it was taken for another one"
 )
 
-// An answer has for each line of the judge and each message of apidiff the class of difference, `both` where the other has one about
-// the same thing, or nothing.
-type answer struct {
-	Breaks, Messages []string
-}
-
 const inBoth = "both"
 
-func classified(text []byte, over *library) (found answer) {
-	one := &said{}
-	fail(json.Unmarshal(text, one))
-	d := &difference{said: one}
-	d.old, d.new = both(one.Old, one.New, over)
-	for _, text := range one.Breaks {
+// classify finds the classes of the judge's lines and of apidiff's messages.
+func (s *said) classify(breaks []string, old, new *view) {
+	d := &difference{said: s, old: old, new: new}
+	for _, text := range breaks {
 		d.lines = append(d.lines, d.line(text))
 	}
 	for _, l := range d.lines {
-		found.Breaks = append(found.Breaks, d.classOf(l))
+		s.OfLines = append(s.OfLines, d.classOf(l))
 	}
-	for _, message := range one.Messages {
+	for _, message := range s.Messages {
 		class := ""
 		for _, l := range d.lines {
 			if d.touches(l, message) {
@@ -86,9 +77,8 @@ func classified(text []byte, over *library) (found answer) {
 		case d.isTakenFor(message):
 			class = takenFor
 		}
-		found.Messages = append(found.Messages, class)
+		s.OfThese = append(s.OfThese, class)
 	}
-	return found
 }
 
 func (d *difference) line(text string) (found line) {
