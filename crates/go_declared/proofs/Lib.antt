@@ -1,7 +1,9 @@
-pub mod Aliases
+pub mod AliasWalks
+pub mod AliasSteps
 pub mod Declared
 pub mod NamesInOrder
 pub mod Stands
 pub mod ToldMethods
 pub mod BaseTypes
 pub mod ToldNamesakes
+pub mod NumberTables

@@ -1,3 +1,4 @@
+pub mod AliasEnds
 pub mod MethodTables
 pub mod NameTables
 pub mod NamesakeTables

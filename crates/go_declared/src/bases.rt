@@ -1,16 +1,17 @@
 //! The defined types for which methods are declared, after the aliases of the package.
-ghost use Rattle.std.specs.Prelude.{◌≡◌};
-ghost use Rattle.go_base.specs.Keys.{item_of};
+ghost use Rattle.std.specs.Prelude.{◌≡◌, List};
 ghost use Rattle.go_declarations.specs.Listings.{declarations_of};
 ghost use Rattle.go_typings.specs.DeclarationRules.{is_qualified};
-ghost use Rattle.go_typings.specs.Receivers.{after_aliases, base, base_in, name_form as form_by, named_definition, own_aliased, written_name as name_by};
-ghost use Rattle.go_typings.specs.Declarations.{declared};
+ghost use Rattle.go_typings.specs.Receivers.{after_aliases, base, base_in, name_form as form_by, named_definition, written_name as name_by};
+ghost use Rattle.go_typings.specs.Declarations.{declared, Declaration as Declared};
+ghost use Rattle.go_declared.specs.AliasEnds.{AreEnds};
 ghost use Rattle.go_declared.specs.NameTables.{AreDeclared, declared_form, found_form};
 ghost use Rattle.go_declared.specs.inner.FormsAt.{FormAt};
 ghost use Rattle.go_declared.specs.ReceiverNames.{form_of, text_of};
 
+use crate::aliases::name_at;
 use crate::names::DeclaredNames;
-use crate::receivers::{WrittenName, aliased_by, definition_name, name_form, written_name};
+use crate::receivers::{WrittenName, definition_name, name_form, written_name};
 use go_base::text::Text;
 use go_declarations::form::Form;
 use go_declarations::listing::Declaration;
@@ -42,24 +43,6 @@ pub fn declared_form<'a>(
     }
 }
 
-// The name of which a name is an alias that the package declares.
-fn aliased<'a>(
-    declarations: &[Declaration<'a>],
-    names: &DeclaredNames,
-    name: &'a QualifiedName,
-) -> Option<&'a QualifiedName>
-    requires { AreDeclared (declarations_of declarations.now) names.now }
-    ensures { item_of result ≡ own_aliased (declarations_of declarations.now) name.now.qualifier name.now.name }
-{
-    if name.qualifier.is_some() {
-        return None;
-    }
-    match declared_form(declarations, names, name.name.text.bytes()) {
-        None => None,
-        Some(form) => aliased_by(form),
-    }
-}
-
 // The defined type of the package for which a name stands.
 fn definition<'a>(
     declarations: &[Declaration<'a>],
@@ -80,38 +63,37 @@ fn definition<'a>(
 
 // The name that a name is after the aliases of the package.
 fn after_aliases<'a>(
-    declarations: &[Declaration<'a>],
     names: &DeclaredNames,
+    ends: &[Option<&'a QualifiedName>],
     name: &'a QualifiedName,
 ) -> &'a QualifiedName
-    requires { AreDeclared (declarations_of declarations.now) names.now }
-    ensures { result.now ≡ after_aliases (declarations_of declarations.now) name.now }
+    ensures { (ds : List Declared) → AreDeclared ds names.now → AreEnds ds ends.now → result.now ≡ after_aliases ds name.now }
 {
-    let mut last = name;
-    for _step in 0..declarations.len() {
-        match aliased(declarations, names, last) {
-            None => return last,
-            Some(next) => last = next,
-        }
+    if name.qualifier.is_some() {
+        return name;
     }
-    last
+    match names.get(name.name.text.bytes()) {
+        None => name,
+        Some(place) => match name_at(ends, place.number) {
+            None => name,
+            Some(end) => end,
+        },
+    }
 }
 
 fn base_of<'a>(
     declarations: &[Declaration<'a>],
     names: &DeclaredNames,
+    ends: &[Option<&'a QualifiedName>],
     form: Option<WrittenName<'a>>,
 ) -> Option<&'a Text>
-    requires { AreDeclared (declarations_of declarations.now) names.now }
+    requires names { AreDeclared (declarations_of declarations.now) names.now }
+    requires ends { AreEnds (declarations_of declarations.now) ends.now }
     ensures { text_of result ≡ base_in (declarations_of declarations.now) (form_of form.entry) }
 {
     match form {
         None => None,
-        Some(form) => definition(
-            declarations,
-            names,
-            after_aliases(declarations, names, form.name),
-        ),
+        Some(form) => definition(declarations, names, after_aliases(names, ends, form.name)),
     }
 }
 
@@ -120,21 +102,22 @@ fn base_of<'a>(
 pub fn base<'a>(
     declarations: &[Declaration<'a>],
     names: &DeclaredNames,
+    ends: &[Option<&'a QualifiedName>],
     receiver: &'a ParameterDecl,
 ) -> Option<&'a Text>
-    requires { AreDeclared (declarations_of declarations.now) names.now }
+    requires names { AreDeclared (declarations_of declarations.now) names.now }
+    requires ends { AreEnds (declarations_of declarations.now) ends.now }
     ensures { text_of result ≡ base (declarations_of declarations.now) receiver.now }
 {
-    base_of(declarations, names, name_form(&receiver.type_))
+    base_of(declarations, names, ends, name_form(&receiver.type_))
 }
 
 /// Whether a type is written as a name that after the aliases of the package is one of another package.
-pub fn is_qualified(declarations: &[Declaration<'_>], names: &DeclaredNames, type_: &Type) -> bool
-    requires { AreDeclared (declarations_of declarations.now) names.now }
-    ensures { result ≡ is_qualified (declarations_of declarations.now) (name_by (form_by type_.now)) }
+pub fn is_qualified(names: &DeclaredNames, ends: &[Option<&QualifiedName>], type_: &Type) -> bool
+    ensures { (ds : List Declared) → AreDeclared ds names.now → AreEnds ds ends.now → result ≡ is_qualified ds (name_by (form_by type_.now)) }
 {
     match written_name(name_form(type_)) {
         None => false,
-        Some(name) => after_aliases(declarations, names, name).qualifier.is_some(),
+        Some(name) => after_aliases(names, ends, name).qualifier.is_some(),
     }
 }

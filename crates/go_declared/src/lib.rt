@@ -1,6 +1,7 @@
 //! What the declarations of a package declare, by name: where each name is declared.
 #![tactic(auto)]
 
+pub mod aliases;
 pub mod bases;
 pub mod methods;
 pub mod names;

@@ -3,11 +3,13 @@ ghost use Rattle.std.specs.Prelude.{◌≡◌, [], IfOk, OnOk};
 ghost use Rattle.go_declarations.specs.Listings.{declarations_of};
 ghost use Rattle.go_rules.specs.Names.{items_at, with_value};
 ghost use Rattle.go_declared.specs.MethodTables.{AreMethods, method_name, name_by};
+ghost use Rattle.go_declared.specs.AliasEnds.{AreEnds};
 ghost use Rattle.go_declared.specs.NameTables.{AreDeclared};
 ghost use Rattle.go_declarations.specs.Forms.{form_of};
 ghost use Rattle.go_typings.specs.Receivers.{base, is_pointer_form, receiver_form};
 ghost use Rattle.go_declared.specs.inner.AddingMethods.{with_form, with_method, with_row};
 
+use crate::aliases::alias_ends;
 use crate::bases::base;
 use crate::names::DeclaredNames;
 use crate::receivers::is_pointer;
@@ -16,6 +18,7 @@ use go_base::memory::NoMemory;
 use go_base::text::Text;
 use go_declarations::form::Form;
 use go_declarations::listing::Declaration;
+use go_syntax::name::QualifiedName;
 use go_syntax::types::ParameterDecl;
 use std::alloc::Global;
 use std::collections::BTreeMap;
@@ -122,13 +125,15 @@ impl DeclaredMethods {
         alloc: Global,
         declarations: &[Declaration<'_>],
         names: &DeclaredNames,
+        ends: &[Option<&QualifiedName>],
         number: usize,
         receiver: &ParameterDecl,
     ) -> Result<(), NoMemory>
-        requires { AreDeclared (declarations_of declarations.now) names.now }
+        requires names { AreDeclared (declarations_of declarations.now) names.now }
+        requires ends { AreEnds (declarations_of declarations.now) ends.now }
         ensures { OnOk result (self.new ≡ with_method (base (declarations_of declarations.now) receiver.now) self.old number (is_pointer_form (receiver_form receiver.now))) }
     {
-        match base(declarations, names, receiver) {
+        match base(declarations, names, ends, receiver) {
             None => Ok(()),
             Some(type_name) => {
                 let row = MethodRow {
@@ -145,15 +150,17 @@ impl DeclaredMethods {
         alloc: Global,
         declarations: &[Declaration<'_>],
         names: &DeclaredNames,
+        ends: &[Option<&QualifiedName>],
         number: usize,
         form: Form<'_>,
     ) -> Result<(), NoMemory>
-        requires { AreDeclared (declarations_of declarations.now) names.now }
+        requires names { AreDeclared (declarations_of declarations.now) names.now }
+        requires ends { AreEnds (declarations_of declarations.now) ends.now }
         ensures { OnOk result (self.new ≡ with_form (declarations_of declarations.now) self.old number (form_of form.entry)) }
     {
         match form {
             Form::Method(receiver, _) => {
-                self.add_method(alloc, declarations, names, number, receiver)
+                self.add_method(alloc, declarations, names, ends, number, receiver)
             }
             _ => Ok(()),
         }
@@ -168,12 +175,14 @@ impl DeclaredMethods {
         requires { AreDeclared (declarations_of declarations.now) names.now }
         ensures { IfOk result (AreMethods (declarations_of declarations.now)) }
     {
+        let ends = alias_ends(alloc, declarations, names)?;
         let mut methods = DeclaredMethods::new(alloc);
         for number in 0..declarations.len() {
             methods.add(
                 alloc,
                 declarations,
                 names,
+                &ends,
                 number,
                 declarations[number].form,
             )?;

@@ -4,10 +4,12 @@ ghost use Rattle.go_declarations.specs.Forms.{form_of};
 ghost use Rattle.go_declarations.specs.Listings.{declarations_of};
 ghost use Rattle.go_rules.specs.Names.{with_value};
 ghost use Rattle.go_typings.specs.Receivers.{base, is_pointer_form, receiver_form};
+ghost use Rattle.go_declared.specs.AliasEnds.{AreEnds};
 ghost use Rattle.go_declared.specs.NameTables.{AreDeclared};
 ghost use Rattle.go_declared.specs.NamesakeTables.{AreNamesakes, rows_at};
 ghost use Rattle.go_declared.specs.inner.AddingNamesakes.{with_form, with_method, with_row};
 
+use crate::aliases::alias_ends;
 use crate::bases::base;
 use crate::methods::{DeclaredMethods, MethodRow};
 use crate::names::DeclaredNames;
@@ -16,6 +18,7 @@ use go_base::memory::NoMemory;
 use go_base::text::Text;
 use go_declarations::form::Form;
 use go_declarations::listing::Declaration;
+use go_syntax::name::QualifiedName;
 use go_syntax::types::ParameterDecl;
 use std::alloc::Global;
 use std::collections::BTreeMap;
@@ -104,14 +107,16 @@ impl Namesakes {
         alloc: Global,
         declarations: &[Declaration<'_>],
         names: &DeclaredNames,
+        ends: &[Option<&QualifiedName>],
         number: usize,
         receiver: &ParameterDecl,
         name: &Text,
     ) -> Result<(), NoMemory>
-        requires { AreDeclared (declarations_of declarations.now) names.now }
+        requires names { AreDeclared (declarations_of declarations.now) names.now }
+        requires ends { AreEnds (declarations_of declarations.now) ends.now }
         ensures { OnOk result (self.new ≡ with_method (base (declarations_of declarations.now) receiver.now) self.old number name.now (is_pointer_form (receiver_form receiver.now))) }
     {
-        match base(declarations, names, receiver) {
+        match base(declarations, names, ends, receiver) {
             None => Ok(()),
             Some(type_name) => {
                 let row = MethodRow {
@@ -128,10 +133,12 @@ impl Namesakes {
         alloc: Global,
         declarations: &[Declaration<'_>],
         names: &DeclaredNames,
+        ends: &[Option<&QualifiedName>],
         number: usize,
         form: Form<'_>,
     ) -> Result<(), NoMemory>
-        requires { AreDeclared (declarations_of declarations.now) names.now }
+        requires names { AreDeclared (declarations_of declarations.now) names.now }
+        requires ends { AreEnds (declarations_of declarations.now) ends.now }
         ensures { OnOk result (self.new ≡ with_form (declarations_of declarations.now) self.old number (form_of form.entry)) }
     {
         match form {
@@ -139,6 +146,7 @@ impl Namesakes {
                 alloc,
                 declarations,
                 names,
+                ends,
                 number,
                 receiver,
                 &func.name.text,
@@ -156,12 +164,14 @@ impl Namesakes {
         requires { AreDeclared (declarations_of declarations.now) names.now }
         ensures { IfOk result (AreNamesakes (declarations_of declarations.now)) }
     {
+        let ends = alias_ends(alloc, declarations, names)?;
         let mut namesakes = Namesakes::new(alloc);
         for number in 0..declarations.len() {
             namesakes.add(
                 alloc,
                 declarations,
                 names,
+                &ends,
                 number,
                 declarations[number].form,
             )?;

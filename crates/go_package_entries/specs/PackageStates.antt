@@ -2,6 +2,7 @@
 -- Own: words of the contracts.
 use Rattle.std.specs.Prelude.{◌≡◌, ◌≢◌, List, [], Option, length}
 use Rattle.go_declarations.specs.Listings.{declarations_of}
+use Rattle.go_declared.specs.AliasEnds.{AreEnds}
 use Rattle.go_declared.specs.MethodTables.{AreMethods}
 use Rattle.go_declared.specs.NameTables.{AreDeclared}
 use Rattle.go_declared.specs.NamesakeTables.{AreNamesakes}
@@ -40,6 +41,7 @@ pub record IsKept (p : PackageEntries) : Type 0 where
   pub keeps : Keeps (setting_in p) (source_in p) (entries_in p) p.env
   pub listed : declarations (source_in p) ≡ declarations_of p.tables.declarations.now
   pub names : AreDeclared (declarations_of p.tables.declarations.now) p.tables.names.now
+  pub ends : AreEnds (declarations_of p.tables.declarations.now) p.tables.ends.items
   pub methods : AreMethods (declarations_of p.tables.declarations.now) p.tables.methods.now
   pub namesakes : AreNamesakes (declarations_of p.tables.declarations.now) p.tables.namesakes
   pub count : length p.had ≡ length p.tables.declarations.now

@@ -16,6 +16,7 @@ use crate::giver::PackageEntries;
 use crate::tables::Tables;
 use go_base::memory::NoMemory;
 use go_declarations::listing::Declaration;
+use go_declared::aliases::alias_ends;
 use go_declared::methods::DeclaredMethods;
 use go_declared::names::DeclaredNames;
 use go_declared::namesakes::Namesakes;
@@ -45,6 +46,7 @@ fn nothing_of<'w, 'a>(
     ensures setting { IfOk result (λ p. setting_in p ≡ setting_of env.entry) }
     ensures source { IfOk result (λ p. source_in p ≡ source_of unit.now) }
 {
+    let ends = alias_ends(alloc, declarations, names)?;
     let namesakes = Namesakes::of(alloc, declarations, names)?;
     let had = HadEntries::new(alloc, declarations.len())?;
     Ok(PackageEntries {
@@ -54,6 +56,7 @@ fn nothing_of<'w, 'a>(
         tables: Tables {
             declarations,
             names,
+            ends,
             methods,
             namesakes,
         },

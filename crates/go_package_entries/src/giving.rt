@@ -2,6 +2,7 @@
 ghost use Rattle.std.specs.Prelude.{◌≡◌};
 ghost use Rattle.go_declarations.specs.Forms.{form_of};
 ghost use Rattle.go_declarations.specs.Listings.{declaration_of, declarations_of};
+ghost use Rattle.go_declared.specs.AliasEnds.{AreEnds};
 ghost use Rattle.go_declared.specs.NameTables.{AreDeclared};
 ghost use Rattle.go_entries.specs.Entries.{TellsQualified, entry_of};
 ghost use Rattle.go_package_scopes.specs.PackageScopes.{at_declaration};
@@ -22,11 +23,12 @@ use std::alloc::Global;
 
 // Whether a type is defined by a name that after the aliases of the package is one of another package.
 fn is_qualified_form(tables: &Tables<'_>, form: &Form<'_>) -> bool
-    requires { AreDeclared (declarations_of tables.now.declarations.now) tables.now.names.now }
+    requires names { AreDeclared (declarations_of tables.now.declarations.now) tables.now.names.now }
+    requires ends { AreEnds (declarations_of tables.now.declarations.now) tables.now.ends.items }
     ensures { (E : Environment) → TellsQualified E (declarations_of tables.now.declarations.now) (form_of form.now) result }
 {
     match form {
-        Form::Definition(spec) => is_qualified(tables.declarations, tables.names, &spec.type_),
+        Form::Definition(spec) => is_qualified(tables.names, &tables.ends, &spec.type_),
         _ => false,
     }
 }
@@ -38,7 +40,8 @@ pub(crate) fn give(
     tables: &Tables<'_>,
     declaration: &Declaration<'_>,
 ) -> Result<Entry, ExprError>
-    requires { AreDeclared (declarations_of tables.now.declarations.now) tables.now.names.now }
+    requires names { AreDeclared (declarations_of tables.now.declarations.now) tables.now.names.now }
+    requires ends { AreEnds (declarations_of tables.now.declarations.now) tables.now.ends.items }
     ensures moved { env.new ≡ at_declaration env.old (declaration_of declaration.now) }
     ensures given { Tells (λ x. Gives (env_of (at_declaration env.old (declaration_of declaration.now))) (declarations_of tables.now.declarations.now) (form_of declaration.now.form) (entry_of x)) result }
 {

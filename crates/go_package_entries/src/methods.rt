@@ -2,6 +2,7 @@
 ghost use Rattle.std.specs.Prelude.{◌≡◌, ◌++◌, IfOk, OnOk, Some};
 ghost use Rattle.go_base.specs.Gathered.{gather};
 ghost use Rattle.go_declarations.specs.Listings.{declarations_of};
+ghost use Rattle.go_declared.specs.AliasEnds.{AreEnds};
 ghost use Rattle.go_declared.specs.MethodTables.{method_name};
 ghost use Rattle.go_declared.specs.NameTables.{AreDeclared};
 ghost use Rattle.go_declared.specs.NamesakeTables.{rows_at};
@@ -187,11 +188,12 @@ pub(crate) fn take_method(
     receiver: &ParameterDecl,
     func: &Func,
 ) -> Result<(), NoMemory>
-    requires { AreDeclared (declarations_of tables.now.declarations.now) tables.now.names.now }
+    requires names { AreDeclared (declarations_of tables.now.declarations.now) tables.now.names.now }
+    requires ends { AreEnds (declarations_of tables.now.declarations.now) tables.now.ends.items }
     ensures ok { OnOk result (env.new ≡ with_shown (entries_of grown.entry) tables.now.namesakes (base (declarations_of tables.now.declarations.now) receiver.now) func.now.name.text env.old) }
     ensures same { setting_of env.new ≡ setting_of env.old }
 {
-    match base(tables.declarations, tables.names, receiver) {
+    match base(tables.declarations, tables.names, &tables.ends, receiver) {
         None => Ok(()),
         Some(type_name) => add_shown(
             env,

@@ -9,11 +9,13 @@ use go_declarations::listing::Declaration;
 use go_declared::methods::DeclaredMethods;
 use go_declared::names::DeclaredNames;
 use go_declared::namesakes::Namesakes;
+use go_syntax::name::QualifiedName;
 
-/// The declarations of a package, where they declare names, and the methods of its types.
+/// The declarations of a package, where they declare names, what these are after its aliases, and the methods of its types.
 pub struct Tables<'a> {
     pub declarations: &'a [Declaration<'a>],
     pub names: &'a DeclaredNames,
+    pub ends: Vec<Option<&'a QualifiedName>>,
     pub methods: &'a DeclaredMethods,
     pub namesakes: Namesakes,
 }
@@ -23,6 +25,7 @@ impl Drop for Tables<'_> {
         let Tables {
             declarations: _,
             names: _,
+            ends: _,
             methods: _,
             namesakes: _,
         } = self;

@@ -2,6 +2,7 @@
 ghost use Rattle.std.specs.Prelude.{◌≡◌, [], None, Some, OnOk, slice_get};
 ghost use Rattle.go_declarations.specs.Forms.{form_of};
 ghost use Rattle.go_declarations.specs.Listings.{declaration_of, declarations_of};
+ghost use Rattle.go_declared.specs.AliasEnds.{AreEnds};
 ghost use Rattle.go_declared.specs.MethodTables.{AreMethods};
 ghost use Rattle.go_declared.specs.NameTables.{AreDeclared};
 ghost use Rattle.go_declared.specs.NamesakeTables.{AreNamesakes};
@@ -54,7 +55,8 @@ fn take_signed(
     grown: Grown<'_>,
     form: &Form<'_>,
 ) -> Result<(), NoMemory>
-    requires { AreDeclared (declarations_of tables.now.declarations.now) tables.now.names.now }
+    requires names { AreDeclared (declarations_of tables.now.declarations.now) tables.now.names.now }
+    requires ends { AreEnds (declarations_of tables.now.declarations.now) tables.now.ends.items }
     ensures ok { (g : Signature) → OnOk result (env.new ≡ with_taken tables.now grown.entry (form_of form.now) (signed g) env.old) }
     ensures same { setting_of env.new ≡ setting_of env.old }
 {
@@ -73,6 +75,7 @@ fn take_entry(
     form: &Form<'_>,
 ) -> Result<(), NoMemory>
     requires names { AreDeclared (declarations_of tables.now.declarations.now) tables.now.names.now }
+    requires ends { AreEnds (declarations_of tables.now.declarations.now) tables.now.ends.items }
     requires opened { env.old.opened ≡ [] }
     ensures ok { OnOk result (env.new ≡ with_taken tables.now grown.entry (form_of form.now) (entry_of grown.entry.entry.now) env.old) }
     ensures same { setting_of env.new ≡ setting_of env.old }
@@ -100,6 +103,7 @@ pub(crate) fn take(
     declaration: &Declaration<'_>,
 ) -> Result<(), NoMemory>
     requires names { AreDeclared (declarations_of tables.now.declarations.now) tables.now.names.now }
+    requires ends { AreEnds (declarations_of tables.now.declarations.now) tables.now.ends.items }
     requires opened { env.old.opened ≡ [] }
     ensures kept { OnOk result ((s : Setting) (u : PackageSource)
         → declarations u ≡ declarations_of tables.now.declarations.now → AreMethods (declarations u) tables.now.methods.now → AreNamesakes (declarations u) tables.now.namesakes

@@ -1,18 +1,22 @@
-use Rattle.std.proofs.Common.{◌≡◌, ◌-◌, ℕ, length, sym, ap, ◌∙◌, arith}
-use Rattle.go_declarations.specs.Listings.{declarations_of}
-use Rattle.go_typings.specs.Receivers.{unaliased}
-use Rattle.go_declared.proofs.Aliases.{alias_done, alias_last, alias_next, alias_none}
-use Rattle.go_declared.proofs.Declared.{as_long}
+use Rattle.std.proofs.Common.{None, Some, ap, sym, ◌∙◌}
+use Rattle.go_declared.proofs.AliasWalks.{after_named, after_qualified, end_by}
+use Rattle.go_rules.specs.Names.{value_at}
 use Rattle.go_declared.proofs.bases.after_aliases.Goals as goal
 
-pub loop-step-init : goal.loop-step-init
-loop-step-init c = alias_none (declarations_of c.args.declarations.now) (length c.args.declarations.now) (length (declarations_of c.args.declarations.now)) c.args.name.now (sym (as_long c.args.declarations.now))
+pub returns-then-is_some : goal.returns-then-is_some
+returns-then-is_some c = λ ds are told. after_qualified ds c.args.name.now (sym c.is_some.ensures ∙ c.if-is_some.true)
 
 pub returns-in-None : goal.returns-in-None
-returns-in-None c = sym (alias_done (declarations_of c.args.declarations.now) (length c.args.declarations.now - c.loop-step._step) c.loop-step.last.now (sym c.in-None.ensures)) ∙ c.loop-step.invariant
+returns-in-None c = λ ds are told.
+    after_named ds c.args.names.now are c.args.ends.now told c.args.name.now None (sym c.is_some.ensures ∙ c.if-is_some.false)
+    (ap (end_by c.args.ends.now) (ap (value_at c.args.names.now) (sym c.bytes.ensures) ∙ sym c.get.ensures ∙ c.in-None.is))
 
-pub loop-step-preserved : goal.loop-step-preserved
-loop-step-preserved c = alias_next (declarations_of c.args.declarations.now) (length c.args.declarations.now) c.loop-step._step c.loop-step.last.now c.in-Some.next.now c.loop-step-test.true (sym c.in-Some.ensures) ∙ c.loop-step.invariant
+pub returns-in-None-name_at : goal.returns-in-None-name_at
+returns-in-None-name_at c = λ ds are told.
+    after_named ds c.args.names.now are c.args.ends.now told c.args.name.now None (sym c.is_some.ensures ∙ c.if-is_some.false)
+    (ap (end_by c.args.ends.now) (ap (value_at c.args.names.now) (sym c.bytes.ensures) ∙ sym c.get.ensures ∙ c.in-Some.is) ∙ sym c.in-None-name_at.ensures)
 
-pub returns : goal.returns
-returns c = sym (alias_last (declarations_of c.args.declarations.now) (length c.args.declarations.now) c.loop-step._step c.loop-step.last.now (let h = c.loop-step-test.false in omega (arith, h))) ∙ c.loop-step.invariant
+pub returns-in-Some-name_at : goal.returns-in-Some-name_at
+returns-in-Some-name_at c = λ ds are told.
+    after_named ds c.args.names.now are c.args.ends.now told c.args.name.now (Some c.in-Some-name_at.end.now) (sym c.is_some.ensures ∙ c.if-is_some.false)
+    (ap (end_by c.args.ends.now) (ap (value_at c.args.names.now) (sym c.bytes.ensures) ∙ sym c.get.ensures ∙ c.in-Some.is) ∙ sym c.in-Some-name_at.ensures)

@@ -48,6 +48,7 @@ returns-in_default-clause-held c =
           (subst (λ (b : Entries). Keeps (setting_in p) (source_in p) b c.take.new.env) (sym c.put.ensures.put) kept);
       listed = held.listed;
       names = held.names;
+      ends = held.ends;
       methods = held.methods;
       namesakes = held.namesakes;
       count = c.put.ensures.count ∙ held.count;
