@@ -39,6 +39,7 @@ var breakClasses = []breakClass{
 	{"an interface loses all its unexported methods", "interface-methods", (*difference).unsealed},
 	{"by the pointer alone", "implements", (*difference).byPointerAlone},
 	{"an interface of another package", "implements", (*difference).ofAnother},
+	{"an interface that becomes several", "implements", (*difference).ofSeveral},
 	{"two types become one", "one-to-one", (*difference).merged},
 	{"a type becomes two of its name", "one-to-one", (*difference).splitByName},
 	{"a type that becomes one of its name in another package too", "", (*difference).ofSplit},
@@ -50,6 +51,7 @@ var breakClasses = []breakClass{
 const (
 	byName   = "a type of another package is told by its name"
 	takenFor = "a type is told to become itself, since it was taken for another one"
+	inSealed = "a method is added to an interface that gets an unexported one too"
 )
 
 const inBoth = "both"
@@ -76,6 +78,8 @@ func (s *said) classify(breaks []string, old, new *view) {
 			class = byName
 		case d.isTakenFor(message):
 			class = takenFor
+		case d.isInSealed(message):
+			class = inSealed
 		}
 		s.OfThese = append(s.OfThese, class)
 	}
@@ -150,8 +154,12 @@ func (d *difference) touches(l line, message string) bool {
 	if told := memberInMessage.FindStringSubmatch(text); told != nil && membersRules[l.rule] && told[1] == l.subject {
 		return true
 	}
-	if from, _, _ := halves(l.subject); l.rule == "type" && from[strings.LastIndex(from, ".")+1:] == namesInMessage.FindStringSubmatch(text)[1] {
-		return true
+	if from, _, _ := halves(l.subject); l.rule == "type" {
+		for _, name := range words.FindAllString(from, -1) {
+			if name[strings.LastIndex(name, ".")+1:] == namesInMessage.FindStringSubmatch(text)[1] {
+				return true
+			}
+		}
 	}
 	about := func(v *view, object types.Object) bool {
 		if object == nil {
@@ -238,7 +246,11 @@ func (d *difference) becomesBasic(l line) bool {
 		return false
 	}
 	under, is := named.Underlying().(*types.Basic)
-	return is && (under.Name() == to || grows(under.Name(), to))
+	if !is {
+		return false
+	}
+	name := types.Typ[under.Kind()].Name() // byte and rune are other names
+	return name == to || grows(name, to)
 }
 
 // sameNames holds where two names differ in their paths alone.
@@ -410,6 +422,16 @@ func (d *difference) ofAnother(l line) bool {
 	return role != nil && l.pack != nil && role.Obj().Pkg() != l.pack.types
 }
 
+// ofSeveral holds where the interface is told to become several types.
+func (d *difference) ofSeveral(l line) bool {
+	for _, other := range d.lines {
+		if was, _, _ := halves(other.subject); other.rule == "one-to-one" && was == l.subject {
+			return true
+		}
+	}
+	return false
+}
+
 // merged holds where another old type is told that becomes the same new one, and none that this one becomes.
 func (d *difference) merged(l line) bool {
 	from, to, _ := halves(l.subject)
@@ -464,12 +486,33 @@ func (d *difference) notPublic(l line) bool {
 	return false
 }
 
-// movedAway holds where an owner leads to a type at whose name another package's type stands now.
+// movedAway holds where an owner leads to a type at whose name another package's type stands now, or such a type leads to the owner.
 func (d *difference) movedAway(l line) bool {
-	return d.pairsOf(l, func(before, after types.Type) bool {
+	isMoved := func(before, after types.Type) bool {
 		named, is := after.(*types.Named)
-		return is && named.Obj().Pkg() != nil && named.Obj().Pkg().Path() != before.(*types.Named).Obj().Pkg().Path()
-	})
+		was, wasNamed := before.(*types.Named)
+		return is && wasNamed && named.Obj().Pkg() != nil && was.Obj().Pkg() != nil && named.Obj().Pkg().Path() != was.Obj().Pkg().Path()
+	}
+	if d.pairsOf(l, isMoved) {
+		return true
+	}
+	owner, is := l.object.(*types.TypeName)
+	if !is {
+		return false
+	}
+	for _, p := range d.old.packs {
+		q := d.new.byPath[p.path]
+		for _, name := range p.types.Scope().Names() {
+			if q == nil || q.types.Scope().Lookup(name) == nil {
+				continue
+			}
+			object := p.types.Scope().Lookup(name)
+			if isMoved(object.Type(), q.types.Scope().Lookup(name).Type()) && d.old.reached(object)[owner] {
+				return true
+			}
+		}
+	}
+	return false
 }
 
 var (
@@ -477,31 +520,39 @@ var (
 	words       = regexp.MustCompile(`[A-Za-z_][\w./~-]*`)
 )
 
-// isByName holds where two types are told that differ in the names of the module's types alone, one of each two of another package.
-func (d *difference) isByName(message string) bool {
-	told := changedFrom.FindStringSubmatch(message)
+// differing are the names in which the types of a message differ, pair by pair, where they differ in names of the module's types alone.
+func (d *difference) differing(told []string) (found []string, is bool) {
 	if told == nil || words.ReplaceAllString(told[2], "x") != words.ReplaceAllString(told[3], "x") {
-		return false
+		return nil, false
 	}
-	differs := false
 	from, to := words.FindAllString(told[2], -1), words.FindAllString(told[3], -1)
 	for i := range from {
 		if from[i] == to[i] {
 			continue
 		}
 		before, after := d.old.inMessage(told[1], from[i]), d.new.inMessage(told[1], to[i])
-		if before == nil || after == nil || !d.old.isOwn(before) || !d.new.isOwn(after) || !strings.Contains(from[i]+to[i], ".") {
-			return false
+		if before == nil || after == nil || !d.old.isOwn(before) || !d.new.isOwn(after) {
+			return nil, false
 		}
-		differs = true
+		found = append(found, from[i]+" "+to[i])
 	}
-	return differs
+	return found, true
 }
 
-// isTakenFor holds where a type is told to become itself, since apidiff told one of its names to become something else before.
+// isByName holds where two types are told that differ in the names of the module's types alone, one of each two of another package.
+func (d *difference) isByName(message string) bool {
+	found, is := d.differing(changedFrom.FindStringSubmatch(message))
+	for _, names := range found {
+		is = is && strings.Contains(names, ".")
+	}
+	return is && len(found) > 0
+}
+
+// isTakenFor holds where a type is told to become itself, but for other names of the module's types, since apidiff told one of its names to
+// become something else before.
 func (d *difference) isTakenFor(message string) bool {
 	told := changedFrom.FindStringSubmatch(message)
-	if told == nil || told[2] != told[3] {
+	if _, is := d.differing(told); !is {
 		return false
 	}
 	for _, name := range words.FindAllString(told[2], -1) {
@@ -509,6 +560,19 @@ func (d *difference) isTakenFor(message string) bool {
 			if strings.HasPrefix(other, told[1]+": "+name[strings.LastIndex(name, ".")+1:]+": changed from ") {
 				return true
 			}
+		}
+	}
+	return false
+}
+
+var addedMethod = regexp.MustCompile(`^(\S+): \w+\.\w+: added$`)
+
+// isInSealed holds where a method is told to be added in a package an interface of which gets an unexported method, which the judge tells.
+func (d *difference) isInSealed(message string) bool {
+	told := addedMethod.FindStringSubmatch(message)
+	for _, l := range d.lines {
+		if told != nil && l.pack != nil && l.pack.path == told[1] && l.rule == "interface-methods" && l.subject == "unexported methods" {
+			return true
 		}
 	}
 	return false
