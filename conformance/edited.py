@@ -1,0 +1,134 @@
+"""Tries wrong bodies by the functions that they change, over libraries that are built: of a crate at once those that change different
+functions, and no others are proved. An edit that gives no answer beside others is tried by itself."""
+import os
+import re
+import shutil
+import subprocess
+import sys
+import tempfile
+
+import repository
+
+TOOLS = "/opt/rattle"
+KIT = os.path.join(TOOLS, "rlibs")
+FUNCTION = re.compile(r"^( *)(?:pub(?:\([a-z]+\))? )?fn (\w+)", re.M)
+IMPL = re.compile(r"^impl(?:<[^>]*>)? (?:[\w:]+(?:<[^>]*>)? for )?(\w+)", re.M)
+# what a proof file says whose names an edit took away, and what the compiler says of a text that it can't read
+NAMES = re.compile(r"(note: )?(\./)?proofs/.*(has no field|is not in scope|has no `|was not admitted)")
+UNREAD = re.compile(r"(?:\./)?(src|specs)/\S+:\d+:\d+: error: (?!`[^`]*`: )")
+PLACE = re.compile(r"(?:note: )?(?:\./)?(\S+?):(\d+):\d+:")
+
+
+def pairs(path):
+    """The file, the old and the new text of each change of an edit."""
+    found, inside, old = [], None, None
+    with open(path, encoding="utf-8") as file:
+        for line in file.read().split("\n"):
+            if line.startswith("file: "):
+                inside = line[len("file: "):].strip()
+            elif line.startswith("old: "):
+                old = line[len("old: "):]
+            elif line.startswith("new:"):
+                found.append((inside, old, line[len("new:"):].removeprefix(" ")))
+    return found
+
+
+def function_at(file, text, end):
+    """The path of the function, or of the type whose method, stands before this place of a source."""
+    module = re.sub(r"^(lib|main)$", "", file[len("src/"):-len(".rt")].replace("/", "::"))
+    found = list(FUNCTION.finditer(text, 0, end))
+    if not found:
+        return module
+    last = found[-1]
+    types = list(IMPL.finditer(text, 0, last.start())) if last[1] else []
+    return "::".join(it for it in (module, types[-1][1] if types else last[2]) if it)
+
+
+class Crate:
+    def __init__(self, name, libraries):
+        self.name, self.folder = name, os.path.join(repository.TOP, "crates", name)
+        place = lambda it: next(at for at in (os.path.join(libraries, it + ".rlib"), os.path.join(KIT, it + ".rlib")) if os.path.isdir(at))
+        below = repository.lines()[name].partition(":")[2].split()
+        root = "src/main.rt" if os.path.isfile(os.path.join(self.folder, "src/main.rt")) else "src/lib.rt"
+        self.command = [os.path.join(TOOLS, "bin/rattle"), "check", "--crate-name", name, root, "--extern", "std=%s/std.rlib" % KIT]
+        self.command += [word for it in below for word in ("--extern", "%s=%s" % (it, place(it)))]
+        self.command += ["-L", "dependency=" + libraries, "-L", "dependency=" + KIT, "--jobs", "1", "--logic-built", TOOLS + "/logic_built"]
+        self.command += ["--antt-project", TOOLS + "/rattle/logic/antt-project.json"]
+        self.edits = {os.path.basename(path)[:-len(".edit")]: pairs(path) for paths in repository.edits(name) for path in paths}
+
+    def source(self, file):
+        with open(os.path.join(self.folder, file), encoding="utf-8") as told:
+            return told.read()
+
+    def functions(self, edit):
+        found = []
+        for file, old, _ in self.edits[edit]:
+            text = self.source(file)
+            if old in text and file.startswith("src/"):
+                found.append(function_at(file, text, text.index(old) + len(old)))
+        return sorted(set(found))
+
+    def groups(self):
+        """The edits, in groups whose edits change different functions."""
+        groups = []
+        for edit in sorted(self.edits):
+            mine = set(self.functions(edit))
+            group = next((it for it in groups if not any(mine & set(self.functions(other)) for other in it)), None)
+            groups.append([edit]) if group is None else group.append(edit)
+        return groups
+
+    def check(self, edits):
+        """The texts with these edits, and the lines that the prover says of the functions that they change."""
+        texts = {}
+        for edit in edits:
+            for file, old, new in self.edits[edit]:
+                text = texts.get(file) or self.source(file)
+                if text.count(old) != 1:
+                    return None, []
+                texts[file] = text.replace(old, new)
+        only = sorted({it for edit in edits for it in self.functions(edit)})
+        with tempfile.TemporaryDirectory(prefix="edited-") as room:
+            for part in repository.READ:
+                if os.path.isdir(os.path.join(self.folder, part)):
+                    shutil.copytree(os.path.join(self.folder, part), os.path.join(room, part))
+            for file, text in texts.items():
+                with open(os.path.join(room, file), "w", encoding="utf-8") as told:
+                    told.write(text)
+            words = self.command + [word for it in only for word in ("--only", it)]
+            ran = subprocess.run(words, cwd=room, stdin=subprocess.DEVNULL, stdout=subprocess.PIPE, stderr=subprocess.STDOUT, errors="replace", text=True)
+        return texts, ran.stdout.splitlines()
+
+    def judged(self, edit, texts, lines):
+        """What came of an edit, and why."""
+        if not any(re.match(r"only=\d+ proved=\d+", line) for line in lines):
+            return "not judged", "it doesn't compile: " + next((line for line in lines if "error" in line), "no answer")
+        mine = self.functions(edit)
+        told = [line for line in lines if PLACE.match(line) and (": error" in line or line.startswith("note: "))]
+        told = [line for line in told if "note: large solution" not in line and any(self.is_about(line, it, texts) for it in mine)]
+        unread = next((line for line in told if UNREAD.match(line)), None)
+        if unread:
+            return "not judged", unread
+        first = next((line for line in told if not NAMES.match(line)), None)
+        if first:
+            return "refused", first
+        return ("not judged", "only a proof file fails: " + told[0]) if told else ("proved", "no goal of " + ", ".join(mine) + " fails")
+
+    def is_about(self, line, function, texts):
+        file, number = PLACE.match(line).groups()
+        if file.startswith("src/"):
+            text = texts.get(file) or self.source(file)
+            return function_at(file, text, sum(len(it) + 1 for it in text.split("\n")[:int(number)])) == function
+        return ("::".join(file[len("proofs/"):].split("/")) + "::").startswith(function + "::")
+
+    def tried(self):
+        """What came of each edit."""
+        found = {}
+        for group in self.groups():
+            texts, lines = self.check(group)
+            for edit in group:
+                kind, why = self.judged(edit, texts, lines) if texts else ("not judged", "it doesn't apply")
+                if kind != "refused" and len(group) > 1:
+                    kind, why = self.judged(edit, *self.check([edit]))
+                found[self.name, edit] = kind, why
+                print("%s: %s/%s" % (kind, self.name, edit), file=sys.stderr, flush=True)
+        return found
