@@ -181,7 +181,7 @@ func (c *checking) isRepeated(l *listing, one types.Error) bool {
 		return !c.stands(l, one.Pos)
 	case strings.HasPrefix(one.Msg, "method ") && strings.Contains(one.Msg, " already declared for "):
 		for at, d := range l.all {
-			if d.method == nil || d.place() != one.Pos {
+			if d.method == nil || d.place() != one.Pos || receiverName(d.method) == "" {
 				continue
 			}
 			for _, other := range l.all[:at] {
@@ -285,17 +285,29 @@ func (c *checking) unsound(f *folder, l *listing, done typed) (all []outcome) {
 	for _, one := range done.errors {
 		if class := ofGo(one.Msg); class != "" {
 			ofGoAlone[class] = true
+		} else if l.isTwiceByStars(one) {
+			ofGoAlone[starred] = true
 		} else {
 			left = append(left, one)
 		}
 	}
 	all = append(all, c.judged(f, l, l.faulty(done.errors), nil))
+	without := l.faulty(left)
+	for at, d := range l.all {
+		if d.isStarred() && l.addFinders(without, at, done.info) {
+			ofGoAlone[starred] = true
+		}
+	}
 	if len(ofGoAlone) > 0 {
-		all = append(all, c.judged(f, l, l.faulty(left), ofGoAlone))
+		all = append(all, c.judged(f, l, without, ofGoAlone))
 	}
 	for at := range l.all {
 		if classes := l.own(at, done.info, done.pack); len(classes) > 0 {
-			all = append(all, c.judged(f, l, map[int]bool{at: true}, classes))
+			faulty := map[int]bool{at: true}
+			if classes[aliased] {
+				l.addFinders(faulty, at, done.info)
+			}
+			all = append(all, c.judged(f, l, faulty, classes))
 		}
 	}
 	return all

@@ -107,6 +107,52 @@ func receiverName(method *ast.FuncDecl) string {
 	}
 }
 
+// isStarred says whether a method's receiver is a pointer to more than a name, which is of no type here.
+func (d *declaration) isStarred() bool {
+	if d.method == nil || len(d.method.Recv.List) != 1 || receiverName(d.method) != "" {
+		return false
+	}
+	_, is := unparenType(d.method.Recv.List[0].Type).(*ast.StarExpr)
+	return is
+}
+
+// isTwiceByStars says whether an error is of a method that a type has twice by a receiver with several stars alone.
+func (l *listing) isTwiceByStars(one types.Error) bool {
+	if !strings.Contains(one.Msg, " already declared for ") {
+		return false
+	}
+	for at, d := range l.all {
+		if d.method == nil || d.place() != one.Pos {
+			continue
+		}
+		stars := d.isStarred()
+		for before, other := range l.all {
+			if before == at || other.method == nil || other.names[0].Name != d.names[0].Name {
+				continue
+			}
+			if !stars && before < at && l.base(receiverName(other.method)) == l.base(receiverName(d.method)) {
+				return false
+			}
+			stars = stars || other.isStarred()
+		}
+		return stars
+	}
+	return false
+}
+
+// addFinders adds the declarations in which selectors find a method, by Go; it says whether there is one.
+func (l *listing) addFinders(to map[int]bool, method int, info *types.Info) bool {
+	object, is := info.Defs[l.all[method].names[0]], false
+	for name, use := range info.Uses {
+		for at, d := range l.all {
+			if use == object && d.has(name.Pos()) {
+				to[at], is = true, true
+			}
+		}
+	}
+	return is
+}
+
 // namesIn are the names by which a tree refers to others, outside of bodies. A key of a literal that is a name counts.
 func namesIn(tree ast.Node, found func(*ast.Ident)) {
 	ast.Inspect(tree, func(node ast.Node) bool {
@@ -304,6 +350,7 @@ const (
 	choosing  = "an interface that embeds a type other than interfaces"
 	pointing  = "an embedded alias of a pointer type"
 	unordered = "an alias in a circle that Go can't type in any order"
+	starred   = "a receiver of several stars"
 	baseless  = "a method that is declared twice for what is no type of the package"
 )
 

@@ -106,6 +106,21 @@ def stored(crate):
         return asked, [line for line in file if not line.startswith(b"#")]
 
 
+def stored_trees(word):
+    """The trees of the stored run of `units` of which a question asks by this word, each behind its heading."""
+    found, lines = [], []
+    with open(os.path.join(TOP, "crates/units/stdin"), encoding="utf-8") as file:
+        for line in file.read().splitlines():
+            if line.startswith("#"):
+                heading = line
+                continue
+            lines.append(line)
+            if line.startswith(("units ", "features ")):
+                found += [[heading] + lines] if line.startswith(word + " ") else []
+                lines = []
+    return found
+
+
 class Frames:
     """Sources as frames in a temporary file."""
 
