@@ -12,7 +12,8 @@ import repository
 TOOLS = "/opt/rattle"
 KIT = os.path.join(TOOLS, "rlibs")
 FUNCTION = re.compile(r"^( *)(?:pub(?:\([a-z]+\))? )?fn (\w+)", re.M)
-IMPL = re.compile(r"^impl(?:<[^>]*>)? (?:[\w:]+(?:<[^>]*>)? for )?(\w+)", re.M)
+IMPL = re.compile(r"^impl\b(.*)$", re.M)
+IMPLEMENTED = re.compile(r" *(?:(?:\w+::)*(\w+)(?:<.*>)? for )?(?:\w+::)*(\w+)")
 # what a proof file says whose names an edit took away, and what the compiler says of a text that it can't read
 NAMES = re.compile(r"(note: )?(\./)?proofs/.*(has no field|is not in scope|has no `|was not admitted)")
 UNREAD = re.compile(r"(?:\./)?(src|specs)/\S+:\d+:\d+: error: (?!`[^`]*`: )")
@@ -33,15 +34,25 @@ def pairs(path):
     return found
 
 
+def implemented(head):
+    """The type that an `impl` is for, by its text behind this word; of a trait the prover names the type with the trait behind it."""
+    depth, at = 0, 0
+    for at, sign in enumerate(head.replace("->", "--")):
+        depth += (sign == "<") - (sign == ">")
+        if depth == 0:
+            break
+    trait, name = IMPLEMENTED.match(head, at + 1 if head.startswith("<") else 0).groups()
+    return name + (trait or "")
+
+
 def function_at(file, text, end):
-    """The path of the function, or of the type whose method, stands before this place of a source."""
+    """The end of the name of the function that stands before this place of a source."""
     module = re.sub(r"^(lib|main)$", "", file[len("src/"):-len(".rt")].replace("/", "::"))
     found = list(FUNCTION.finditer(text, 0, end))
     if not found:
         return module
-    last = found[-1]
-    types = list(IMPL.finditer(text, 0, last.start())) if last[1] else []
-    return "::".join(it for it in (module, types[-1][1] if types else last[2]) if it)
+    types = list(IMPL.finditer(text, 0, found[-1].start())) if found[-1][1] else []
+    return "::".join(it for it in (implemented(types[-1][1]) if types else module, found[-1][2]) if it)
 
 
 class Crate:
@@ -101,7 +112,7 @@ class Crate:
     def judged(self, edit, texts, lines):
         """What came of an edit, and why."""
         if not any(re.match(r"only=\d+ proved=\d+", line) for line in lines):
-            return "not judged", "it doesn't compile: " + next((line for line in lines if "error" in line), "no answer")
+            return "not judged", "it doesn't compile: " + next((line for line in lines if re.search(r"\berror\b", line)), lines[-1] if lines else "no answer")
         mine = self.functions(edit)
         told = [line for line in lines if PLACE.match(line) and (": error" in line or line.startswith("note: "))]
         told = [line for line in told if "note: large solution" not in line and any(self.is_about(line, it, texts) for it in mine)]
@@ -118,7 +129,8 @@ class Crate:
         if file.startswith("src/"):
             text = texts.get(file) or self.source(file)
             return function_at(file, text, sum(len(it) + 1 for it in text.split("\n")[:int(number)])) == function
-        return ("::".join(file[len("proofs/"):].split("/")) + "::").startswith(function + "::")
+        # the folder of functions that call one another begins with a plus sign
+        return "::%s::" % function in "::" + "::".join(file[len("proofs/"):].replace("+", "").split("/"))
 
     def tried(self):
         """What came of each edit."""
