@@ -46,11 +46,11 @@ def implemented(head):
 
 
 def function_at(file, text, end):
-    """The end of the name of the function that stands before this place of a source."""
+    """The end of the name of the function that stands before this place of a source, or nothing."""
     module = re.sub(r"^(lib|main)$", "", file[len("src/"):-len(".rt")].replace("/", "::"))
     found = list(FUNCTION.finditer(text, 0, end))
     if not found:
-        return module
+        return ""
     types = list(IMPL.finditer(text, 0, found[-1].start())) if found[-1][1] else []
     return "::".join(it for it in (implemented(types[-1][1]) if types else module, found[-1][2]) if it)
 
@@ -84,7 +84,8 @@ class Crate:
         groups = []
         for edit in sorted(self.edits):
             mine = set(self.functions(edit))
-            group = next((it for it in groups if not any(mine & set(self.functions(other)) for other in it)), None)
+            apart = lambda group: "" not in mine and not any(mine & set(self.functions(other)) or "" in self.functions(other) for other in group)
+            group = next(filter(apart, groups), None)
             groups.append([edit]) if group is None else group.append(edit)
         return groups
 
@@ -105,32 +106,35 @@ class Crate:
             for file, text in texts.items():
                 with open(os.path.join(room, file), "w", encoding="utf-8") as told:
                     told.write(text)
-            words = self.command + [word for it in only for word in ("--only", it)]
+            # what stands in no function may matter to all
+            words = self.command + [word for it in only if "" not in only for word in ("--only", it)]
             ran = subprocess.run(words, cwd=room, stdin=subprocess.DEVNULL, stdout=subprocess.PIPE, stderr=subprocess.STDOUT, errors="replace", text=True)
         return texts, ran.stdout.splitlines()
 
     def judged(self, edit, texts, lines):
         """What came of an edit, and why."""
-        if not any(re.match(r"only=\d+ proved=\d+", line) for line in lines):
+        if not any(re.match(r"only=\d+ proved=\d+|logic=", line) for line in lines):
             return "not judged", "it doesn't compile: " + next((line for line in lines if re.search(r"\berror\b", line)), lines[-1] if lines else "no answer")
         mine = self.functions(edit)
         told = [line for line in lines if PLACE.match(line) and (": error" in line or line.startswith("note: "))]
-        told = [line for line in told if "note: large solution" not in line and any(self.is_about(line, it, texts) for it in mine)]
+        told = [line for line in told if "note: large solution" not in line and any(not it or self.is_about(line, it, texts) for it in mine)]
         unread = next((line for line in told if UNREAD.match(line)), None)
         if unread:
             return "not judged", unread
         first = next((line for line in told if not NAMES.match(line)), None)
         if first:
             return "refused", first
-        return ("not judged", "only a proof file fails: " + told[0]) if told else ("proved", "no goal of " + ", ".join(mine) + " fails")
+        return ("not judged", "only a proof file fails: " + told[0]) if told else ("proved", "no goal fails of what it changes")
 
     def is_about(self, line, function, texts):
         file, number = PLACE.match(line).groups()
         if file.startswith("src/"):
             text = texts.get(file) or self.source(file)
             return function_at(file, text, sum(len(it) + 1 for it in text.split("\n")[:int(number)])) == function
-        # the folder of functions that call one another begins with a plus sign
-        return "::%s::" % function in "::" + "::".join(file[len("proofs/"):].replace("+", "").split("/"))
+        if "/+" in file:
+            # of functions that call one another, whose goals begin with the function's name
+            return re.search(r": error: `%s-" % function.rpartition("::")[2], line) is not None
+        return "::%s::" % function in "::" + "::".join(file[len("proofs/"):].split("/"))
 
     def tried(self):
         """What came of each edit."""
