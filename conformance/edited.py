@@ -127,13 +127,13 @@ class Crate:
         return ("not judged", "only a proof file fails: " + told[0]) if told else ("proved", "no goal fails of what it changes")
 
     def is_about(self, line, function, texts):
+        # of functions that call one another the goals begin with the function's name
+        if "`%s-" % function.rpartition("::")[2] in line:
+            return True
         file, number = PLACE.match(line).groups()
         if file.startswith("src/"):
             text = texts.get(file) or self.source(file)
             return function_at(file, text, sum(len(it) + 1 for it in text.split("\n")[:int(number)])) == function
-        if "/+" in file:
-            # of functions that call one another, whose goals begin with the function's name
-            return re.search(r": error: `%s-" % function.rpartition("::")[2], line) is not None
         return "::%s::" % function in "::" + "::".join(file[len("proofs/"):].split("/"))
 
     def tried(self):
