@@ -9,7 +9,8 @@ import tempfile
 
 import repository
 
-TOOLS = "/opt/rattle"
+# the toolchain whose command `rt` is on the path
+TOOLS = os.path.dirname(os.path.dirname(os.path.realpath(shutil.which("rt") or "rt")))
 KIT = os.path.join(TOOLS, "rlibs")
 FUNCTION = re.compile(r"^( *)(?:pub(?:\([a-z]+\))? )?fn (\w+)", re.M)
 IMPL = re.compile(r"^impl\b(.*)$", re.M)
@@ -127,8 +128,8 @@ class Crate:
         return ("not judged", "only a proof file fails: " + told[0]) if told else ("proved", "no goal fails of what it changes")
 
     def is_about(self, line, function, texts):
-        # of functions that call one another the goals begin with the function's name
-        if "`%s-" % function.rpartition("::")[2] in line:
+        # of functions that call one another the goals begin with the function's name, as what a call requires does with that of the called one
+        if re.search(r"`%s-(?!(\w+-)?requires)" % function.rpartition("::")[2], line):
             return True
         file, number = PLACE.match(line).groups()
         if file.startswith("src/"):
