@@ -1,4 +1,5 @@
 pub mod DecisionEnds
+pub mod FoundInOrder
 pub mod OneOutcome
 pub mod OneReport
 pub mod RequestFacts

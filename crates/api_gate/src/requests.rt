@@ -66,7 +66,7 @@ fn on_platforms<G: Gate, L: Copy + Send>(
         steps,
     ) {
         Err(error) => Decision::unfound(error),
-        Ok(found) => report(alloc, request, inputs, &found),
+        Ok(found) => report(alloc, request, inputs, found),
     }
 }
 

@@ -59,21 +59,28 @@ grows_then P Q old mid new f g = record {
 }
 
 -- what belongs to one item more
-pub grows_next : {A K : Type 0} (P : A → K → Type 0) (items : List A) (i : ℕ) (a : A) (old mid new : List K) → i < length items → a ≡ get_or items i a
-    → Grows (OfSome P (take i items)) old mid → Grows (P a) mid new → Grows (OfSome P (take (i + 1) items)) old new
-grows_next {A = A} P items i a old mid new h is f g = subst (λ (w : List A). Grows (OfSome P w) old new) (sym (taken items i a h is)) (record {
+pub grows_back : {A K : Type 0} (P : A → K → Type 0) (items : List A) (a : A) (old mid new : List K) → Grows (OfSome P items) old mid → Grows (P a) mid new → Grows (OfSome P (items ++ a ∷ [])) old new
+grows_back {A = A} P items a old mid new f g = record {
   sound = λ x n. elim (g.sound x n) [
-    | inl m ↦ elim (f.sound x m) [ inl o ↦ inl o | inr p ↦ inr (p.0, has_left (take i items) (a ∷ []) p.0 p.1, p.2) ]
-    | inr p ↦ inr (a, has_last (take i items) a, p)
+    | inl m ↦ elim (f.sound x m) [ inl o ↦ inl o | inr p ↦ inr (p.0, has_left items (a ∷ []) p.0 p.1, p.2) ]
+    | inr p ↦ inr (a, has_last items a, p)
   ];
   kept = λ x o. g.kept x (f.kept x o);
-  complete = λ x p. elim (has_back (take i items) a p.0 p.1) [ inl t ↦ g.kept x (f.complete x (p.0, t, p.2)) | inr s ↦ g.complete x (subst (λ (w : A). P w x) (sym s) p.2) ];
-})
+  complete = λ x p. elim (has_back items a p.0 p.1) [ inl t ↦ g.kept x (f.complete x (p.0, t, p.2)) | inr s ↦ g.complete x (subst (λ (w : A). P w x) (sym s) p.2) ];
+}
+
+pub grows_next : {A K : Type 0} (P : A → K → Type 0) (items : List A) (i : ℕ) (a : A) (old mid new : List K) → i < length items → a ≡ get_or items i a
+    → Grows (OfSome P (take i items)) old mid → Grows (P a) mid new → Grows (OfSome P (take (i + 1) items)) old new
+grows_next {A = A} P items i a old mid new h is f g = subst (λ (w : List A). Grows (OfSome P w) old new) (sym (taken items i a h is)) (grows_back P (take i items) a old mid new f g)
 
 -- what holds of each item and of one more
 pub each_back : {A : Type 0} (P : A → Type 0) (xs : List A) (x : A) → Each P xs → P x → Each P (xs ++ x ∷ [])
 each_back P [] x e p = (p, tt)
 each_back P (y ∷ xs) x e p = (e.0, each_back P xs x e.1 p)
+
+pub each_front : {A : Type 0} (P : A → Type 0) (xs : List A) (x : A) → Each P (xs ++ x ∷ []) → Each P xs × P x
+each_front P [] x e = (tt, e.0)
+each_front P (y ∷ xs) x e = let k = each_front P xs x e.1 in ((e.0, k.0), k.1)
 
 pub each_next : {A : Type 0} (P : A → Type 0) (xs : List A) (i : ℕ) (x : A) → i < length xs → x ≡ get_or xs i x → Each P (take i xs) → P x → Each P (take (i + 1) xs)
 each_next {A = A} P xs i x h is e p = subst (Each P) (sym (taken xs i x h is)) (each_back P (take i xs) x e p)
@@ -89,13 +96,16 @@ each_of P [] f = tt
 each_of P (x ∷ xs) f = (f x (inl refl), each_of P xs (λ y h. f y (inr h)))
 
 -- one item more
-pub grows_member : {A : Type 0} (items : List A) (i : ℕ) (a : A) (old mid new : List A) → i < length items → a ≡ get_or items i a
-    → Grows (Has (take i items)) old mid → Grows (λ x. a ≡ x) mid new → Grows (Has (take (i + 1) items)) old new
-grows_member {A = A} items i a old mid new h is f g = subst (λ (w : List A). Grows (Has w) old new) (sym (taken items i a h is)) (record {
+pub grows_member_back : {A : Type 0} (items : List A) (a : A) (old mid new : List A) → Grows (Has items) old mid → Grows (λ x. a ≡ x) mid new → Grows (Has (items ++ a ∷ [])) old new
+grows_member_back {A = A} items a old mid new f g = record {
   sound = λ x n. elim (g.sound x n) [
-    | inl m ↦ elim (f.sound x m) [ inl o ↦ inl o | inr p ↦ inr (has_left (take i items) (a ∷ []) x p) ]
-    | inr e ↦ inr (subst (Has (take i items ++ a ∷ [])) e (has_last (take i items) a))
+    | inl m ↦ elim (f.sound x m) [ inl o ↦ inl o | inr p ↦ inr (has_left items (a ∷ []) x p) ]
+    | inr e ↦ inr (subst (Has (items ++ a ∷ [])) e (has_last items a))
   ];
   kept = λ x o. g.kept x (f.kept x o);
-  complete = λ x p. elim (has_back (take i items) a x p) [ inl t ↦ g.kept x (f.complete x t) | inr e ↦ g.complete x e ];
-})
+  complete = λ x p. elim (has_back items a x p) [ inl t ↦ g.kept x (f.complete x t) | inr e ↦ g.complete x e ];
+}
+
+pub grows_member : {A : Type 0} (items : List A) (i : ℕ) (a : A) (old mid new : List A) → i < length items → a ≡ get_or items i a
+    → Grows (Has (take i items)) old mid → Grows (λ x. a ≡ x) mid new → Grows (Has (take (i + 1) items)) old new
+grows_member {A = A} items i a old mid new h is f g = subst (λ (w : List A). Grows (Has w) old new) (sym (taken items i a h is)) (grows_member_back (take i items) a old mid new f g)

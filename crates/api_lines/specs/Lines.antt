@@ -26,8 +26,12 @@ in_context context l = record { path = l.path; context = context; rest = l.rest 
 abbrev pub HasText : List Line → List ℕ → Type 0
 HasText lines text = (l : Line) × Has lines l × (printed l ≡ text)
 
+-- each text comes before those of the lines that follow it, in the order of bytes
+abbrev pub AreInOrder : List Line → Type 0
+AreInOrder lines = IsStrictlySortedBy (slice_cmp nat_cmp) (map printed lines)
+
 -- exactly the texts of the lines with the property, each once, in the order of bytes
 pub record IsListing (P : Line → Type 0) (lines : List Line) : Type 0 where
   pub sound : (l : Line) → Has lines l → P l
   pub complete : (l : Line) → P l → HasText lines (printed l)
-  pub ordered : IsStrictlySortedBy (slice_cmp nat_cmp) (map printed lines)
+  pub ordered : AreInOrder lines

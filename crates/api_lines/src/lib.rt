@@ -4,4 +4,5 @@
 pub mod line;
 pub mod lines;
 pub mod merge;
+mod part;
 pub mod texts;

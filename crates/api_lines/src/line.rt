@@ -1,11 +1,14 @@
 //! A feature line.
-ghost use Rattle.std.specs.Prelude.{◌≡◌, ◌++◌, IfOk, OnOk};
-ghost use Rattle.api_lines.specs.Lines.{context_text, printed};
+ghost use Rattle.std.specs.Prelude.{◌≡◌, ◌++◌, IfOk, OnOk, Some};
+ghost use Rattle.std.specs.Ordering.{nat_cmp};
+ghost use Rattle.std.specs.Cmp.Lexicographic.{slice_cmp};
+ghost use Rattle.api_lines.specs.Lines.{context_text, in_context, printed};
 
 use go_base::memory::NoMemory;
 use go_base::text::Text;
 use go_model::files::platform::Platform;
 use std::alloc::Global;
+use std::cmp::Ordering;
 
 /// A feature of a package, as Go's `cmd/api` writes it: `pkg PATH`, where it has a platform ` (PLATFORM)`,
 /// then `, ` and the rest.
@@ -56,14 +59,31 @@ impl Line {
         Ok(Text::from_vec(line))
     }
 
-    /// The line of the same path and rest in this context.
-    pub fn on(&self, alloc: Global, context: Option<Platform>) -> Result<Line, NoMemory>
-        ensures { IfOk result (λ line. line ≡ record { path = self.now.path; context = context; rest = self.now.rest }) }
+    /// The order of two lines by their texts. Lines of one package without context are compared by the rest alone.
+    pub fn order(&self, alloc: Global, other: &Line) -> Result<Ordering, NoMemory>
+        ensures { IfOk result (λ order. order ≡ slice_cmp nat_cmp (printed self.now) (printed other.now)) }
     {
-        Ok(Line {
-            path: Text::of(alloc, self.path.bytes())?,
-            context,
-            rest: Text::of(alloc, self.rest.bytes())?,
-        })
+        if self.context.is_none() && other.context.is_none() && self.path == other.path {
+            return Ok(self.rest.cmp(&other.rest));
+        }
+        let text = self.printed(alloc)?;
+        let other = other.printed(alloc)?;
+        Ok(text.cmp(&other))
+    }
+
+    /// The line of the same path and rest on this platform.
+    pub fn on(self, platform: Platform) -> Line
+        ensures { result ≡ in_context (Some platform) self }
+    {
+        let Line {
+            path,
+            context: _,
+            rest,
+        } = self;
+        Line {
+            path,
+            context: Some(platform),
+            rest,
+        }
     }
 }

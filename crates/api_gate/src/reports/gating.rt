@@ -4,6 +4,7 @@ ghost use Rattle.std.specs.List.{list_any};
 ghost use Rattle.api_gate.specs.inner.Decisions.{IsGateDecision, IsOfFindings};
 ghost use Rattle.api_gate.specs.runs.Outcomes.{IsAdvice};
 ghost use Rattle.api_judge.specs.Verdicts.{class_of, has_break};
+ghost use Rattle.api_lines.specs.Lines.{AreInOrder};
 ghost use Rattle.api_lines.specs.Merging.{HasNoContext};
 ghost use Rattle.api_reports.specs.Reports.{judge_text};
 ghost use Rattle.go_base.specs.Lists.{Each};
@@ -12,13 +13,14 @@ use crate::reports::advice::advice;
 use crate::reports::decision::Decision;
 use crate::reports::joining::joined;
 use crate::reports::listing::{SignedText, signed_report};
-use api_findings::findings::Findings;
 use api_inputs::inputs::Inputs;
 use api_judge::judge::{class, is_any_broken};
 use api_judge::verdict::Verdict;
+use api_lines::line::Line;
 use api_reports::verdicts::judge_text;
 use api_words::option_name::Mode;
 use api_words::request::Request;
+use go_base::list::List;
 use go_base::memory::NoMemory;
 use go_base::text::Text;
 use std::alloc::Global;
@@ -69,18 +71,20 @@ fn gate_advised(
     alloc: Global,
     request: &Request,
     inputs: &Inputs,
-    found: &Findings,
+    lists: List<List<Line>>,
+    verdicts: &[Verdict],
     advice: &[u8],
 ) -> Decision
     requires mode { request.now.mode ≡ Mode.Gate }
     requires some { 0 < length request.now.platforms }
-    requires same { length found.now.features ≡ length request.now.platforms }
-    requires plain { Each (Each HasNoContext) found.now.features }
-    requires advice { IsAdvice request.now.version (class_of found.now.verdicts) advice.now }
-    ensures { IsOfFindings request.now inputs.now found.now.features found.now.verdicts result }
+    requires same { length lists ≡ length request.now.platforms }
+    requires plain { Each (Each HasNoContext) lists }
+    requires order { Each AreInOrder lists }
+    requires advice { IsAdvice request.now.version (class_of verdicts.now) advice.now }
+    ensures { IsOfFindings request.now inputs.now lists verdicts.now result }
 {
-    match signed_report(alloc, request, inputs, found.features.items()) {
-        Ok(signed) => gate_with(alloc, request, found.verdicts.items(), &signed, advice),
+    match signed_report(alloc, request, inputs, lists) {
+        Ok(signed) => gate_with(alloc, request, verdicts, &signed, advice),
         Err(NoMemory) => Decision::NoMemory,
     }
 }
@@ -91,16 +95,18 @@ pub(crate) fn gate_report(
     alloc: Global,
     request: &Request,
     inputs: &Inputs,
-    found: &Findings,
+    lists: List<List<Line>>,
+    verdicts: &[Verdict],
 ) -> Decision
     requires mode { request.now.mode ≡ Mode.Gate }
     requires some { 0 < length request.now.platforms }
-    requires same { length found.now.features ≡ length request.now.platforms }
-    requires plain { Each (Each HasNoContext) found.now.features }
-    ensures { IsOfFindings request.now inputs.now found.now.features found.now.verdicts result }
+    requires same { length lists ≡ length request.now.platforms }
+    requires plain { Each (Each HasNoContext) lists }
+    requires order { Each AreInOrder lists }
+    ensures { IsOfFindings request.now inputs.now lists verdicts.now result }
 {
-    match advice(alloc, &request.version, class(found.verdicts.items())) {
-        Ok(text) => gate_advised(alloc, request, inputs, found, text.bytes()),
+    match advice(alloc, &request.version, class(verdicts)) {
+        Ok(text) => gate_advised(alloc, request, inputs, lists, verdicts, text.bytes()),
         Err(fault) => Decision::unadvised(fault),
     }
 }

@@ -2,6 +2,7 @@
 ghost use Rattle.std.specs.Prelude.{◌≡◌, ◌<◌, IfOk, length};
 ghost use Rattle.api_gate.specs.inner.Decisions.{IsComparison, IsFeaturesText, report_of};
 ghost use Rattle.api_gate.specs.runs.Outcomes.{IsSignedReport};
+ghost use Rattle.api_lines.specs.Lines.{AreInOrder};
 ghost use Rattle.api_lines.specs.Merging.{HasNoContext};
 ghost use Rattle.api_reports.specs.Reports.{has_loss, signed_text};
 ghost use Rattle.go_base.specs.Lists.{Each};
@@ -41,12 +42,13 @@ impl SignedText {
 pub(crate) fn features_report(
     alloc: Global,
     request: &Request,
-    lists: &[List<Line>],
+    lists: List<List<Line>>,
 ) -> Result<Text, NoMemory>
     requires some { 0 < length request.now.platforms }
-    requires same { length lists.now ≡ length request.now.platforms }
-    requires plain { Each (Each HasNoContext) lists.now }
-    ensures { IfOk result (IsFeaturesText request.now lists.now) }
+    requires same { length lists ≡ length request.now.platforms }
+    requires plain { Each (Each HasNoContext) lists }
+    requires order { Each AreInOrder lists }
+    ensures { IfOk result (IsFeaturesText request.now lists) }
 {
     let features = merge(alloc, lists, request.platforms.items())?;
     features_text(alloc, features.items())
@@ -80,12 +82,13 @@ pub(crate) fn signed_report(
     alloc: Global,
     request: &Request,
     inputs: &Inputs,
-    lists: &[List<Line>],
+    lists: List<List<Line>>,
 ) -> Result<SignedText, NoMemory>
     requires some { 0 < length request.now.platforms }
-    requires same { length lists.now ≡ length request.now.platforms }
-    requires plain { Each (Each HasNoContext) lists.now }
-    ensures { IfOk result (λ signed. IsSignedReport request.now inputs.now lists.now signed.lost signed.text) }
+    requires same { length lists ≡ length request.now.platforms }
+    requires plain { Each (Each HasNoContext) lists }
+    requires order { Each AreInOrder lists }
+    ensures { IfOk result (λ signed. IsSignedReport request.now inputs.now lists signed.lost signed.text) }
 {
     let features = merge(alloc, lists, request.platforms.items())?;
     compared(alloc, inputs, features.items())

@@ -2,11 +2,11 @@
 ghost use Rattle.std.specs.Prelude.{◌≡◌, ◌<◌, IfOk, length};
 ghost use Rattle.api_gate.specs.inner.Decisions.{IsClassedText, IsMakeText};
 ghost use Rattle.api_gate.specs.runs.Outcomes.{IsMadeText};
+ghost use Rattle.api_lines.specs.Lines.{AreInOrder};
 ghost use Rattle.api_lines.specs.Merging.{HasNoContext};
 ghost use Rattle.go_base.specs.Lists.{Each};
 
 use crate::reports::joining::joined;
-use api_findings::findings::Findings;
 use api_judge::judge::class;
 use api_judge::verdict::Verdict;
 use api_lines::line::Line;
@@ -14,6 +14,7 @@ use api_lines::merge::merge;
 use api_reports::made::made_text;
 use api_reports::verdicts::{class_text, count_breaks};
 use api_words::request::{MadeTrees, Request};
+use go_base::list::List;
 use go_base::memory::NoMemory;
 use go_base::text::Text;
 use std::alloc::Global;
@@ -54,13 +55,15 @@ fn with_class(
 pub(crate) fn make_report(
     alloc: Global,
     request: &Request,
-    found: &Findings,
+    lists: List<List<Line>>,
+    verdicts: &[Verdict],
 ) -> Result<Text, NoMemory>
     requires some { 0 < length request.now.platforms }
-    requires same { length found.now.features ≡ length request.now.platforms }
-    requires plain { Each (Each HasNoContext) found.now.features }
-    ensures { IfOk result (IsMakeText request.now found.now.features found.now.verdicts) }
+    requires same { length lists ≡ length request.now.platforms }
+    requires plain { Each (Each HasNoContext) lists }
+    requires order { Each AreInOrder lists }
+    ensures { IfOk result (IsMakeText request.now lists verdicts.now) }
 {
-    let features = merge(alloc, found.features.items(), request.platforms.items())?;
-    with_class(alloc, request, features.items(), found.verdicts.items())
+    let features = merge(alloc, lists, request.platforms.items())?;
+    with_class(alloc, request, features.items(), verdicts)
 }

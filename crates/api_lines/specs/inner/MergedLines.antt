@@ -1,35 +1,35 @@
 -- What the functions that merge lists of lines answer.
-use Rattle.std.specs.Prelude.{◌≡◌, ℕ, List, [], ◌∷◌, Option, Some, None}
+use Rattle.std.specs.Prelude.{◌≡◌, ℕ, List, Some}
+use Rattle.std.specs.Ordering.{nat_cmp}
+use Rattle.std.specs.Cmp.Lexicographic.{slice_cmp}
+use Rattle.std.specs.declared.cmp.Ordering.TheVariants.{Less}
 use Rattle.go_base.specs.Lists.{Has, Each}
-use Rattle.go_base.specs.Growing.{Grows}
 use Rattle.go_model.specs.declared.files.platform.Platform.{Platform}
 use Rattle.api_lines.specs.declared.line.Line.{Line}
-use Rattle.api_lines.specs.Lines.{printed, in_context, HasText}
+use Rattle.api_lines.specs.Lines.{printed, in_context, AreInOrder, HasText}
 
--- the texts of each list
-abbrev pub AreTexts : List (List Line) → List (List (List ℕ)) → Type 0
-AreTexts [] [] = Unit {0}
-AreTexts [] (texts ∷ all) = ⊥
-AreTexts (lines ∷ lists) [] = ⊥
-AreTexts (lines ∷ lists) (texts ∷ all) = Grows (HasText lines) [] texts × AreTexts lists all
+-- the texts of all these lines come before the text
+abbrev pub AreBefore : List ℕ → List Line → Type 0
+AreBefore text lines = Each (λ l. slice_cmp nat_cmp (printed l) text ≡ Less) lines
+
+-- exactly the lines with the property, in the order of their texts
+pub record AreExactly (P : Line → Type 0) (lines : List Line) : Type 0 where
+  pub sound : (l : Line) → Has lines l → P l
+  pub complete : (l : Line) → P l → Has lines l
+  pub ordered : AreInOrder lines
 
 -- each list has the text
 abbrev pub IsTextOnAll : List (List Line) → List ℕ → Type 0
 IsTextOnAll lists text = Each (λ lines. HasText lines text) lists
 
--- a line without context is to be common, and one in a context is to be none
-abbrev pub Fits : List (List ℕ) → Option Platform → List ℕ → Type 0
-Fits common None text = Has common text
-Fits common (Some platform) text = Has common text → ⊥
+-- on the platform, a line whose text isn't common
+abbrev pub IsPlaced : (List ℕ → Type 0) → Platform → Line → Line → Type 0
+IsPlaced IsCommon platform m l = (IsCommon (printed m) → ⊥) × (in_context (Some platform) m ≡ l)
 
--- the line that is added for another
-abbrev pub IsAdded : List (List ℕ) → Option Platform → Line → Line → Type 0
-IsAdded common context m l = Fits common context (printed m) × (in_context context m ≡ l)
+-- the same of a line of the list
+abbrev pub IsOwn : (List ℕ → Type 0) → Platform → List Line → Line → Type 0
+IsOwn IsCommon platform lines l = (m : Line) × Has lines m × IsPlaced IsCommon platform m l
 
--- a line that is added for one of a list
-abbrev pub IsAddedFrom : List (List ℕ) → Option Platform → List Line → Line → Type 0
-IsAddedFrom common context lines l = (m : Line) × Has lines m × IsAdded common context m l
-
--- a line that is added for one of a platform's list
-abbrev pub IsOwn : List (List ℕ) → List (List Line × Platform) → Line → Type 0
-IsOwn common pairs l = (pair : List Line × Platform) × Has pairs pair × IsAddedFrom common (Some pair.1) pair.0 l
+-- the same of a line of one of these lists
+abbrev pub IsOwnOfSome : List Line → List (List Line × Platform) → Line → Type 0
+IsOwnOfSome common pairs l = (pair : List Line × Platform) × Has pairs pair × IsOwn (HasText common) pair.1 pair.0 l

@@ -1,10 +1,10 @@
-use Rattle.std.proofs.Common.{◌≡◌, List, get_or, sym, subst}
-use Rattle.api_lines.specs.declared.line.Line.{Line}
-use Rattle.api_lines.proofs.Merged.{merged_in}
+use Rattle.std.proofs.Common.{sym, ◌∙◌}
+use borrow.Author.Tests.{eqb-true}
+use Rattle.api_lines.proofs.Merged.{merged_alone}
 use Rattle.api_lines.proofs.merge.merge.Goals as goal
 
-pub returns : goal.returns
-returns c =
-    merged_in c.args.lists.now c.items-first.result.now c.args.platforms.now c.in_ok-common.common c.new-merged.result c.add_lines.new.merged c.add_own.new.merged c.in_ok-merged.merged c.requires.some
-    (subst (λ (w : List Line). w ≡ get_or c.args.lists.now 0 w) (sym c.items-first.ensures) c.index-lists-0.is)
-    c.requires.same c.requires.plain c.new-merged.ensures c.in_ok-common.ensures c.in_ok-add_lines.ensures c.in_ok-add_own.ensures c.in_ok-merged.ensures
+pub returns-then-is_empty : goal.returns-then-is_empty
+returns-then-is_empty c =
+    merged_alone c.args.lists c.into_vec-others.result.items c.remove-first.new.self.items c.remove-first.result c.args.platforms.now c.into_vec-others.ensures c.requires.some c.remove-first.ensures.value c.remove-first.ensures.items
+    (sym c.remove-first.new.self.ok.0 ∙ eqb-true c.remove-first.new.self.len 0 (sym c.is_empty.ensures ∙ c.if-is_empty.true))
+    c.requires.same c.requires.plain c.requires.order

@@ -1,0 +1,18 @@
+-- The features that are found on platforms stand in the order of their texts.
+use Rattle.std.proofs.Common.{ℕ, List, Option}
+use Rattle.api_findings.specs.Findings.{AreFindings, Finds, features_alone, find_more, find_none, with_verdict}
+use Rattle.api_judge.specs.declared.verdict.Verdict.{Verdict}
+use Rattle.api_lines.specs.Lines.{AreInOrder}
+use Rattle.api_lines.specs.declared.line.Line.{Line}
+use Rattle.go_base.specs.Lists.{Each}
+use Rattle.go_model.specs.declared.files.platform.Platform.{Platform}
+use Rattle.go_model.specs.declared.files.tree.Tree.{Tree}
+
+module _ (barred : List (List ℕ)) (old : Option Tree) (tree std_tree : Tree) where
+  one_in_order : {p : Platform} {lines : List Line} {vs : List Verdict} → Finds barred old tree std_tree p lines vs → AreInOrder lines
+  one_in_order (features_alone w e i f) = f.ordered
+  one_in_order (with_verdict o w v e i j f k) = f.ordered
+
+  pub found_in_order : {ps : List Platform} {lists : List (List Line)} {vs : List Verdict} → AreFindings barred old tree std_tree ps lists vs → Each AreInOrder lists
+  found_in_order find_none = tt
+  found_in_order (find_more f a) = (one_in_order f, found_in_order a)
