@@ -3,27 +3,73 @@ ghost use Rattle.std.specs.Prelude.{◌≡◌, ◌≢◌, [], length, IfOk};
 ghost use Rattle.go_declarations.specs.Listings.{declarations_of};
 ghost use Rattle.go_declared.specs.MethodTables.{AreMethods};
 ghost use Rattle.go_declared.specs.NameTables.{AreDeclared};
-ghost use Rattle.go_graphs.specs.Flags.{is_flagged};
+ghost use Rattle.go_graphs.specs.Flags.{AreFlagsOf, is_flagged};
 ghost use Rattle.go_had_entries.specs.HadEntries.{entries_at};
 ghost use Rattle.go_package_scopes.specs.PackageScopes.{IsScopeOf};
+ghost use Rattle.go_sifting.specs.Graphs.{Stands};
 ghost use Rattle.go_soundness.specs.Settled.{AreSifted};
 ghost use Rattle.go_sources.specs.UnitSources.{source_of};
 ghost use Rattle.go_typings.specs.Declarations.{declarations as all_declarations};
-ghost use Rattle.go_typings.specs.Sources.{Setting};
+ghost use Rattle.go_typings.specs.PackageEnvironments.{Entries};
+ghost use Rattle.go_typings.specs.Sources.{PackageSource, Setting};
 
 use crate::entered::entered;
 use go_base::memory::NoMemory;
 use go_declaration_graph::graph::graph;
+use go_declaration_graph::order::order;
 use go_declarations::listing::Declaration;
 use go_declared::methods::DeclaredMethods;
 use go_declared::names::DeclaredNames;
 use go_had_entries::had::HadEntries;
 use go_met::met::met;
 use go_rules::env::Env;
+use go_sifting::settled::{all_flagged, none_lost};
 use go_sifting::sift::sift;
 use go_sifting::standing::standing;
 use go_units::unit::Unit;
 use std::alloc::Global;
+
+// Flags of the lost declarations, told from all that they have to do with one another.
+fn sifted(
+    alloc: Global,
+    env: &mut Env<'_>,
+    declarations: &[Declaration<'_>],
+    names: &DeclaredNames,
+    methods: &DeclaredMethods,
+    standing: &[bool],
+) -> Result<Vec<bool>, NoMemory>
+    requires names { AreDeclared (declarations_of declarations.now) names.now }
+    requires methods { AreMethods (declarations_of declarations.now) methods.now }
+    ensures { (s : Setting) (u : PackageSource) (a : Entries) → all_declarations u ≡ declarations_of declarations.now → u.path ≢ [] → IsScopeOf s u a env.old
+        → AreFlagsOf (length (all_declarations u)) (Stands s u a) standing.now → IfOk result (λ lost. (length lost.items ≡ length (all_declarations u)) × AreSifted s u a (is_flagged lost.items)) }
+{
+    let graph = graph(alloc, env, declarations, names, methods)?;
+    sift(alloc, &graph, standing)
+}
+
+// The same, told from their order alone where that tells that none is lost.
+fn lost_of(
+    alloc: Global,
+    env: &mut Env<'_>,
+    declarations: &[Declaration<'_>],
+    names: &DeclaredNames,
+    methods: &DeclaredMethods,
+    standing: &[bool],
+) -> Result<Vec<bool>, NoMemory>
+    requires names { AreDeclared (declarations_of declarations.now) names.now }
+    requires methods { AreMethods (declarations_of declarations.now) methods.now }
+    ensures { (s : Setting) (u : PackageSource) (a : Entries) → all_declarations u ≡ declarations_of declarations.now → u.path ≢ [] → IsScopeOf s u a env.old
+        → AreFlagsOf (length (all_declarations u)) (Stands s u a) standing.now → IfOk result (λ lost. (length lost.items ≡ length (all_declarations u)) × AreSifted s u a (is_flagged lost.items)) }
+{
+    if !all_flagged(standing) {
+        return sifted(alloc, env, declarations, names, methods, standing);
+    }
+    let order = order(alloc, env, declarations, names, methods)?;
+    match none_lost(alloc, &order, standing)? {
+        Some(lost) => Ok(lost),
+        None => sifted(alloc, env, declarations, names, methods, standing),
+    }
+}
 
 /// Flags of the lost declarations of a package, in scopes that have what is had of it.
 pub(crate) fn lost(
@@ -44,8 +90,7 @@ pub(crate) fn lost(
         → IfOk result (λ lost. (length lost.items ≡ length (all_declarations (source_of unit.now))) × AreSifted s (source_of unit.now) (entries_at had.now) (is_flagged lost.items)) }
 {
     let met = met(alloc, env, unit.name.bytes(), declarations, names, methods)?;
-    let graph = graph(alloc, env, declarations, names, methods)?;
     let entered = entered(alloc, had)?;
     let standing = standing(alloc, &entered, &met)?;
-    sift(alloc, &graph, &standing)
+    lost_of(alloc, env, declarations, names, methods, &standing)
 }

@@ -28,10 +28,9 @@ use Rattle.go_typings.specs.References.{Finds, FindsMethod}
 use Rattle.go_typings.specs.Sources.{PackageSource}
 use Rattle.go_typings.proofs.Cells.{either, if_false, if_true}
 use Rattle.go_soundness.proofs.Members.{gathered, has_left, has_right}
-use Rattle.go_declaration_graph.specs.declared.field_keys.FieldKey.{FieldKey}
 use Rattle.go_declaration_graph.specs.inner.MethodNumbers.{Numbered, numbers_at, tables_of}
-use Rattle.go_declaration_graph.specs.inner.FoundNumbers.{FindsNumber, FindsNumberIn, LeadsTo, found}
-use Rattle.go_declaration_graph.specs.inner.NamedNumbers.{counted}
+use Rattle.go_declaration_graph.specs.inner.FoundNumbers.{FindsNumber, FindsNumberIn, found}
+use Rattle.go_declaration_graph.specs.inner.Rows.{LeadsIn, NamesIn}
 use Rattle.go_declaration_graph.proofs.Mapped.{has_map, map_has}
 use Rattle.go_declaration_graph.proofs.TypeMethods.{have_numbers, numbers_have}
 
@@ -50,22 +49,6 @@ tree_numbers E names tables t methods taken path old new p q are e =
       kept = λ n h. subst (λ (xs : List ℕ). Has xs n) (sym f) (has_left old added n h);
       complete = λ n k. subst (λ (xs : List ℕ). Has xs n) (sym f) (has_right old added n (gathered (found E.path names tables) methods k.0 n ((are k.0).1 k.1) k.2));
     }
-
--- a row of the names that count, to which the methods were added that trees find
-pub leads_told : (E : Env) (names : Named NamePlace) (tables : List Numbered) (keys : List FieldKey) (f : Form) (trees : List Tree) (old new : List ℕ)
-    → map node_of trees ≡ nodes f → old ≡ gather (counted names keys) (references f) → Grows (SomeIn (FindsNumberIn E names tables) trees) old new → Lists (LeadsTo E names tables keys f) new
-leads_told E names tables keys f trees old new e o g n = (
-  (λ h. elim (g.sound n h) [
-    | inl k ↦ inl (subst (λ (xs : List ℕ). Has xs n) o k)
-    | inr s ↦ inr (node_of s.0, subst (λ (xs : List Node). Has xs (node_of s.0)) e (has_map node_of trees s.0 s.1), s.2)
-  ]),
-  (λ h. elim h [
-    | inl k ↦ g.kept n (subst (λ (xs : List ℕ). Has xs n) (sym o) k)
-    | inr s ↦ (
-        let m = map_has node_of trees s.0 (subst (λ (xs : List Node). Has xs s.0) (sym e) s.1) in
-        g.complete n (m.0, m.1, subst (λ (at : Node). FindsNumber E names tables at n) (sym m.2) s.2))
-  ]),
-)
 
 -- ---- the methods that are found
 
@@ -116,3 +99,23 @@ module _ (E : Env) (u : PackageSource) (same : u.path ≡ E.path) (names : Named
 
   pub found_tells : (f : Form) (n : ℕ) → SomeIn (FindsNumber E names tables) (nodes f) n ↔ FindsMethod E u f n
   found_tells f n = (number_found f n, found_number f n)
+
+-- a row of the names that count, to which the methods were added that trees find
+pub leads_in : (E : Env) (names : Named NamePlace) (numbered : List Numbered) (f : Form) (trees : List Tree) (old new : List ℕ)
+    → map node_of trees ≡ nodes f → NamesIn names E f (references f) old → Grows (SomeIn (FindsNumberIn E names numbered) trees) old new → LeadsIn names numbered E f new
+leads_in E names numbered f trees old new e o g rows u same t n = (
+  (λ h. elim (g.sound n h) [
+    | inl k ↦ inl ((o u t.names n).0 k)
+    | inr s ↦ inr (tells.0 (subst (λ (ts : List Numbered). SomeIn (FindsNumber E names ts) (nodes f) n) t.tables (node_of s.0, subst (λ (xs : List Node). Has xs (node_of s.0)) e (has_map node_of trees s.0 s.1), s.2)))
+  ]),
+  (λ h. elim h [
+    | inl k ↦ g.kept n ((o u t.names n).1 k)
+    | inr s ↦ (
+        let k = subst (λ (ts : List Numbered). SomeIn (FindsNumber E names ts) (nodes f) n) (sym t.tables) (tells.1 s) in
+        let m = map_has node_of trees k.0 (subst (λ (xs : List Node). Has xs k.0) (sym e) k.1) in
+        g.complete n (m.0, m.1, subst (λ (at : Node). FindsNumber E names numbered at n) (sym m.2) k.2))
+  ]),
+)
+  where
+    tells : SomeIn (FindsNumber E names (tables_of (declarations u) rows)) (nodes f) n ↔ FindsMethod E u f n
+    tells = found_tells E u same names t.names rows t.methods f n

@@ -2,7 +2,6 @@
 use Rattle.std.proofs.Common.{◌≡◌, ◌≢◌, ◌↔◌, ℕ, zero, suc, ◌+◌, ◌<◌, List, [], ◌∷◌, ◌++◌, length, get_or, Some, refl, sym, ap, ◌∙◌, subst, ◌⊎◌, inl, inr, arith, length-append}
 use Rattle.std.specs.Prelude.{slice_get}
 use Rattle.std.proofs.lemmas.Option.{slice_get_within}
-use Rattle.go_base.specs.Gathered.{gather}
 use Rattle.go_base.specs.Lists.{Has}
 use Rattle.go_declarations.specs.Listings.{declaration_of, declarations_of}
 use Rattle.go_declarations.specs.declared.listing.Declaration.{Declaration as Borrowed}
@@ -14,15 +13,12 @@ use Rattle.go_declared.specs.declared.names.NamePlace.{NamePlace}
 use Rattle.go_graphs.specs.Walks.{row_of}
 use Rattle.go_graphs.proofs.Pushed.{get_pushed}
 use Rattle.go_leads.specs.Listed.{Lists}
-use Rattle.go_leads.specs.inner.Some.{SomeIn}
-use Rattle.go_package_scopes.proofs.SameAnswers.{finds_same, names_same}
 use Rattle.go_package_scopes.specs.KeptScopes.{IsMoved}
 use Rattle.go_package_scopes.specs.PackageScopes.{IsScopeOf, at_declaration}
-use Rattle.go_references.specs.declared.references.Reference.{Reference}
 use Rattle.go_rules.specs.Environments.{Env}
 use Rattle.go_rules.specs.Names.{Named}
 use Rattle.go_rules.specs.Scopes.{Scopes, env_of}
-use Rattle.go_sifting.specs.Graphs.{IsGraphOf, Leads}
+use Rattle.go_sifting.specs.Graphs.{IsGraphOf}
 use Rattle.go_sifting.specs.declared.graph.DeclarationGraph.{DeclarationGraph}
 use Rattle.go_typings.specs.Assignments.{At}
 use Rattle.go_typings.specs.DeclarationNodes.{length_references, nodes, references, strong_references}
@@ -31,15 +27,12 @@ use Rattle.go_typings.specs.PackageEnvironments.{Entries, environment}
 use Rattle.go_typings.specs.References.{DependsOn, FindsMethod, NamesDeclaration}
 use Rattle.go_typings.specs.Sources.{PackageSource, Setting}
 use Rattle.go_typings.proofs.Cells.{some_once}
-use Rattle.go_declaration_graph.specs.declared.field_keys.FieldKey.{FieldKey}
 use Rattle.go_declaration_graph.specs.declared.rows.DeclarationRows.{DeclarationRows}
-use Rattle.go_declaration_graph.specs.inner.FieldKeys.{AreFieldKeys}
 use Rattle.go_declaration_graph.specs.inner.MethodNumbers.{Numbered, tables_of}
-use Rattle.go_declaration_graph.specs.inner.FoundNumbers.{FindsNumber, LeadsTo}
-use Rattle.go_declaration_graph.specs.inner.NamedNumbers.{counted, dependencies}
-use Rattle.go_declaration_graph.specs.inner.Rows.{AreRowsIn, AreRowsOf, HasRows, Tell, rows_at, with_rows}
-use Rattle.go_declaration_graph.proofs.FoundNumbers.{found_tells}
-use Rattle.go_declaration_graph.proofs.NamedNumbers.{counted_tell, dependencies_tell}
+use Rattle.go_declaration_graph.specs.inner.NamedNumbers.{dependencies}
+use Rattle.go_declaration_graph.specs.inner.Rows.{AreRowsIn, AreRowsOf, HasRows, LeadsIn, NamesIn, Tell, rows_at, with_rows}
+use Rattle.go_declaration_graph.proofs.DeclarationSteps.{IsLed, exact, leads_of, of_leads, same_led, same_named, via}
+use Rattle.go_declaration_graph.proofs.NamedNumbers.{dependencies_tell}
 
 -- ---- the rows of a declaration
 
@@ -48,25 +41,13 @@ no_graph = record { depends = []; leads = []; after = []; lengths = [] }
 
 module _ (names : Named NamePlace) (methods : Named (List MethodRow)) (tables : List Numbered) where
   -- rows that are told from the tables
-  pub rows_in : (E : Env) (f : Form) (keys : List FieldKey) (r : DeclarationRows) → AreFieldKeys E f keys → r.depends ≡ dependencies names methods f → Lists (LeadsTo E names tables keys f) r.leads
-      → r.after ≡ gather (counted names keys) (strong_references f) → r.lengths ≡ gather (counted names keys) (length_references f) → AreRowsIn names methods tables E f r
-  rows_in E f keys r fields depends leads after lengths u same t = record {
-    depends = told (DependsOn u f) r.depends _ depends (dependencies_tell u names t.names methods t.methods f);
-    leads = λ n. ((λ h. to n ((leads n).0 h)), (λ h. (leads n).1 (from n h)));
-    after = told (NamesDeclaration E u f (strong_references f)) r.after _ after (counted_tell u names t.names E f keys fields (strong_references f));
-    lengths = told (NamesDeclaration E u f (length_references f)) r.lengths _ lengths (counted_tell u names t.names E f keys fields (length_references f));
+  pub rows_in : (E : Env) (f : Form) (r : DeclarationRows) → r.depends ≡ dependencies names methods f → LeadsIn names tables E f r.leads → NamesIn names E f (strong_references f) r.after → NamesIn names E f (length_references f) r.lengths → AreRowsIn names methods tables E f r
+  rows_in E f r depends leads after lengths u same t = record {
+    depends = subst (Lists (DependsOn u f)) (sym depends) (dependencies_tell u names t.names methods t.methods f);
+    leads = leads methods u same t;
+    after = after u t.names;
+    lengths = lengths u t.names;
   }
-    where
-      told : (P : ℕ → Type 0) (xs ys : List ℕ) → xs ≡ ys → Lists P ys → Lists P xs
-      told P xs ys e l = subst (Lists P) (sym e) l
-
-      to : (n : ℕ) → LeadsTo E names tables keys f n → NamesDeclaration E u f (references f) n ⊎ FindsMethod E u f n
-      to n (inl h) = inl ((counted_tell u names t.names E f keys fields (references f) n).0 h)
-      to n (inr h) = inr ((found_tells E u same names t.names methods t.methods f n).0 (subst (λ (ts : List Numbered). SomeIn (FindsNumber E names ts) (nodes f) n) t.tables h))
-
-      from : (n : ℕ) → NamesDeclaration E u f (references f) n ⊎ FindsMethod E u f n → LeadsTo E names tables keys f n
-      from n (inl h) = inl ((counted_tell u names t.names E f keys fields (references f) n).1 h)
-      from n (inr h) = inr (subst (λ (ts : List Numbered). SomeIn (FindsNumber E names ts) (nodes f) n) (sym t.tables) ((found_tells E u same names t.names methods t.methods f n).1 h))
 
   -- ---- one declaration more
 
@@ -128,32 +109,13 @@ moved_next c e new d m at =
 
 -- ---- all declarations
 
-has_row : (rows : List (List ℕ)) (m n : ℕ) → Has (row_of rows m) n → m < length rows
-has_row [] m n h = absurd h
-has_row (r ∷ rows) zero n h = omega arith
-has_row (r ∷ rows) (suc m) n h = let l = has_row rows m n h in omega (arith, l)
-
-within : (ds : List Declaration) (m : ℕ) → m < length ds → (d : Declaration) × (slice_get ds m ≡ Some d)
-within [] m l = absurd (omega (arith, l))
-within (d ∷ ds) zero l = (d, refl)
-within (d ∷ ds) (suc m) l = within ds m (omega (arith, l))
-
-exact : (Q : Declaration → ℕ → Type 0) (rows : List (List ℕ)) (ds : List Declaration) → length rows ≡ length ds → ((m : ℕ) (d : Declaration) → slice_get ds m ≡ Some d → Lists (Q d) (row_of rows m)) → (m n : ℕ) → Has (row_of rows m) n ↔ At ds m (λ d. Q d n)
-exact Q rows ds size tell m n = (
-  (λ h. let d = within ds m (let l = has_row rows m n h in omega (arith, l, size)) in (d.0, d.1, (tell m d.0 d.1 n).0 h)),
-  (λ a. (tell m a.0 a.1 n).1 a.2),
-)
-
-via : {P Q : ℕ → Type 0} (xs : List ℕ) → Lists P xs → ((n : ℕ) → P n ↔ Q n) → Lists Q xs
-via xs l same n = ((λ h. (same n).0 ((l n).0 h)), (λ q. (l n).1 ((same n).1 q)))
-
 module _ (s : Setting) (u : PackageSource) (a : Entries) (c : Scopes) (names : Named NamePlace) (methods : Named (List MethodRow)) (g : DeclarationGraph) where
   graph_of : u.path ≢ [] → IsScopeOf s u a c → AreDeclared (declarations u) names → AreMethods (declarations u) methods → HasRows names methods (tables_of (declarations u) methods) c (declarations u) (length (declarations u)) g → IsGraphOf s u a g
   graph_of pathed scope are have has = record {
     depends = record { size = has.depends; exact = exact (λ d n. DependsOn u d.form n) g.depends (declarations u) has.depends (λ m d e. (rows_there m d e).depends) };
-    leads = record { size = has.leads; exact = λ m n. (let k = led m n in ((λ h. apart m n (k.0 h)), (λ h. k.1 (together m n h)))) };
-    after = record { size = has.after; exact = exact (λ d n. NamesDeclaration (environment s u a d) u d.form (strong_references d.form) n) g.after (declarations u) has.after (λ m d e. via (row_of g.after m) (rows_there m d e).after (same_names d (strong_references d.form))) };
-    lengths = record { size = has.lengths; exact = exact (λ d n. NamesDeclaration (environment s u a d) u d.form (length_references d.form) n) g.lengths (declarations u) has.lengths (λ m d e. via (row_of g.lengths m) (rows_there m d e).lengths (same_names d (length_references d.form))) };
+    leads = record { size = has.leads; exact = λ m n. (let k = led m n in ((λ h. leads_of s u a m n (k.0 h)), (λ h. k.1 (of_leads s u a m n h)))) };
+    after = record { size = has.after; exact = exact (λ d n. NamesDeclaration (environment s u a d) u d.form (strong_references d.form) n) g.after (declarations u) has.after (λ m d e. via (row_of g.after m) (rows_there m d e).after (same_named s u a c scope pathed d (strong_references d.form))) };
+    lengths = record { size = has.lengths; exact = exact (λ d n. NamesDeclaration (environment s u a d) u d.form (length_references d.form) n) g.lengths (declarations u) has.lengths (λ m d e. via (row_of g.lengths m) (rows_there m d e).lengths (same_named s u a c scope pathed d (length_references d.form))) };
   }
     where
       told : Tell names methods (tables_of (declarations u) methods) u
@@ -162,29 +124,8 @@ module _ (s : Setting) (u : PackageSource) (a : Entries) (c : Scopes) (names : N
       rows_there : (m : ℕ) (d : Declaration) → slice_get (declarations u) m ≡ Some d → AreRowsOf (env_of (at_declaration c d)) u d.form (rows_at g m)
       rows_there m d e = has.rows m d (slice_get_within (declarations u) m d e) e u (sym scope.path) told
 
-      same_names : (d : Declaration) (rs : List Reference) (n : ℕ) → NamesDeclaration (env_of (at_declaration c d)) u d.form rs n ↔ NamesDeclaration (environment s u a d) u d.form rs n
-      same_names d rs n = names_same s u a c scope pathed d d.form rs n
-
-      same_finds : (d : Declaration) (n : ℕ) → FindsMethod (env_of (at_declaration c d)) u d.form n ↔ FindsMethod (environment s u a d) u d.form n
-      same_finds d n = finds_same s u a c scope pathed d d.form n
-
-      Led : Declaration → ℕ → Type 0
-      Led d n = NamesDeclaration (environment s u a d) u d.form (references d.form) n ⊎ FindsMethod (environment s u a d) u d.form n
-
-      same_led : (d : Declaration) (n : ℕ) → (NamesDeclaration (env_of (at_declaration c d)) u d.form (references d.form) n ⊎ FindsMethod (env_of (at_declaration c d)) u d.form n) ↔ Led d n
-      same_led d n = (
-        (λ h. elim h [ inl k ↦ inl ((same_names d (references d.form) n).0 k) | inr k ↦ inr ((same_finds d n).0 k) ]),
-        (λ h. elim h [ inl k ↦ inl ((same_names d (references d.form) n).1 k) | inr k ↦ inr ((same_finds d n).1 k) ]),
-      )
-
-      led : (m n : ℕ) → Has (row_of g.leads m) n ↔ At (declarations u) m (λ d. Led d n)
-      led m n = exact Led g.leads (declarations u) has.leads (λ k d e. via (row_of g.leads k) (rows_there k d e).leads (same_led d)) m n
-
-      apart : (m n : ℕ) → At (declarations u) m (λ d. Led d n) → Leads s u a m n
-      apart m n k = elim k.2 [ inl h ↦ inl (k.0, k.1, h) | inr h ↦ inr (k.0, k.1, h) ]
-
-      together : (m n : ℕ) → Leads s u a m n → At (declarations u) m (λ d. Led d n)
-      together m n h = elim h [ inl k ↦ (k.0, k.1, inl k.2) | inr k ↦ (k.0, k.1, inr k.2) ]
+      led : (m n : ℕ) → Has (row_of g.leads m) n ↔ At (declarations u) m (λ d. IsLed s u a d n)
+      led m n = exact (IsLed s u a) g.leads (declarations u) has.leads (λ k d e. via (row_of g.leads k) (rows_there k d e).leads (same_led s u a c scope pathed d)) m n
 
 -- ---- borrowed declarations
 

@@ -1,8 +1,10 @@
--- The members of lists that are mapped or filtered.
+-- The members of lists that are mapped or filtered, or that a test finds.
 use Rattle.std.proofs.Common.{◌≡◌, Bool, true, false, List, [], ◌∷◌, map, refl, ap, sym, ◌∙◌, inl, inr}
 use mathlib.Core.Bool.{true≢false}
+use Rattle.std.specs.List.{list_any}
 use Rattle.std.specs.Prelude.{filter, if◌then◌else◌}
 use Rattle.go_base.specs.Lists.{Has}
+use Rattle.go_typings.proofs.Cells.{or_false}
 
 pub has_map : {A B : Type 0} (f : A → B) (xs : List A) (x : A) → Has xs x → Has (map f xs) (f x)
 has_map f [] x h = absurd h
@@ -33,3 +35,9 @@ filter_passes p (y ∷ xs) x h = choose (p y) refl (λ k. filter_passes p xs x k
     choose true f more (inl s) = sym (ap p s) ∙ f
     choose true f more (inr k) = more k
     choose false f more k = more k
+
+-- where no member passes a test, one doesn't
+pub not_any : {A : Type 0} (p : A → Bool) (xs : List A) (x : A) → list_any p xs ≡ false → Has xs x → p x ≡ false
+not_any p [] x e h = absurd h
+not_any p (y ∷ xs) x e (inl q) = sym (ap p q) ∙ (or_false (p y) (list_any p xs) e).0
+not_any p (y ∷ xs) x e (inr h) = not_any p xs x (or_false (p y) (list_any p xs) e).1 h

@@ -1,6 +1,8 @@
 -- The rows of numbers that tables tell are those of the declarations that are named, and of the methods of a type.
 use Rattle.std.proofs.Common.{◌≡◌, ℕ, true, false, ◌&&◌, List, [], map, Option, Some, None, refl, sym, ap, ◌∙◌, subst, inl, inr}
 use mathlib.Core.Bool.{true≢false}
+use Rattle.std.specs.List.{list_any}
+use Rattle.std.specs.Prelude.{is_some}
 use Rattle.go_base.specs.Gathered.{gather}
 use Rattle.go_base.specs.Lists.{Has}
 use Rattle.go_base.proofs.Members.{gather_of, has_split}
@@ -11,7 +13,7 @@ use Rattle.go_declared.specs.declared.names.NamePlace.{NamePlace}
 use Rattle.go_leads.specs.Listed.{Lists}
 use Rattle.go_references.specs.declared.references.Reference.{Reference}
 use Rattle.go_rules.specs.Environments.{Env}
-use Rattle.go_rules.specs.Names.{Named, items_at}
+use Rattle.go_rules.specs.Names.{Named, items_at, value_at}
 use Rattle.go_rules.specs.Nodes.{Node}
 use Rattle.go_typings.specs.DeclarationNodes.{nodes, references}
 use Rattle.go_typings.specs.Declarations.{Form, constants, variables, alias, definition, function, method, Declared, declared, declarations}
@@ -22,9 +24,9 @@ use Rattle.go_typings.proofs.Cells.{either, if_false, if_true}
 use Rattle.go_soundness.proofs.Members.{gathered, has_left, has_right}
 use Rattle.go_declaration_graph.specs.declared.field_keys.FieldKey.{FieldKey}
 use Rattle.go_declaration_graph.specs.inner.FieldKeys.{AreFieldKeys, IsFieldKeyIn, is_among}
-use Rattle.go_declaration_graph.specs.inner.NamedNumbers.{counted, dependencies, named, names_field, number_in, number_of, own_methods}
+use Rattle.go_declaration_graph.specs.inner.NamedNumbers.{counted, dependencies, is_declared_key, named, names_field, number_in, number_of, own_methods}
 use Rattle.go_declaration_graph.proofs.FieldKeySets.{among_tells, both_true}
-use Rattle.go_declaration_graph.proofs.Mapped.{has_map, map_has}
+use Rattle.go_declaration_graph.proofs.Mapped.{has_map, map_has, not_any}
 
 -- ---- a name
 
@@ -35,6 +37,10 @@ number_declared (Some d) n (inr h) = absurd h
 
 declared_number : (o : Option Declared) (n : ℕ) (d : Declared) → o ≡ Some d → d.number ≡ n → Has (number_in (place_of o)) n
 declared_number o n d e f = subst (λ (w : Option Declared). Has (number_in (place_of w)) n) (sym e) (inl f)
+
+number_some : (o : Option NamePlace) (n : ℕ) → Has (number_in o) n → is_some o ≡ true
+number_some None n h = absurd h
+number_some (Some p) n h = refl
 
 module _ (u : PackageSource) (names : Named NamePlace) (are : AreDeclared (declarations u) names) where
   pub named_declared : (r : Reference) (n : ℕ) → Has (named names r) n → IsDeclaredAs u r.name n
@@ -77,6 +83,23 @@ module _ (u : PackageSource) (names : Named NamePlace) (are : AreDeclared (decla
 
       pub counted_tell : Lists (NamesDeclaration E u f rs) (gather (counted names keys) rs)
       counted_tell n = (counted_names n, names_counted n)
+
+  -- ---- where no key is the name of a declaration
+
+  module _ (E : Env) (f : Form) (rs : List Reference) (free : list_any (is_declared_key names) rs ≡ false) where
+    no_named_key : (r : Reference) (n : ℕ) → Has rs r → Has (named names r) n → r.is_key ≡ true → ⊥
+    no_named_key r n h k e = true≢false (sym (ap (λ b. b && is_some (value_at names r.name.text)) e ∙ number_some (value_at names r.name.text) n k) ∙ not_any (is_declared_key names) rs r free h)
+
+    all_names : (n : ℕ) → Has (gather (named names) rs) n → NamesDeclaration E u f rs n
+    all_names n h =
+        let g = gather_of (named names) rs n h in
+        record { reference = g.0; has = g.1; names = named_declared g.0 n g.2; counts = λ e at i k. no_named_key g.0 n g.1 g.2 e }
+
+    names_all : (n : ℕ) → NamesDeclaration E u f rs n → Has (gather (named names) rs) n
+    names_all n k = gathered (named names) rs k.reference n k.has (declared_named k.reference n k.names)
+
+    pub named_tell : Lists (NamesDeclaration E u f rs) (gather (named names) rs)
+    named_tell n = (all_names n, names_all n)
 
   -- ---- what a declaration depends on
 

@@ -51,8 +51,8 @@ fn add(graph: &mut DeclarationGraph, rows: DeclarationRows) -> Result<(), NoMemo
     graph.lengths.push(lengths)
 }
 
-// Makes the environment that of a declaration.
-fn turn_to(env: &mut Env<'_>, declaration: &Declaration<'_>)
+/// Makes the environment that of a declaration.
+pub(crate) fn turn_to(env: &mut Env<'_>, declaration: &Declaration<'_>)
     ensures { env.new ≡ at_declaration env.old (declaration_of declaration.now) }
 {
     env.turn_to(declaration.file);

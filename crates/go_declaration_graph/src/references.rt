@@ -3,7 +3,9 @@ ghost use Rattle.std.specs.Prelude.{◌≡◌, ◌||◌, filter, IfOk};
 ghost use Rattle.go_declarations.specs.Forms.{form_of};
 ghost use Rattle.go_references.specs.References.{in_lengths};
 ghost use Rattle.go_typings.specs.DeclarationNodes as nodes;
+ghost use Rattle.go_declaration_graph.specs.inner.Rows.{picked};
 
+use crate::lengths::lacks_lengths;
 use go_base::list::List;
 use go_base::memory::NoMemory;
 use go_declarations::form::Form;
@@ -12,6 +14,15 @@ use go_references::references::{
 };
 use go_syntax::declaration::VarSpec;
 use std::alloc::Global;
+
+/// Of which references of a declaration a row tells the declarations.
+#[derive(Clone, Copy)]
+pub(crate) enum Kind {
+    /// Those that have to be settled first.
+    Strong,
+    /// Those that stand in the length of an array.
+    InLengths,
+}
 
 // Those that stand by value or in the length of an array.
 fn by_value_or_in_length(
@@ -68,8 +79,8 @@ fn variable_references(alloc: Global, spec: &VarSpec) -> Result<List<Reference>,
     }
 }
 
-/// Those that have to be settled first.
-pub(crate) fn strong_references(alloc: Global, form: Form<'_>) -> Result<List<Reference>, NoMemory>
+// Those that have to be settled first.
+fn strong_references(alloc: Global, form: Form<'_>) -> Result<List<Reference>, NoMemory>
     ensures { IfOk result (λ rs. rs ≡ nodes.strong_references (form_of form.entry)) }
 {
     match form {
@@ -83,12 +94,29 @@ pub(crate) fn strong_references(alloc: Global, form: Form<'_>) -> Result<List<Re
     }
 }
 
-/// Those that stand in the length of an array, in the declaration of a type, a function or a method.
-pub(crate) fn length_references(alloc: Global, form: Form<'_>) -> Result<List<Reference>, NoMemory>
+// Those that stand in the length of an array, in the declaration of a type, a function or a method.
+fn length_references(alloc: Global, form: Form<'_>) -> Result<List<Reference>, NoMemory>
     ensures { IfOk result (λ rs. rs ≡ nodes.length_references (form_of form.entry)) }
 {
+    if lacks_lengths(form) {
+        return Ok(List::new(alloc));
+    }
     match form {
         Form::Constants(_) | Form::Variables(_) => Ok(List::new(alloc)),
         _ => in_lengths(alloc, all_references(alloc, form)?),
+    }
+}
+
+/// The references of a kind.
+pub(crate) fn picked_references(
+    alloc: Global,
+    kind: Kind,
+    form: Form<'_>,
+) -> Result<List<Reference>, NoMemory>
+    ensures { IfOk result (λ rs. rs ≡ picked kind (form_of form.entry)) }
+{
+    match kind {
+        Kind::Strong => strong_references(alloc, form),
+        Kind::InLengths => length_references(alloc, form),
     }
 }

@@ -1,3 +1,4 @@
 pub mod Sifting
 pub mod Joining
 pub mod Ending
+pub mod NoneLost

@@ -1,3 +1,4 @@
 pub mod Graphs
 pub mod JoinedFlags
+pub mod Orders
 pub mod inner

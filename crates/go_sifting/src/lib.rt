@@ -4,5 +4,7 @@
 mod ends;
 pub mod first;
 pub mod graph;
+pub mod order;
+pub mod settled;
 pub mod sift;
 pub mod standing;

@@ -1,23 +1,17 @@
 -- The numbers of the methods that selectors find, by tables.
 -- Own: words of the contracts inside this crate.
-use Rattle.std.specs.Prelude.{◌⊎◌, ℕ, if◌then◌else◌, List, []}
+use Rattle.std.specs.Prelude.{ℕ, if◌then◌else◌, List, []}
 use Rattle.std.specs.Str.{bytes_eq}
-use Rattle.go_base.specs.Gathered.{gather}
 use Rattle.go_base.specs.Lists.{Has}
 use Rattle.go_declared.specs.declared.names.NamePlace.{NamePlace}
 use Rattle.go_leads.specs.Methods.{found_in}
-use Rattle.go_leads.specs.inner.Some.{SomeIn}
 use Rattle.go_leads.specs.declared.methods.FoundMethod.{FoundMethod}
 use Rattle.go_nodes.specs.Trees.{node_of}
 use Rattle.go_nodes.specs.declared.tree.Tree.{Tree}
 use Rattle.go_rules.specs.Environments.{Env}
 use Rattle.go_rules.specs.Names.{Named}
 use Rattle.go_rules.specs.Nodes.{Node}
-use Rattle.go_typings.specs.DeclarationNodes.{nodes, references}
-use Rattle.go_typings.specs.Declarations.{Form}
-use Rattle.go_declaration_graph.specs.declared.field_keys.FieldKey.{FieldKey}
 use Rattle.go_declaration_graph.specs.inner.MethodNumbers.{Numbered, numbers_at}
-use Rattle.go_declaration_graph.specs.inner.NamedNumbers.{counted}
 
 -- the methods of the package of this path that are found so
 abbrev pub found : List ℕ → Named NamePlace → List Numbered → FoundMethod → List ℕ
@@ -29,9 +23,3 @@ FindsNumber E names tables at n = (m : FoundMethod) × found_in E at m × Has (f
 
 abbrev pub FindsNumberIn : Env → Named NamePlace → List Numbered → Tree → ℕ → Type 0
 FindsNumberIn E names tables t n = FindsNumber E names tables (node_of t) n
-
--- a step leads to the number by a name, or by a method that is found
-abbrev pub LeadsTo : Env → Named NamePlace → List Numbered → List FieldKey → Form → ℕ → Type 0
-LeadsTo E names tables keys f n =
-    Has (gather (counted names keys) (references f)) n
-    ⊎ SomeIn (FindsNumber E names tables) (nodes f) n

@@ -1,6 +1,6 @@
 -- The numbers of the declarations that references name, and of the methods of a defined type, by tables.
 -- Own: words of the contracts inside this crate.
-use Rattle.std.specs.Prelude.{ℕ, Bool, ◌&&◌, if◌then◌else◌, List, [], ◌∷◌, ◌++◌, map, Option, None, Some}
+use Rattle.std.specs.Prelude.{ℕ, Bool, ◌&&◌, if◌then◌else◌, List, [], ◌∷◌, ◌++◌, map, Option, None, Some, is_some}
 use Rattle.go_base.specs.Gathered.{gather}
 use Rattle.go_declared.specs.declared.methods.MethodRow.{MethodRow}
 use Rattle.go_declared.specs.declared.names.NamePlace.{NamePlace}
@@ -18,6 +18,10 @@ number_in (Some p) = p.number ∷ []
 -- the number of the declaration of the name
 abbrev pub named : Named NamePlace → Reference → List ℕ
 named names r = number_in (value_at names r.name.text)
+
+-- the reference is a key, and the name of a declaration
+abbrev pub is_declared_key : Named NamePlace → Reference → Bool
+is_declared_key names r = r.is_key && is_some (value_at names r.name.text)
 
 -- the reference is the key of a field
 abbrev pub names_field : List FieldKey → Reference → Bool

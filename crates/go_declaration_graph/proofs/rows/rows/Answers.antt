@@ -5,6 +5,6 @@ use Rattle.go_declaration_graph.proofs.rows.rows.Goals as goal
 
 pub returns : goal.returns
 returns c =
-    rows_in c.args.names.now c.args.methods.now c.args.index.now.tables (env_of c.args.env.now) (form_of c.args.form) c.in_ok-keys.keys.keys
+    rows_in c.args.names.now c.args.methods.now c.args.index.now.tables (env_of c.args.env.now) (form_of c.args.form)
     (record { depends = c.in_ok-depends.depends; leads = c.in_ok-leads.leads; after = c.in_ok-after.after; lengths = c.in_ok-lengths.lengths })
-    c.in_ok-keys.ensures c.in_ok-depends.ensures c.in_ok-leads.ensures c.in_ok-after.ensures c.in_ok-lengths.ensures
+    c.in_ok-depends.ensures c.in_ok-leads.ensures c.in_ok-after.ensures c.in_ok-lengths.ensures

@@ -1,0 +1,277 @@
+//! What mostly tells by itself that no declaration of a package is lost.
+ghost use Rattle.std.specs.Prelude.{◌≡◌, ◌≢◌, ◌++◌, ◌∷◌, ℕ, true, List as Sequence, [], length, replicate, set, IfOk, OnOk};
+ghost use Rattle.go_base.specs.Lists.{Has};
+ghost use Rattle.go_declarations.specs.Listings.{declaration_of, declarations_of};
+ghost use Rattle.go_declared.specs.MethodTables.{AreMethods};
+ghost use Rattle.go_declared.specs.NameTables.{AreDeclared};
+ghost use Rattle.go_graphs.specs.Flags.{AreFlagsOf};
+ghost use Rattle.go_package_scopes.specs.KeptScopes.{IsMoved};
+ghost use Rattle.go_package_scopes.specs.PackageScopes.{IsScopeOf, at_declaration};
+ghost use Rattle.go_rules.specs.Scopes.{Scopes, env_of};
+ghost use Rattle.go_sifting.specs.Orders.{IsOrderOf};
+ghost use Rattle.go_typings.specs.Declarations.{declarations as declarations_in};
+ghost use Rattle.go_typings.specs.PackageEnvironments.{Entries};
+ghost use Rattle.go_typings.specs.Sources.{PackageSource, Setting};
+ghost use Rattle.go_declaration_graph.specs.inner.MethodNumbers.{tables_of};
+ghost use Rattle.go_declaration_graph.specs.inner.Orders.{HasReach, IsKindRow};
+ghost use Rattle.go_declaration_graph.specs.inner.Rows.{HasRowsOf, LeadsIn};
+
+use crate::graph::turn_to;
+use crate::method_index::MethodIndex;
+use crate::references::Kind;
+use crate::rows::{kind_row, leads_row};
+use go_base::list::List;
+use go_base::memory::NoMemory;
+use go_declarations::listing::Declaration;
+use go_declared::methods::DeclaredMethods;
+use go_declared::names::DeclaredNames;
+use go_graphs::flags::{flag, flags_of};
+use go_rules::env::Env;
+use go_sifting::order::DeclarationOrder;
+use std::alloc::Global;
+
+// Adds the row of a declaration.
+fn add_row(
+    alloc: Global,
+    env: &mut Env<'_>,
+    names: &DeclaredNames,
+    kind: Kind,
+    declaration: &Declaration<'_>,
+    rows: &mut List<List<u32>>,
+) -> Result<(), NoMemory>
+    ensures moved { env.new ≡ at_declaration env.old (declaration_of declaration.now) }
+    ensures row { OnOk result ((r : Sequence ℕ) × (rows.new ≡ rows.old ++ r ∷ []) × IsKindRow names.now kind (env_of (at_declaration env.old (declaration_of declaration.now))) (declaration_of declaration.now).form r) }
+{
+    turn_to(env, declaration);
+    let row = kind_row(env, alloc, names, kind, declaration.form)?;
+    rows.push(row)
+}
+
+// The rows of each of these declarations.
+fn kind_rows(
+    alloc: Global,
+    env: &mut Env<'_>,
+    names: &DeclaredNames,
+    kind: Kind,
+    declarations: &[Declaration<'_>],
+) -> Result<List<List<u32>>, NoMemory>
+    ensures moved { IsMoved env.old env.new }
+    ensures rows { IfOk result (HasRowsOf (IsKindRow names.now kind) env.old (declarations_of declarations.now) (length declarations.now)) }
+{
+    let mut rows = List::new(alloc);
+    for declaration in declarations {
+        add_row(alloc, env, names, kind, declaration, &mut rows)?;
+    }
+    Ok(rows)
+}
+
+// Rows of steps, and flags of the declarations whose row is told.
+#[derive(Drop)]
+struct Reach {
+    rows: Vec<List<u32>>,
+    flags: Vec<bool>,
+}
+
+fn empty_rows(alloc: Global, count: usize) -> Result<Vec<List<u32>>, NoMemory>
+    ensures { IfOk result (λ rows. rows.items ≡ replicate count []) }
+{
+    let mut rows = Vec::new(alloc);
+    for _ in 0..count {
+        rows.push(List::new(alloc))?;
+    }
+    Ok(rows)
+}
+
+// No row is told.
+fn no_reach(alloc: Global, count: usize) -> Result<Reach, NoMemory>
+    ensures rows { IfOk result (λ reach. reach.rows.items ≡ replicate count []) }
+    ensures flags { IfOk result (λ reach. AreFlagsOf count (Has []) reach.flags.items) }
+{
+    let rows = empty_rows(alloc, count)?;
+    let flags = flags_of(alloc, count, &[])?;
+    Ok(Reach { rows, flags })
+}
+
+fn push_all(pending: &mut Vec<u32>, numbers: &[u32]) -> Result<(), NoMemory> {
+    for number in numbers {
+        pending.push(*number)?;
+    }
+    Ok(())
+}
+
+// The numbers in these rows.
+fn numbers_in(alloc: Global, rows: &[List<u32>]) -> Result<Vec<u32>, NoMemory> {
+    let mut numbers = Vec::new(alloc);
+    for row in rows {
+        push_all(&mut numbers, row.items())?;
+    }
+    Ok(numbers)
+}
+
+fn number_at(numbers: &Vec<u32>, place: usize) -> Option<usize> {
+    match numbers.get(place) {
+        None => None,
+        Some(number) => Some(*number as usize),
+    }
+}
+
+fn put_row(rows: &mut Vec<List<u32>>, number: usize, row: List<u32>)
+    ensures { rows.new.items ≡ set rows.old.items number row }
+{
+    if number < rows.len() {
+        rows[number] = row;
+    }
+}
+
+fn put_flag(flags: &mut Vec<bool>, number: usize)
+    ensures { flags.new.items ≡ set flags.old.items number true }
+{
+    if number < flags.len() {
+        flags[number] = true;
+    }
+}
+
+// Tells the row of the declaration of a number. What it leads to is pending then.
+fn tell(
+    alloc: Global,
+    env: &mut Env<'_>,
+    names: &DeclaredNames,
+    index: &MethodIndex,
+    declaration: &Declaration<'_>,
+    number: usize,
+    reach: &mut Reach,
+    pending: &mut Vec<u32>,
+) -> Result<(), NoMemory>
+    ensures moved { env.new ≡ at_declaration env.old (declaration_of declaration.now) }
+    ensures flags { OnOk result (reach.new.flags.items ≡ set reach.old.flags.items number true) }
+    ensures row { OnOk result ((r : Sequence ℕ) × (reach.new.rows.items ≡ set reach.old.rows.items number r) × LeadsIn names.now index.now.tables (env_of (at_declaration env.old (declaration_of declaration.now))) (declaration_of declaration.now).form r) }
+{
+    turn_to(env, declaration);
+    let row = leads_row(env, alloc, names, index, declaration.form)?;
+    push_all(pending, row.items())?;
+    put_row(&mut reach.rows, number, row);
+    put_flag(&mut reach.flags, number);
+    Ok(())
+}
+
+// The same, unless it is told already or there is no such declaration.
+fn visit(
+    alloc: Global,
+    env: &mut Env<'_>,
+    names: &DeclaredNames,
+    index: &MethodIndex,
+    declarations: &[Declaration<'_>],
+    number: usize,
+    reach: &mut Reach,
+    pending: &mut Vec<u32>,
+) -> Result<(), NoMemory>
+    ensures moved { IsMoved env.old env.new }
+    ensures reach { OnOk result ((c : Scopes) → IsMoved c env.old → HasReach names.now index.now.tables c (declarations_of declarations.now) reach.old → HasReach names.now index.now.tables c (declarations_of declarations.now) reach.new) }
+{
+    if flag(&reach.flags, number) {
+        return Ok(());
+    }
+    if number >= declarations.len() {
+        return Ok(());
+    }
+    let declaration = &declarations[number];
+    tell(
+        alloc,
+        env,
+        names,
+        index,
+        declaration,
+        number,
+        reach,
+        pending,
+    )?;
+    Ok(())
+}
+
+// Tells the rows of those that are pending, and of those to which steps lead from them.
+fn follow(
+    alloc: Global,
+    env: &mut Env<'_>,
+    names: &DeclaredNames,
+    index: &MethodIndex,
+    declarations: &[Declaration<'_>],
+    reach: &mut Reach,
+    pending: &mut Vec<u32>,
+) -> Result<(), NoMemory>
+    ensures moved { IsMoved env.old env.new }
+    ensures reach { OnOk result (HasReach names.now index.now.tables env.old (declarations_of declarations.now) reach.old → HasReach names.now index.now.tables env.old (declarations_of declarations.now) reach.new) }
+{
+    for at in 0..usize::MAX {
+        match number_at(pending, at) {
+            None => return Ok(()),
+            Some(number) => visit(
+                alloc,
+                env,
+                names,
+                index,
+                declarations,
+                number,
+                reach,
+                pending,
+            )?,
+        }
+    }
+    Ok(())
+}
+
+// The steps from the declarations that are named in lengths, and from those to which these lead.
+fn reach_of(
+    alloc: Global,
+    env: &mut Env<'_>,
+    declarations: &[Declaration<'_>],
+    names: &DeclaredNames,
+    methods: &DeclaredMethods,
+    lengths: &[List<u32>],
+) -> Result<Reach, NoMemory>
+    ensures moved { IsMoved env.old env.new }
+    ensures reach { IfOk result (HasReach names.now (tables_of (declarations_of declarations.now) methods.now) env.old (declarations_of declarations.now)) }
+{
+    let mut reach = no_reach(alloc, declarations.len())?;
+    let mut pending = numbers_in(alloc, lengths)?;
+    if pending.is_empty() {
+        return Ok(reach);
+    }
+    let index = MethodIndex::of(alloc, declarations, methods)?;
+    follow(
+        alloc,
+        env,
+        names,
+        &index,
+        declarations,
+        &mut reach,
+        &mut pending,
+    )?;
+    Ok(reach)
+}
+
+/// Which of a package's declarations have to be settled before which, which are named in lengths, and where steps lead from
+/// these, where the environment has what is had of the package. `names` tells where the declarations declare names, and
+/// `methods` which methods they declare. The file in turn and the value of `iota` change. For numbers past 32 bits there is
+/// no memory.
+pub fn order(
+    alloc: Global,
+    env: &mut Env<'_>,
+    declarations: &[Declaration<'_>],
+    names: &DeclaredNames,
+    methods: &DeclaredMethods,
+) -> Result<DeclarationOrder, NoMemory>
+    requires names { AreDeclared (declarations_of declarations.now) names.now }
+    requires methods { AreMethods (declarations_of declarations.now) methods.now }
+    ensures order { (s : Setting) (u : PackageSource) (a : Entries) → declarations_in u ≡ declarations_of declarations.now → u.path ≢ [] → IsScopeOf s u a env.old → IfOk result (λ o. IsOrderOf s u a o) }
+    ensures moved { IsMoved env.old env.new }
+{
+    let after = kind_rows(alloc, env, names, Kind::Strong, declarations)?;
+    let lengths = kind_rows(alloc, env, names, Kind::InLengths, declarations)?;
+    let reach = reach_of(alloc, env, declarations, names, methods, lengths.items())?;
+    Ok(DeclarationOrder {
+        after,
+        lengths,
+        leads: reach.rows,
+        reached: reach.flags,
+    })
+}
