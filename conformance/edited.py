@@ -134,7 +134,11 @@ class Crate:
         file, number = PLACE.match(line).groups()
         if file.startswith("src/"):
             text = texts.get(file) or self.source(file)
-            return function_at(file, text, sum(len(it) + 1 for it in text.split("\n")[:int(number)])) == function
+            lines, at = text.split("\n"), int(number)
+            # a function's attributes stand before it
+            while lines[at - 1].lstrip().startswith("#[") and at < len(lines):
+                at += 1
+            return function_at(file, text, sum(len(it) + 1 for it in lines[:at])) == function
         return "::%s::" % function in "::" + "::".join(file[len("proofs/"):].split("/"))
 
     def tried(self):
