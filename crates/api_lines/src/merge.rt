@@ -73,7 +73,7 @@ fn add_all(alloc: Global, lines: List<Line>, merged: &mut Lines) -> Result<(), N
     Ok(())
 }
 
-// Those of the first list and of one list or more beside it.
+// The merged lines of a first list and of others.
 fn merge_several(
     alloc: Global,
     first: List<Line>,

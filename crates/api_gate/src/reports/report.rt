@@ -12,36 +12,57 @@ use crate::reports::listing::{features_report, signed_report};
 use crate::reports::making::make_report;
 use api_findings::findings::Findings;
 use api_inputs::inputs::Inputs;
+use api_judge::verdict::Verdict;
+use api_lines::line::Line;
 use api_words::option_name::Mode;
 use api_words::request::Request;
+use go_base::list::List;
 use go_base::memory::NoMemory;
 use std::alloc::Global;
+use std::mem;
+
+// The report on the features and the verdicts of the platforms.
+fn report_on(
+    alloc: Global,
+    request: &Request,
+    inputs: &Inputs,
+    lists: List<List<Line>>,
+    verdicts: &[Verdict],
+) -> Decision
+    requires some { 0 < length request.now.platforms }
+    requires same { length lists ≡ length request.now.platforms }
+    requires plain { Each (Each HasNoContext) lists }
+    requires order { Each AreInOrder lists }
+    ensures { IsOfFindings request.now inputs.now lists verdicts.now result }
+{
+    match request.mode {
+        Mode::Features => match features_report(alloc, request, lists) {
+            Ok(text) => Decision::Report(text),
+            Err(NoMemory) => Decision::NoMemory,
+        },
+        Mode::Frozen => match signed_report(alloc, request, inputs, lists) {
+            Ok(signed) => signed.decision(),
+            Err(NoMemory) => Decision::NoMemory,
+        },
+        Mode::Judge => judge_report(alloc, request, verdicts),
+        Mode::Advise => advise_report(alloc, request, verdicts),
+        Mode::Gate => gate_report(alloc, request, inputs, lists, verdicts),
+        Mode::Make => match make_report(alloc, request, lists, verdicts) {
+            Ok(text) => Decision::Report(text),
+            Err(NoMemory) => Decision::NoMemory,
+        },
+    }
+}
 
 /// The report of a request on its inputs and on what is found there; or that the last version is refused, where the mode advises a
 /// version; or that no memory was left.
-pub fn report(alloc: Global, request: &Request, inputs: &Inputs, found: Findings) -> Decision
+pub fn report(alloc: Global, request: &Request, inputs: &Inputs, mut found: Findings) -> Decision
     requires some { 0 < length request.now.platforms }
     requires same { length found.features ≡ length request.now.platforms }
     requires plain { Each (Each HasNoContext) found.features }
     requires order { Each AreInOrder found.features }
     ensures { IsOfFindings request.now inputs.now found.features found.verdicts result }
 {
-    let Findings { features, verdicts } = found;
-    match request.mode {
-        Mode::Features => match features_report(alloc, request, features) {
-            Ok(text) => Decision::Report(text),
-            Err(NoMemory) => Decision::NoMemory,
-        },
-        Mode::Frozen => match signed_report(alloc, request, inputs, features) {
-            Ok(signed) => signed.decision(),
-            Err(NoMemory) => Decision::NoMemory,
-        },
-        Mode::Judge => judge_report(alloc, request, verdicts.items()),
-        Mode::Advise => advise_report(alloc, request, verdicts.items()),
-        Mode::Gate => gate_report(alloc, request, inputs, features, verdicts.items()),
-        Mode::Make => match make_report(alloc, request, features, verdicts.items()) {
-            Ok(text) => Decision::Report(text),
-            Err(NoMemory) => Decision::NoMemory,
-        },
-    }
+    let features = mem::replace(&mut found.features, List::new(alloc));
+    report_on(alloc, request, inputs, features, found.verdicts.items())
 }

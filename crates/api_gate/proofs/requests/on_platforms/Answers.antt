@@ -9,4 +9,4 @@ pub returns-in-Ok-clause-decision : goal.returns-in-Ok-clause-decision
 returns-in-Ok-clause-decision g c = found_decides c.args.request.now c.args.inputs.now _ _ _ c.in-Ok.found c.report.result c.requires.modules c.as_ref.ensures.value c.items.ensures c.in-Ok.ensures.answer c.report.ensures
 
 pub report-requires-clause-order : goal.report-requires-clause-order
-report-requires-clause-order g c = found_in_order _ _ _ _ c.in-Ok.ensures.answer
+report-requires-clause-order g c = found_in_order _ _ c.args.inputs.now.tree c.args.inputs.now.std_tree _ c.in-Ok.found c.in-Ok.ensures.answer

@@ -1,24 +1,10 @@
-use Rattle.api_gate.specs.runs.Outcomes.{frozen_report}
-use Rattle.api_gate.proofs.DecisionEnds.{features_decide, make_decides, report_decides}
+use Rattle.std.proofs.Common.{List, subst}
+use Rattle.api_gate.specs.inner.Decisions.{IsOfFindings}
+use Rattle.api_judge.specs.declared.verdict.Verdict.{Verdict}
+use Rattle.api_lines.specs.declared.line.Line.{Line}
 use Rattle.api_gate.proofs.reports.report.report.Goals as goal
 
-pub returns-in-Ok : goal.returns-in-Ok
-returns-in-Ok c = features_decide c.args.request.now c.args.inputs.now c.args.found.features c.args.found.verdicts c.in-Ok.text c.in-Features.is c.in-Ok.ensures
-
-pub returns-in-Ok-signed_report : goal.returns-in-Ok-signed_report
-returns-in-Ok-signed_report c =
-    report_decides c.args.request.now c.args.inputs.now c.args.found.features c.args.found.verdicts c.in-Ok-signed_report.signed.lost c.in-Ok-signed_report.signed.text c.decision.result c.decision.ensures
-    (frozen_report c.in-Frozen.is c.in-Ok-signed_report.ensures)
-
-pub returns-in-Judge : goal.returns-in-Judge
-returns-in-Judge c = rw c.items.ensures at c.judge_report.ensures c.args.inputs.now c.args.found.features
-
-pub returns-in-Advise : goal.returns-in-Advise
-returns-in-Advise c = rw c.items-in-Advise.ensures at c.advise_report.ensures c.args.inputs.now c.args.found.features
-
-pub returns-in-Gate : goal.returns-in-Gate
-returns-in-Gate c = rw c.items-in-Gate.ensures at c.gate_report.ensures
-
-pub returns-in-Ok-make_report : goal.returns-in-Ok-make_report
-returns-in-Ok-make_report c =
-    make_decides c.args.request.now c.args.inputs.now c.args.found.features c.args.found.verdicts c.in-Ok-make_report.text c.in-Make.is (rw c.items-in-Make.ensures at c.in-Ok-make_report.ensures)
+pub returns : goal.returns
+returns c =
+    subst (λ (p : List (List Line) × List Verdict). IsOfFindings c.args.request.now c.args.inputs.now p.0 p.1 c.report_on.result) (λ i. (c.replace-features.ensures.value i, c.items.ensures i))
+    c.report_on.ensures
