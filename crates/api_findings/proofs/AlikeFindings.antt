@@ -1,5 +1,5 @@
 -- What is found on a platform is found on one that is alike.
-use Rattle.std.proofs.Common.{◌≡◌, ℕ, Option, Some, None, List, [], ◌∷◌, ◌++◌, Result, Ok, sym, ◌∙◌, subst, inl, inr}
+use Rattle.std.proofs.Common.{◌≡◌, ℕ, Option, Some, List, [], ◌∷◌, ◌++◌, Result, Ok, sym, subst, inr}
 use Rattle.api_findings.specs.Findings.{Finds, features_alone, with_verdict}
 use Rattle.api_findings.specs.declared.found.Found.{Found}
 use Rattle.api_findings.specs.inner.Found.{IsFoundAlike, listed, verdicts_of}
@@ -11,7 +11,6 @@ use Rattle.go_file_choices.specs.AlikePlatforms.{AllChosenAlike, AreAlike, files
 use Rattle.go_imports.proofs.Members.{has_left}
 use Rattle.go_model.specs.declared.files.platform.Platform.{Platform}
 use Rattle.go_model.specs.declared.files.tree.Tree.{Tree}
-use Rattle.go_model.specs.declared.files.tree.TreeFile.{TreeFile}
 use Rattle.go_model.specs.worlds.Worlds.{Packages}
 use Rattle.go_reading.specs.TreeUnits.{AreUnitsOfTrees}
 use Rattle.go_typings.specs.PackageWorlds.{IsWorldOf}

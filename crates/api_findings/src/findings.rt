@@ -154,8 +154,8 @@ fn find_by<G: Gate, L: Copy + Send>(
 
 /// What is found on these platforms in the new tree over the standard library's and, where there is an old tree, in both; or `Refused`
 /// with the fault line of the first platform on which a tree is refused, the old one before the new; or `NoMemory`. The barred paths are
-/// those of the run's modules, which no package of the standard library may have. The packages are typed once for all platforms that
-/// are alike. The counter rises by at most the number of the packages of both trees on all platforms together.
+/// those of the run's modules, which no package of the standard library may have. The counter rises by at most the number of the
+/// packages of both trees on all platforms together.
 pub fn find<G: Gate, L: Copy + Send>(
     alloc: Global,
     old_tree: Option<&Tree>,

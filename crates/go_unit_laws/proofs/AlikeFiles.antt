@@ -1,5 +1,5 @@
 -- Where platforms choose the same files, they make the same of them.
-use Rattle.std.proofs.Common.{◌≡◌, ℕ, Option, Some, None, List, [], ◌∷◌, ◌++◌, refl, sym, ◌∙◌, subst, inl, inr}
+use Rattle.std.proofs.Common.{ℕ, Option, Some, None, List, [], ◌∷◌, ◌++◌, refl, sym, ◌∙◌, subst, inl, inr}
 use Rattle.go_base.specs.Lists.{Has}
 use Rattle.go_file_choices.specs.AlikePlatforms.{AllChosenAlike, ChooseAlike}
 use Rattle.go_imports.proofs.Members.{has_last, has_left}

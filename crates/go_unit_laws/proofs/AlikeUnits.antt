@@ -1,5 +1,5 @@
 -- Where platforms choose the same files of two trees, the trees have the same units on both.
-use Rattle.std.proofs.Common.{◌≡◌, ℕ, Bool, true, false, List, Result, Ok, Err}
+use Rattle.std.proofs.Common.{ℕ, Bool, true, false, List, Result, Ok, Err}
 use Rattle.std.specs.List.{filter}
 use Rattle.std.specs.Prelude.{bytes_eq}
 use Rattle.go_base.specs.Lists.{Has}
