@@ -1,3 +1,5 @@
+pub mod AlikeFindings
+pub mod CopiedItems
 pub mod FoundOn
 pub mod OneFinding
 pub mod OneListing

@@ -1,13 +1,15 @@
 //! What a run finds in its trees on platforms.
-ghost use Rattle.std.specs.Prelude.{◌≡◌, ◌≢◌, ◌++◌, ◌∷◌, [], IfOk, OnOk, length};
+ghost use Rattle.std.specs.Prelude.{◌≡◌, ◌≢◌, ◌<◌, ◌++◌, ◌∷◌, [], IfOk, OnOk, get_or, length, slice_get};
 ghost use Rattle.std.specs.Option.{option_copied};
 ghost use Rattle.api_findings.specs.Checks.{CountsAtMost};
 ghost use Rattle.api_findings.specs.Findings.{AnswersFindings, IsOldTree};
-ghost use Rattle.api_findings.specs.inner.Found.{verdicts_of};
+ghost use Rattle.api_findings.specs.inner.Found.{AnswersFound, IsFoundAlike, verdicts_of};
 ghost use Rattle.api_lines.specs.Merging.{HasNoContext};
 ghost use Rattle.go_base.specs.Lists.{Each, Has};
+ghost use Rattle.go_file_choices.specs.AlikePlatforms.{AreFirsts, files_of};
 ghost use Rattle.go_model.specs.files.Trees.{IsTree};
 
+use crate::copies::{lines_copied, verdict_at};
 use crate::found::{Found, found_on};
 use api_judge::verdict::Verdict;
 use api_lines::line::Line;
@@ -16,9 +18,11 @@ use go_base::list::List;
 use go_base::memory::NoMemory;
 use go_base::steps::Steps;
 use go_base::text::Text;
+use go_file_choices::alike::first_alike;
 use go_model::files::platform::Platform;
 use go_model::files::tree::Tree;
 use go_outside::gate::Gate;
+use go_unit_laws::laws::alike_units;
 use std::alloc::Global;
 
 /// What a run finds in its trees on platforms.
@@ -54,6 +58,98 @@ impl Findings {
             }
         }
     }
+
+    // What was found on the platform of this number, once more.
+    fn found_at(&self, alloc: Global, number: usize) -> Result<Found, NoMemory>
+        requires { number < length self.now.features }
+        ensures lines { IfOk result (λ found. found.lines ≡ get_or self.now.features number []) }
+        ensures verdict { IfOk result (λ found. found.verdict ≡ slice_get self.now.verdicts number) }
+    {
+        let lines = lines_copied(alloc, self.features.items()[number].items())?;
+        let verdict = verdict_at(alloc, self.verdicts.items(), number)?;
+        Ok(Found { lines, verdict })
+    }
+}
+
+// What is found on a platform, where the first one that is alike has this number: what was found there already, or what is found now.
+fn found_next<G: Gate, L: Copy + Send>(
+    alloc: Global,
+    all: &Findings,
+    first: usize,
+    old_tree: Option<&Tree>,
+    tree: &Tree,
+    std_tree: &Tree,
+    barred: &[Text],
+    platform: Platform,
+    gate: &G,
+    steps: &mut Steps<L>,
+) -> Result<Found, PlatformError>
+    requires alike { first < length all.now.features → IsFoundAlike barred.now (option_copied old_tree) tree.now std_tree.now platform (get_or all.now.features first []) (slice_get all.now.verdicts first) }
+    requires old { IsOldTree barred.now (option_copied old_tree) }
+    requires tree { IsTree tree.now }
+    requires std { IsTree std_tree.now }
+    requires named { tree.now.module ≢ [] }
+    requires barred { Has barred.now tree.now.module }
+    ensures answer { AnswersFound barred.now (option_copied old_tree.entry) tree.now std_tree.now platform result }
+    ensures steps { CountsAtMost barred.now (option_copied old_tree.entry) tree.now std_tree.now (platform ∷ []) steps.old steps.new }
+{
+    alike_units();
+    if first < all.features.items().len() {
+        return match all.found_at(alloc, first) {
+            Ok(found) => Ok(found),
+            Err(NoMemory) => Err(PlatformError::NoMemory),
+        };
+    }
+    found_on(
+        alloc, old_tree, tree, std_tree, barred, platform, gate, steps,
+    )
+}
+
+// What `find` says, by the numbers of the first platforms that are alike.
+fn find_by<G: Gate, L: Copy + Send>(
+    alloc: Global,
+    firsts: &[usize],
+    old_tree: Option<&Tree>,
+    tree: &Tree,
+    std_tree: &Tree,
+    barred: &[Text],
+    platforms: &[Platform],
+    gate: &G,
+    steps: &mut Steps<L>,
+) -> Result<Findings, PlatformError>
+    requires firsts { AreFirsts (files_of (option_copied old_tree) tree.now std_tree.now) platforms.now firsts.now }
+    requires old { IsOldTree barred.now (option_copied old_tree) }
+    requires tree { IsTree tree.now }
+    requires std { IsTree std_tree.now }
+    requires named { tree.now.module ≢ [] }
+    requires barred { Has barred.now tree.now.module }
+    ensures answer { AnswersFindings barred.now (option_copied old_tree.entry) tree.now std_tree.now platforms.now result }
+    ensures steps { CountsAtMost barred.now (option_copied old_tree.entry) tree.now std_tree.now platforms.now steps.old steps.new }
+{
+    let features = List::new(alloc);
+    let verdicts = List::new(alloc);
+    let mut all = Findings { features, verdicts };
+    for at in 0..platforms.len() {
+        match found_next(
+            alloc,
+            &all,
+            firsts[at],
+            old_tree,
+            tree,
+            std_tree,
+            barred,
+            platforms[at],
+            gate,
+            steps,
+        ) {
+            Err(error) => return Err(error),
+            Ok(found) => match all.push(found) {
+                Ok(()) => {}
+                Err(NoMemory) => return Err(PlatformError::NoMemory),
+            },
+        }
+    }
+    Ok(all)
 }
 
 /// What is found on these platforms in the new tree over the standard library's and, where there is an old tree, in both; or `Refused`
@@ -80,20 +176,18 @@ pub fn find<G: Gate, L: Copy + Send>(
     ensures plain { IfOk result (λ found. Each (Each HasNoContext) found.features) }
     ensures steps { CountsAtMost barred.now (option_copied old_tree.entry) tree.now std_tree.now platforms.now steps.old steps.new }
 {
-    let mut all = Findings {
-        features: List::new(alloc),
-        verdicts: List::new(alloc),
-    };
-    for platform in platforms {
-        match found_on(
-            alloc, old_tree, tree, std_tree, barred, *platform, gate, steps,
-        ) {
-            Err(error) => return Err(error),
-            Ok(found) => match all.push(found) {
-                Ok(()) => {}
-                Err(NoMemory) => return Err(PlatformError::NoMemory),
-            },
-        }
+    match first_alike(alloc, old_tree, tree, std_tree, platforms) {
+        Err(NoMemory) => Err(PlatformError::NoMemory),
+        Ok(firsts) => find_by(
+            alloc,
+            firsts.items(),
+            old_tree,
+            tree,
+            std_tree,
+            barred,
+            platforms,
+            gate,
+            steps,
+        ),
     }
-    Ok(all)
 }

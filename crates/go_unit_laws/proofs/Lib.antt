@@ -1,4 +1,7 @@
 pub mod Acyclic
+pub mod AlikeAnswers
+pub mod AlikeFiles
+pub mod AlikeUnits
 pub mod OneAnswer
 pub mod OneFiles
 pub mod OneList

@@ -1,5 +1,6 @@
 //! Laws of the units of trees.
-ghost use Rattle.std.specs.Prelude.{◌≡◌, ◌≢◌, ℕ, List, Err, Ok, map};
+ghost use Rattle.std.specs.Prelude.{◌≡◌, ◌≢◌, ℕ, List, Err, Ok, Result, map};
+ghost use Rattle.go_file_choices.specs.AlikePlatforms.{AllChosenAlike};
 ghost use Rattle.go_model.specs.declared.files.platform.Platform.{Platform};
 ghost use Rattle.go_model.specs.declared.files.tree.Tree.{Tree};
 ghost use Rattle.go_reading.specs.TreeUnits.{AreUnitsOfTrees};
@@ -8,7 +9,7 @@ ghost use Rattle.go_units.specs.declared.unit_error.UnitError.{UnitError};
 ghost use Rattle.go_units.specs.declared.unit_error.UnitError.TheVariants.{NoMemory};
 ghost use Rattle.go_units.specs.declared.unit_list.Units.{Units};
 
-use go_reading::laws::{one_folder_list, one_reading};
+use go_reading::laws::{files_by_name, one_folder_list, one_reading};
 
 /// Trees have one list of units on a platform, or else one refusal: the units are written the same, in the same order. Want of
 /// memory apart, which may come at any time.
@@ -19,4 +20,11 @@ pub fn one_answer()
 {
     one_folder_list();
     one_reading();
+}
+
+/// Two platforms that choose the same files of the trees have the same units of them, or the same refusal.
+pub fn alike_units()
+    ensures { (p q : Platform) (barred : List (List ℕ)) (tree std_tree : Tree) (r : Result Units UnitError) → AllChosenAlike tree.files p q → AllChosenAlike std_tree.files p q → AreUnitsOfTrees p barred tree std_tree r → AreUnitsOfTrees q barred tree std_tree r }
+{
+    files_by_name();
 }

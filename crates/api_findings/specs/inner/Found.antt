@@ -6,8 +6,10 @@ use Rattle.api_findings.specs.declared.found.Found.{Found}
 use Rattle.api_judge.specs.Verdicts.{IsVerdict}
 use Rattle.api_judge.specs.declared.verdict.Verdict.{Verdict}
 use Rattle.api_lines.specs.Lines.{IsListing}
+use Rattle.api_lines.specs.declared.line.Line.{Line}
 use Rattle.api_worlds.specs.declared.error.PlatformError.{PlatformError}
 use Rattle.api_worlds.specs.declared.error.PlatformError.TheVariants as error
+use Rattle.go_file_choices.specs.AlikePlatforms.{AreAlike, files_of}
 use Rattle.go_model.specs.declared.files.platform.Platform.{Platform}
 use Rattle.go_model.specs.declared.files.tree.Tree.{Tree}
 use Rattle.go_model.specs.worlds.Worlds.{Packages}
@@ -38,3 +40,9 @@ module _ (barred : List (List ℕ)) (old : Option Tree) (tree std_tree : Tree) w
   abbrev pub AnswersFound : Platform → Result Found PlatformError → Type 0
   AnswersFound p (Ok found) = Finds barred old tree std_tree p found.lines (verdicts_of found)
   AnswersFound p (Err e) = IsError p e
+
+  -- what was found on a platform that is alike
+  pub record IsFoundAlike (p : Platform) (lines : List Line) (verdict : Option Verdict) : Type 0 where
+    pub earlier : Platform
+    pub alike : AreAlike (files_of old tree std_tree) earlier p
+    pub found : Finds barred old tree std_tree earlier lines (listed verdict)

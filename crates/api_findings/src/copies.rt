@@ -1,0 +1,66 @@
+//! Copies of what was found.
+ghost use Rattle.std.specs.Prelude.{◌≡◌, IfOk, slice_get};
+
+use api_judge::verdict::Verdict;
+use api_lines::line::Line;
+use api_subjects::broken::Broken;
+use go_base::list::List;
+use go_base::memory::NoMemory;
+use go_base::text::Text;
+use std::alloc::Global;
+
+/// The same lines.
+pub(crate) fn lines_copied(alloc: Global, lines: &[Line]) -> Result<List<Line>, NoMemory>
+    ensures { IfOk result (λ copy. copy ≡ lines.now) }
+{
+    let mut copy = List::new(alloc);
+    for line in lines {
+        let same = line.on(alloc, line.context)?;
+        copy.push(same)?;
+    }
+    Ok(copy)
+}
+
+fn broken_copied(alloc: Global, broken: &Broken) -> Result<Broken, NoMemory>
+    ensures { IfOk result (λ copy. copy ≡ broken.now) }
+{
+    Ok(Broken {
+        owner: Text::of(alloc, broken.owner.bytes())?,
+        rule: broken.rule,
+        subject: Text::of(alloc, broken.subject.bytes())?,
+    })
+}
+
+fn breaks_copied(alloc: Global, breaks: &[Broken]) -> Result<List<Broken>, NoMemory>
+    ensures { IfOk result (λ copy. copy ≡ breaks.now) }
+{
+    let mut copy = List::new(alloc);
+    for broken in breaks {
+        let same = broken_copied(alloc, broken)?;
+        copy.push(same)?;
+    }
+    Ok(copy)
+}
+
+fn verdict_copied(alloc: Global, verdict: &Verdict) -> Result<Verdict, NoMemory>
+    ensures { IfOk result (λ copy. copy ≡ verdict.now) }
+{
+    Ok(Verdict {
+        breaks: breaks_copied(alloc, verdict.breaks.items())?,
+        changed: verdict.changed,
+    })
+}
+
+/// The same verdict as the one of this number, where there is one.
+pub(crate) fn verdict_at(
+    alloc: Global,
+    verdicts: &[Verdict],
+    number: usize,
+) -> Result<Option<Verdict>, NoMemory>
+    ensures { IfOk result (λ verdict. verdict ≡ slice_get verdicts.now number) }
+{
+    match verdicts.get(number) {
+        None => Ok(None),
+        Some(verdict) => Ok(Some(verdict_copied(alloc, verdict)?)),
+    }
+}

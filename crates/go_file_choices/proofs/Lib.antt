@@ -1,0 +1,4 @@
+pub mod AlikeAnswers
+pub mod FirstAlike
+pub mod HeaderConstraints
+pub mod ListedQuestions

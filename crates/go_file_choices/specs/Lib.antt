@@ -1,0 +1,2 @@
+pub mod AlikePlatforms
+pub mod inner
