@@ -1,5 +1,5 @@
 -- Rows that were told one by one are those of a package's order.
-use Rattle.std.proofs.Common.{◌≡◌, ◌≢◌, ◌↔◌, ℕ, ◌+◌, ◌<◌, Bool, true, List, [], ◌∷◌, ◌++◌, length, replicate, set, Some, refl, sym, ap, ◌∙◌, subst, inl, inr, arith, length-append, get_or-set_same, get_or-set_other}
+use Rattle.std.proofs.Common.{◌≡◌, ◌≢◌, ◌↔◌, ℕ, ◌+◌, ◌<◌, Bool, true, false, List, [], ◌∷◌, ◌++◌, length, replicate, set, Some, refl, sym, ap, ◌∙◌, subst, inl, inr, arith, length-append, get_or-set_same, get_or-set_other}
 use Rattle.std.specs.Prelude.{slice_get}
 use Rattle.std.proofs.lemmas.List.{length-set}
 use Rattle.std.proofs.lemmas.Option.{slice_get_within}
@@ -49,10 +49,10 @@ moved_on c e f m k = k ∙ ap (λ (z : Scopes). record z { file = f.file; iota =
 
 module _ (Is : Env → Form → List ℕ → Type 0) where
   pub rows_none : (c : Scopes) (ds : List Declaration) → HasRowsOf Is c ds 0 []
-  rows_none c ds = record { size = refl; rows = λ n d l e. absurd (omega (arith, l)) }
+  rows_none c ds = record { size = refl; each = λ n d l e. absurd (omega (arith, l)) }
 
   pub rows_from : (c e : Scopes) (ds : List Declaration) (count : ℕ) (rows : List (List ℕ)) → IsMoved c e → HasRowsOf Is e ds count rows → HasRowsOf Is c ds count rows
-  rows_from c e ds count rows m has = record { size = has.size; rows = λ n d l f. subst (λ (z : Scopes). Is (env_of z) d.form (row_of rows n)) (at_same c e d m) (has.rows n d l f) }
+  rows_from c e ds count rows m has = record { size = has.size; each = λ n d l f. subst (λ (z : Scopes). Is (env_of z) d.form (row_of rows n)) (at_same c e d m) (has.each n d l f) }
 
   -- the row of a declaration that was told in scopes which had moved
   told_at : (c e : Scopes) (ds : List Declaration) (i n : ℕ) (d w : Declaration) (r : List ℕ) → IsMoved c e → slice_get ds i ≡ Some d → Is (env_of (at_declaration e d)) d.form r → n ≡ i → slice_get ds n ≡ Some w → Is (env_of (at_declaration c w)) w.form r
@@ -64,8 +64,8 @@ module _ (Is : Env → Form → List ℕ → Type 0) where
       → HasRowsOf Is c ds (i + 1) new
   rows_more c ds i rows new r has e d m at is here = subst (HasRowsOf Is c ds (i + 1)) (sym is) (record {
     size = (let q = has.size in let p = length-append rows (r ∷ []) in omega (arith, p, q));
-    rows = λ n w l f. elim (get_pushed rows r [] n) [
-      | inl p ↦ subst (Is (env_of (at_declaration c w)) w.form) (sym p.1) (has.rows n w (let q = has.size in let k : n ≢ length rows = p.0 in omega (arith, l, q, k)) f)
+    each = λ n w l f. elim (get_pushed rows r [] n) [
+      | inl p ↦ subst (Is (env_of (at_declaration c w)) w.form) (sym p.1) (has.each n w (let q = has.size in let k : n ≢ length rows = p.0 in omega (arith, l, q, k)) f)
       | inr p ↦ subst (Is (env_of (at_declaration c w)) w.form) (sym p.1) (told_at c e ds i n d w r m at here (p.0 ∙ has.size) f)
     ];
   })
@@ -73,18 +73,18 @@ module _ (Is : Env → Form → List ℕ → Type 0) where
   -- ---- rows of those that are reached
 
   pub among_none : (c : Scopes) (ds : List Declaration) (count : ℕ) (flags : List Bool) (rows : List (List ℕ)) → rows ≡ replicate count [] → count ≡ length ds → AreFlagsOf count (Has {A = ℕ} []) flags → HasRowsAmong Is c ds flags rows
-  among_none c ds count flags rows e l none = record { size = ap length e ∙ empty_size count ∙ l; rows = λ n d f k. absurd (none.sound n f) }
+  among_none c ds count flags rows e l none = record { size = ap length e ∙ empty_size count ∙ l; each = λ n d f k. absurd (none.sound n f) }
 
   pub among_from : (c e : Scopes) (ds : List Declaration) (flags : List Bool) (rows : List (List ℕ)) → IsMoved c e → HasRowsAmong Is e ds flags rows → HasRowsAmong Is c ds flags rows
-  among_from c e ds flags rows m has = record { size = has.size; rows = λ n d l f. subst (λ (z : Scopes). Is (env_of z) d.form (row_of rows n)) (at_same c e d m) (has.rows n d l f) }
+  among_from c e ds flags rows m has = record { size = has.size; each = λ n d l f. subst (λ (z : Scopes). Is (env_of z) d.form (row_of rows n)) (at_same c e d m) (has.each n d l f) }
 
   pub among_more : (c : Scopes) (ds : List Declaration) (flags flagged : List Bool) (rows new : List (List ℕ)) (i : ℕ) (r : List ℕ) → HasRowsAmong Is c ds flags rows → (e : Scopes) (d : Declaration) → IsMoved c e → slice_get ds i ≡ Some d
       → flagged ≡ set flags i true → new ≡ set rows i r → Is (env_of (at_declaration e d)) d.form r → HasRowsAmong Is c ds flagged new
   among_more c ds flags flagged rows new i r has e d m at f is here = subst (λ (q : List Bool × List (List ℕ)). HasRowsAmong Is c ds q.0 q.1) (λ j. (sym f j, sym is j)) (record {
     size = length-set rows i r ∙ has.size;
-    rows = λ n w g k. elim (same_or_not n i) [
+    each = λ n w g k. elim (same_or_not n i) [
       | inl q ↦ subst (Is (env_of (at_declaration c w)) w.form) (sym (ap (row_of (set rows i r)) q ∙ get_or-set_same rows i r [] inside)) (told_at c e ds i n d w r m at here q k)
-      | inr q ↦ subst (Is (env_of (at_declaration c w)) w.form) (sym (get_or-set_other rows i n r [] q)) (has.rows n w (sym (get_or-set_other flags i n true false q) ∙ g) k)
+      | inr q ↦ subst (Is (env_of (at_declaration c w)) w.form) (sym (get_or-set_other rows i n r [] q)) (has.each n w (sym (get_or-set_other flags i n true false q) ∙ g) k)
     ];
   })
     where
@@ -101,12 +101,12 @@ module _ (s : Setting) (u : PackageSource) (a : Entries) (c : Scopes) (names : N
     after = record {
       size = after.size;
       exact = exact (λ d n. NamesDeclaration (environment s u a d) u d.form (strong_references d.form) n) o.after (declarations u) after.size
-          (λ m d e. via (row_of o.after m) (after.rows m d (slice_get_within (declarations u) m d e) e u are) (same_named s u a c scope pathed d (strong_references d.form)));
+          (λ m d e. via (row_of o.after m) (after.each m d (slice_get_within (declarations u) m d e) e u are) (same_named s u a c scope pathed d (strong_references d.form)));
     };
     lengths = record {
       size = lengths.size;
       exact = exact (λ d n. NamesDeclaration (environment s u a d) u d.form (length_references d.form) n) o.lengths (declarations u) lengths.size
-          (λ m d e. via (row_of o.lengths m) (lengths.rows m d (slice_get_within (declarations u) m d e) e u are) (same_named s u a c scope pathed d (length_references d.form)));
+          (λ m d e. via (row_of o.lengths m) (lengths.each m d (slice_get_within (declarations u) m d e) e u are) (same_named s u a c scope pathed d (length_references d.form)));
     };
     leads = record { size = leads.size; exact = λ m n f. (let k = led m n f in ((λ h. leads_of s u a m n (k.0 h)), (λ h. k.1 (of_leads s u a m n h)))) };
   }
@@ -115,7 +115,7 @@ module _ (s : Setting) (u : PackageSource) (a : Entries) (c : Scopes) (names : N
       told = record { names = are; methods = have; tables = refl }
 
       led : (m n : ℕ) → is_flagged o.reached.items m ≡ true → Has (row_of o.leads.items m) n ↔ At (declarations u) m (λ d. IsLed s u a d n)
-      led m n f = exact_at (IsLed s u a) o.leads.items (declarations u) leads.size m (λ d e. via (row_of o.leads.items m) (leads.rows m d f e methods u (sym scope.path) told) (same_led s u a c scope pathed d)) n
+      led m n f = exact_at (IsLed s u a) o.leads.items (declarations u) leads.size m (λ d e. via (row_of o.leads.items m) (leads.each m d f e methods u (sym scope.path) told) (same_led s u a c scope pathed d)) n
 
 -- the same of borrowed declarations
 pub order_from : (s : Setting) (u : PackageSource) (a : Entries) (c : Scopes) (names : Named NamePlace) (methods : Named (List MethodRow)) (o : DeclarationOrder) (xs : List Borrowed)

@@ -44,7 +44,8 @@ fn add_row(
 {
     turn_to(env, declaration);
     let row = kind_row(env, alloc, names, kind, declaration.form)?;
-    rows.push(row)
+    rows.push(row)?;
+    Ok(())
 }
 
 // The rows of each of these declarations.

@@ -38,7 +38,7 @@ fn depends_by(
     form: Form<'_>,
     references: &[Reference],
 ) -> Result<List<u32>, NoMemory>
-    requires { references.now ≡ nodes.references (form_of form.entry) }
+    requires { references.now ≡ nodes.references (form_of form) }
     ensures { IfOk result (λ row. row ≡ dependencies names.now methods.now (form_of form.entry)) }
 {
     let mut row = List::new(alloc);
@@ -56,7 +56,7 @@ fn leads_by(
     form: Form<'_>,
     references: &[Reference],
 ) -> Result<List<u32>, NoMemory>
-    requires { references.now ≡ nodes.references (form_of form.entry) }
+    requires { references.now ≡ nodes.references (form_of form) }
     ensures { IfOk result (LeadsIn names.now index.now.tables (env_of env.now) (form_of form.entry)) }
 {
     let mut row = counted_row(env, alloc, names, form, references)?;

@@ -90,9 +90,9 @@ LeadsIn names tables E f row = (methods : Named (List MethodRow)) → LeadsTo na
 -- the rows are such of so many declarations, each in its environment
 pub record HasRowsOf (Is : Env → Form → List ℕ → Type 0) (c : Scopes) (ds : List Declaration) (count : ℕ) (rows : List (List ℕ)) : Type 0 where
   pub size : length rows ≡ count
-  pub rows : (n : ℕ) (d : Declaration) → n < count → slice_get ds n ≡ Some d → Is (env_of (at_declaration c d)) d.form (row_of rows n)
+  pub each : (n : ℕ) (d : Declaration) → n < count → slice_get ds n ≡ Some d → Is (env_of (at_declaration c d)) d.form (row_of rows n)
 
 -- there is a row for each declaration, and those that are flagged are such, each in its declaration's environment
 pub record HasRowsAmong (Is : Env → Form → List ℕ → Type 0) (c : Scopes) (ds : List Declaration) (flags : List Bool) (rows : List (List ℕ)) : Type 0 where
   pub size : length rows ≡ length ds
-  pub rows : (n : ℕ) (d : Declaration) → is_flagged flags n ≡ true → slice_get ds n ≡ Some d → Is (env_of (at_declaration c d)) d.form (row_of rows n)
+  pub each : (n : ℕ) (d : Declaration) → is_flagged flags n ≡ true → slice_get ds n ≡ Some d → Is (env_of (at_declaration c d)) d.form (row_of rows n)
