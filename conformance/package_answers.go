@@ -86,18 +86,28 @@ func withUsed(file readFile, set *token.FileSet) *ast.File {
 
 const brokenAlias = "invalid use of type alias"
 
-// broken is how many aliases Go couldn't type for their order.
+// broken is how many aliases Go couldn't type for their order, and of variables where some are in a circle.
 func (t typed) broken() (count int) {
+	circular := false
 	for _, one := range t.errors {
 		if strings.HasPrefix(one.Msg, brokenAlias) {
+			count++
+		}
+		circular = circular || strings.Contains(one.Msg, "initialization cycle for")
+	}
+	if !circular || t.pack == nil {
+		return count
+	}
+	for _, name := range t.pack.Scope().Names() {
+		if object, is := t.pack.Scope().Lookup(name).(*types.Var); is && object.Type() == types.Typ[types.Invalid] {
 			count++
 		}
 	}
 	return count
 }
 
-// checkInOrder types a package. Where Go can't type an alias in a circle in the order of the declarations, it is asked again in
-// others, and that is taken in which the fewest are left.
+// checkInOrder types a package. Where Go can't type an alias or a variable in a circle in the order of the declarations, it is asked
+// again in others, and that is taken in which the fewest are left.
 func (c *checking) checkInOrder(f *folder, files []*ast.File, counts map[string]int) typed {
 	done := c.check(f, files)
 	draw := rand.New(rand.NewSource(1))
@@ -105,14 +115,14 @@ func (c *checking) checkInOrder(f *folder, files []*ast.File, counts map[string]
 		for _, file := range files {
 			draw.Shuffle(len(file.Decls), func(i, j int) { file.Decls[i], file.Decls[j] = file.Decls[j], file.Decls[i] })
 			for _, decl := range file.Decls {
-				if group, is := decl.(*ast.GenDecl); is && group.Tok == token.TYPE {
+				if group, is := decl.(*ast.GenDecl); is && (group.Tok == token.TYPE || group.Tok == token.VAR) {
 					draw.Shuffle(len(group.Specs), func(i, j int) { group.Specs[i], group.Specs[j] = group.Specs[j], group.Specs[i] })
 				}
 			}
 		}
 		draw.Shuffle(len(files), func(i, j int) { files[i], files[j] = files[j], files[i] })
 		if again := c.check(f, files); !again.failed && again.broken() < done.broken() {
-			counts["aliases in another order"]++
+			counts["packages in another order"]++
 			done = again
 		}
 	}
