@@ -25,11 +25,12 @@ pub record AreAlike (files : List TreeFile) (p q : Platform) : Type 0 where
   pub bits : bits_of p ≡ bits_of q
   pub chosen : AllChosenAlike files p q
 
--- the files of the trees of a run
+-- the files of the old tree, where there is one
 abbrev pub old_files : Option Tree → List TreeFile
 old_files None = []
 old_files (Some tree) = tree.files
 
+-- the files of the trees of a run
 abbrev pub files_of : Option Tree → Tree → Tree → List TreeFile
 files_of old tree std_tree = old_files old ++ (tree.files ++ std_tree.files)
 

@@ -82,8 +82,9 @@ fn firsts_by(
     Ok(firsts)
 }
 
-/// For each of the platforms, the number of the first of them that is alike: `int` has as many bits on both, and each file of the
-/// trees is chosen on both or on neither. The header of each file is read once for all platforms, and none where there is only one.
+/// For each of the platforms, the number of the first of them that is alike: `int` has as many bits on both, and of each file of the
+/// trees both allow the name or neither does, and both choose it by its header or neither does. The header of each file is read once
+/// for all platforms, and none where there is only one.
 pub fn first_alike(
     alloc: Global,
     old_tree: Option<&Tree>,

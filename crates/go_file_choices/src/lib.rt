@@ -1,4 +1,4 @@
-//! Which files of trees platforms choose: the platforms that are alike.
+//! Which platforms are alike on the files of trees.
 #![tactic(auto)]
 
 pub mod alike;
