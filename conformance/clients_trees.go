@@ -85,37 +85,18 @@ func pathOf(spec *ast.ImportSpec) string { return strings.Trim(spec.Path.Value, 
 func onlyUsed(files []*ast.File, imported types.Importer) {
 	for _, file := range files {
 		found := qualifiers(file)
-		var decls []ast.Decl
-		for _, decl := range file.Decls {
-			group, is := decl.(*ast.GenDecl)
-			if !is || group.Tok != token.IMPORT {
-				decls = append(decls, decl)
-				continue
-			}
-			var specs []ast.Spec
-			for _, spec := range group.Specs {
-				one := spec.(*ast.ImportSpec)
-				path := pathOf(one)
-				last := path[strings.LastIndex(path, "/")+1:]
-				name := last
-				if one.Name != nil {
-					name = one.Name.Name
-				} else if !found[name] && len(found) > 0 {
-					if pack, err := imported.Import(path); err == nil {
-						name = pack.Name()
-					}
-				}
-				if name != "_" && found[name] {
-					specs = append(specs, spec)
+		keepImports(file, func(spec *ast.ImportSpec) bool {
+			path := pathOf(spec)
+			name := path[strings.LastIndex(path, "/")+1:]
+			if spec.Name != nil {
+				name = spec.Name.Name
+			} else if !found[name] && len(found) > 0 {
+				if pack, err := imported.Import(path); err == nil {
+					name = pack.Name()
 				}
 			}
-			if len(specs) > 0 {
-				copied := *group
-				copied.Specs = specs
-				decls = append(decls, &copied)
-			}
-		}
-		file.Decls = decls
+			return name != "_" && found[name]
+		})
 	}
 }
 

@@ -10,7 +10,7 @@ HERE = os.path.dirname(os.path.abspath(__file__))
 TOP = os.path.dirname(HERE)
 PLATFORMS = """linux-386 linux-arm windows-386 linux-amd64 linux-arm64 linux-riscv64 linux-s390x android-arm64 darwin-amd64 darwin-arm64
 ios-arm64 freebsd-amd64 illumos-amd64 windows-amd64""".split()
-PARTS = """modules.go module_trees.go module_sources.go module_shuffles.go package_answers.go package_references.go package_trees.go lines.go differences.go
+PARTS = """modules.go module_trees.go module_sources.go module_shuffles.go package_answers.go imports.go package_references.go package_trees.go lines.go differences.go
 barred.go oracle/units.go oracle/choosing.go oracle/syntax.go oracle/scanning.go oracle/bodies.go""".split()
 # hosts below which a module's path has three elements, where no go.mod says it
 LONG = ["github.com", "golang.org", "bitbucket.org", "code.google.com", "launchpad.net"]

@@ -63,24 +63,7 @@ func withUsed(file readFile, set *token.FileSet) *ast.File {
 	for _, use := range file.uses {
 		used[use.place] = true
 	}
-	var decls []ast.Decl
-	for _, decl := range file.tree.Decls {
-		group, is := decl.(*ast.GenDecl)
-		if !is || group.Tok != token.IMPORT {
-			decls = append(decls, decl)
-			continue
-		}
-		var kept []ast.Spec
-		for _, spec := range group.Specs {
-			if used[set.Position(spec.(*ast.ImportSpec).Path.Pos()).Offset] {
-				kept = append(kept, spec)
-			}
-		}
-		if group.Specs = kept; len(kept) > 0 {
-			decls = append(decls, group)
-		}
-	}
-	file.tree.Decls = decls
+	keepImports(file.tree, func(spec *ast.ImportSpec) bool { return used[set.Position(spec.Path.Pos()).Offset] })
 	return file.tree
 }
 
