@@ -8,5 +8,6 @@ pub mod comments;
 pub mod list;
 pub mod memory;
 pub mod operator;
+pub mod order;
 pub mod steps;
 pub mod text;

@@ -6,6 +6,7 @@ ghost use Rattle.std.specs.Cmp.Lexicographic.{slice_cmp, bytes_decides, nat_list
 ghost use Rattle.std.proofs.Common.{ap};
 
 use crate::memory::NoMemory;
+use crate::order::order;
 use smallvec::SmallVec;
 use std::alloc::Global;
 use std::cmp::Ordering;
@@ -101,7 +102,7 @@ impl Ord for Text {
     ghost matches_eq = { λ a b. texts_ties a b };
 
     fn cmp(&self, other: &Text) -> Ordering {
-        self.bytes().cmp(other.bytes())
+        order(self.bytes(), other.bytes())
     }
 }
 
