@@ -1,6 +1,6 @@
 use Rattle.std.proofs.Common.{◌∙◌, arith, nat_cmp}
 use Rattle.std.proofs.cmp.SliceLoops.{ended}
-use Rattle.go_base.proofs.order.order_from.Goals as goal
+use Rattle.go_base.proofs.order.order_of_bytes.Goals as goal
 
 pub returns : goal.returns
 returns c =
