@@ -6,6 +6,7 @@ ghost use Rattle.go_base.specs.Lists.{Ascending};
 ghost use Rattle.go_base.specs.Keys.{first_with, item_of, PlaceFor};
 
 use crate::types::package::{Defined, Object, Package};
+use go_base::order::order;
 use go_base::text::Text;
 use std::cmp::Ordering;
 
@@ -54,7 +55,7 @@ impl Keyed for Text {
 fn compare<K: Keyed>(item: &K, key: &[u8]) -> Ordering
     ensures { result ≡ slice_cmp nat_cmp (K.key item.now) key.now }
 {
-    item.key().cmp(key)
+    order(item.key(), key)
 }
 
 /// The item with a key, in a list that is ordered by it.
@@ -79,7 +80,7 @@ pub(crate) fn find_key<'a, K: Keyed>(items: &'a [K], key: &[u8]) -> Option<&'a K
 fn goes_before<K: Keyed>(key: &[u8], item: &K) -> bool
     ensures { result ≡ is_lt (slice_cmp nat_cmp key.now (K.key item.now)) }
 {
-    key.cmp(item.key()) == Ordering::Less
+    order(key, item.key()) == Ordering::Less
 }
 
 /// Where an item with this key stands in a list that is ordered by it.
