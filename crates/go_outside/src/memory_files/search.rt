@@ -6,14 +6,13 @@ ghost use Rattle.go_outside.specs.inner.SortedPairs.{is_before, IsSorted, IsRisi
 
 use super::FilePair;
 use go_base::memory::NoMemory;
-use go_base::order::order;
 use std::alloc::Global;
 use std::cmp::Ordering;
 
 fn is_before(left: &[u8], right: &[u8]) -> bool
     ensures { result ≡ is_before left.now right.now }
 {
-    order(left, right) == Ordering::Less
+    left.cmp(right) == Ordering::Less
 }
 
 // The index of the first pair whose path isn't before the key.
