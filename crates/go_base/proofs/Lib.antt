@@ -3,4 +3,5 @@ pub mod Lists
 pub mod Members
 pub mod Ordered
 pub mod Orders
+pub mod PlainNames
 pub mod Runs
