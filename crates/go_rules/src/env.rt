@@ -1,9 +1,8 @@
 //! What an expression is typed in.
-ghost use Rattle.std.specs.Prelude.{◌≡◌, ◌≢◌, ◌⊎◌, ◌↔◌, ◌∷◌, [], true, drop, is_some, IfOk, OnOk, OnErr};
+ghost use Rattle.std.specs.Prelude.{◌≡◌, ◌≢◌, ◌⊎◌, ◌↔◌, ◌∷◌, [], true, drop, IfOk, OnOk, OnErr};
 ghost use Rattle.go_base.specs.Keys.{item_of};
 ghost use Rattle.go_rules.specs.Environments.{is_among, selector_of};
 ghost use Rattle.go_rules.specs.Meanings.{as_seen};
-ghost use Rattle.go_rules.specs.Names.{value_at, with_value};
 ghost use Rattle.go_rules.specs.Scopes.{env_of, innermost, is_declared, is_imported, new_scopes, with_announced, with_awaited, with_defined, with_import, with_meaning, with_method};
 
 use crate::exports::is_exported;
@@ -199,8 +198,8 @@ impl Env<'_> {
         ensures err { OnErr result (self.new ≡ self.old) }
     {
         match self.opened.front_mut() {
-            Some(scope) => add_meaning(scope, name, seen),
-            None => add_meaning(&mut self.declared, name, seen),
+            Some(scope) => scope.add(name, seen),
+            None => self.declared.add(name, seen),
         }
     }
 
@@ -342,20 +341,6 @@ impl TypeTable for Env<'_> {
             return self.defined.get(&name.name);
         }
         self.world.defined(name)
-    }
-}
-
-fn add_meaning(scope: &mut Names<Seen>, name: Text, seen: Seen) -> Result<(), DeclareError>
-    ensures ok { OnOk result (scope.new ≡ with_value scope.old name seen) }
-    ensures already { (result ≡ Err DeclareError.Already) ↔ (is_some (value_at scope.old name) ≡ true) }
-    ensures err { OnErr result (scope.new ≡ scope.old) }
-{
-    if scope.has(&name) {
-        return Err(DeclareError::Already);
-    }
-    match scope.put(name, seen) {
-        Ok(()) => Ok(()),
-        Err(NoMemory) => Err(DeclareError::NoMemory),
     }
 }
 

@@ -1,15 +1,17 @@
 //! Tables of names.
-ghost use Rattle.std.specs.Prelude.{◌≡◌, ◌∷◌, ◌++◌, [], OnOk, OnErr, is_some};
+ghost use Rattle.std.specs.Prelude.{◌≡◌, ◌↔◌, true, ◌∷◌, ◌++◌, [], OnOk, OnErr, is_some};
 ghost use Rattle.go_base.specs.Keys.{item_of};
 ghost use Rattle.go_rules.specs.Names.{items_at, value_at, with_value};
 ghost use Rattle.go_rules.specs.Scopes.{added_to};
 
+use crate::env::DeclareError;
 use go_base::list::List;
 use go_base::memory::NoMemory;
 use go_base::text::Text;
 use go_model::types::package::{Defined, MethodOf};
 use std::alloc::Global;
 use std::collections::BTreeMap;
+use std::collections::btree_map::Entry;
 use std::marker::Model;
 
 /// Names in the order of bytes, each once, with what each has.
@@ -67,6 +69,26 @@ impl<V: Drop> Names<V> {
     {
         self.entries.insert(name, value)?;
         Ok(())
+    }
+
+    /// Gives a name a value. `Already` comes exactly where it has one.
+    pub(crate) fn add(&mut self, name: Text, value: V) -> Result<(), DeclareError>
+        ensures ok { OnOk result (self.new ≡ with_value self.old name value) }
+        ensures already { (result ≡ Err DeclareError.Already) ↔ (is_some (value_at self.old name) ≡ true) }
+        ensures err { OnErr result (self.new ≡ self.old) }
+    {
+        match self.entries.entry(name) {
+            Ok(Entry::Vacant(place)) => {
+                place.insert(value);
+                return Ok(());
+            }
+            Ok(Entry::Occupied(place)) => {
+                // Gives the map back, for the proof.
+                let _same = place.into_mut();
+                return Err(DeclareError::Already);
+            }
+            Err(_) => return Err(DeclareError::NoMemory),
+        }
     }
 }
 
