@@ -8,6 +8,9 @@ use go_base::characters::is_exported as begins_upper;
 fn is_utf8(bytes: &[u8]) -> bool
     ensures { result ≡ is_utf8 bytes.now }
 {
+    if bytes.is_ascii() {
+        return true;
+    }
     str::from_utf8(bytes).is_ok()
 }
 
