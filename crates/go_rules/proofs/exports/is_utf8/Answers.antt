@@ -14,4 +14,4 @@ pub returns : goal.returns
 returns c = c.is_ok.ensures.value ∙ tested c.from_utf8.result c.args.bytes.now _ _ c.from_utf8.ensures.cases
 
 pub returns-then-is_ascii : goal.returns-then-is_ascii
-returns-then-is_ascii c = sym (is_utf8-from_IsUtf8 c.args.bytes.now (IsUtf8-from_ascii c.args.bytes.now c.if-is_ascii.ensures.cases))
+returns-then-is_ascii c = sym (is_utf8-from_IsUtf8 c.args.bytes.now (IsUtf8-from_ascii c.args.bytes.now (c.is_ascii.ensures c.if-is_ascii.true)))
