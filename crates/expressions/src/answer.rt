@@ -60,7 +60,8 @@ fn expression(alloc: Global, env: &Env<'_>, words: &str) -> Result<Vec<u8>, Refu
 }
 
 fn means(alloc: Global, env: &Env<'_>, name: &str) -> Result<Vec<u8>, Refusal> {
-    let mut out = meaning(alloc, env.meaning(name.as_bytes()))?;
+    let name = Text::of(alloc, name.as_bytes())?;
+    let mut out = meaning(alloc, env.meaning(&name))?;
     out.push(b'\n')?;
     Ok(out)
 }

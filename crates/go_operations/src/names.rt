@@ -68,7 +68,7 @@ pub fn named(context: &Context<'_>, alloc: Global, name: &Name) -> Result<Operan
     if is_blank(name) {
         return Err(ExprError::Untyped);
     }
-    let meaning = match context.env.meaning(name.text.bytes()) {
+    let meaning = match context.env.meaning(&name.text) {
         Some(meaning) => meaning,
         None => return Err(ExprError::Untyped),
     };
@@ -82,7 +82,7 @@ pub fn named(context: &Context<'_>, alloc: Global, name: &Name) -> Result<Operan
 pub fn names_import(context: &Context<'_>, name: &Name) -> bool
     ensures { Decides ((path : List ℕ) × ((env_in context.now).meaning name.now.text ≡ Some (seen.Import path))) result }
 {
-    match context.env.meaning(name.text.bytes()) {
+    match context.env.meaning(&name.text) {
         Some(Meaning::Import(_)) => true,
         _ => false,
     }
@@ -95,7 +95,7 @@ fn imported_object<'a>(context: &Context<'a>, package: &Name, name: &Name) -> Op
     if is_blank(package) || !is_exported(name.text.bytes()) {
         return None;
     }
-    match context.env.meaning(package.text.bytes()) {
+    match context.env.meaning(&package.text) {
         Some(Meaning::Import(path)) => context.env.object(path.bytes(), name.text.bytes()),
         _ => None,
     }

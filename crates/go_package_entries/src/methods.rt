@@ -17,6 +17,7 @@ use crate::grown::{Grown, are_had, signature_at};
 use crate::tables::{Tables, method_name};
 use go_base::list::List;
 use go_base::memory::NoMemory;
+use go_base::text::Text;
 use go_declared::bases::base;
 use go_declared::methods::MethodRow;
 use go_model::types::package::MethodOf;
@@ -134,7 +135,7 @@ fn add_row(
         None => Ok(()),
         Some(signature) => {
             let method = method_of(env, alloc, name, row.pointer, signature)?;
-            env.add_method(type_name, method)
+            env.add_method(&Text::of(alloc, type_name)?, method)
         }
     }
 }

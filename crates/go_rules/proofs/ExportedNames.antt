@@ -1,8 +1,7 @@
 -- Names that begin with an upper-case letter.
-use Rattle.std.proofs.Common.{◌≡◌, ℕ, List, [], ◌∷◌, ◌++◌, refl, sym, ap, ◌∙◌, Bool, true, false, ◌&&◌}
+use Rattle.std.proofs.Common.{◌≡◌, ℕ, List, [], ◌∷◌, refl, sym, ap, ◌∙◌, Bool, true, false, ◌&&◌}
 use mathlib.Core.Bool.{true≢false}
 use Rattle.std.proofs.lemmas.Str.{IsUtf8-from_is_utf8, chars_past_char, chars_from_encodes}
-use Rattle.std.specs.Char.{IsScalar, encode_utf8}
 use lib.Utf8.{scalars}
 use Rattle.std.specs.Str.{chars, is_utf8, encode_utf8_all}
 use Rattle.go_base.specs.Characters.{BeginsPassing, is_upper}

@@ -25,3 +25,4 @@ pub mod OneOrder
 pub mod OnePost
 pub mod OneResult
 pub mod OneType
+pub mod TextEntries

@@ -1,9 +1,8 @@
 //! What an expression is typed in.
-ghost use Rattle.std.specs.Prelude.{◌≡◌, ◌≢◌, ◌⊎◌, ◌↔◌, ◌∷◌, [], true, drop, is_some, IfOk, OnOk, OnErr};
+ghost use Rattle.std.specs.Prelude.{◌≡◌, ◌≢◌, ◌⊎◌, ◌↔◌, ◌∷◌, [], true, drop, IfOk, OnOk, OnErr};
 ghost use Rattle.go_base.specs.Keys.{item_of};
 ghost use Rattle.go_rules.specs.Environments.{is_among, selector_of};
 ghost use Rattle.go_rules.specs.Meanings.{as_seen};
-ghost use Rattle.go_rules.specs.Names.{value_at, with_value};
 ghost use Rattle.go_rules.specs.Scopes.{env_of, innermost, is_declared, is_imported, new_scopes, with_announced, with_awaited, with_defined, with_import, with_meaning, with_method};
 
 use crate::exports::is_exported;
@@ -143,7 +142,7 @@ impl Env<'_> {
         ensures already { (result ≡ Err DeclareError.Already) ↔ (is_imported self.old file name ≡ true) }
         ensures err { OnErr result (self.new ≡ self.old) }
     {
-        if self.imports.get(file, name.bytes()).is_some() {
+        if self.imports.get(file, &name).is_some() {
             return Err(DeclareError::Already);
         }
         match self.imports.add(self.alloc, file, name, path) {
@@ -199,8 +198,8 @@ impl Env<'_> {
         ensures err { OnErr result (self.new ≡ self.old) }
     {
         match self.opened.front_mut() {
-            Some(scope) => add_meaning(scope, name, seen),
-            None => add_meaning(&mut self.declared, name, seen),
+            Some(scope) => scope.add(name, seen),
+            None => self.declared.add(name, seen),
         }
     }
 
@@ -215,7 +214,7 @@ impl Env<'_> {
 
     /// Adds a method to the package's type of a name, after those that it has; nothing changes where no type of that name is
     /// defined.
-    pub fn add_method(&mut self, name: &[u8], method: MethodOf) -> Result<(), NoMemory>
+    pub fn add_method(&mut self, name: &Text, method: MethodOf) -> Result<(), NoMemory>
         ensures ok { OnOk result (self.new ≡ with_method self.old name.now method) }
         ensures err { OnErr result (self.new ≡ self.old) }
     {
@@ -235,7 +234,7 @@ impl Env<'_> {
 // Look-ups.
 impl Env<'_> {
     /// What a name means; None where it means nothing.
-    pub fn meaning(&self, name: &[u8]) -> Option<Meaning<'_>>
+    pub fn meaning(&self, name: &Text) -> Option<Meaning<'_>>
         ensures { as_seen result ≡ (env_of self.now).meaning name.now }
     {
         if let Some(seen) = innermost(&self.opened, name) {
@@ -250,14 +249,14 @@ impl Env<'_> {
         if self.announced.has(name) {
             return None;
         }
-        match universe(name) {
+        match universe(name.bytes()) {
             Some(predeclared) => Some(Meaning::Universe(predeclared)),
             None => None,
         }
     }
 
     /// What a name means, copied; None where it means nothing.
-    pub fn lookup(&self, name: &[u8]) -> Result<Option<Seen>, NoMemory>
+    pub fn lookup(&self, name: &Text) -> Result<Option<Seen>, NoMemory>
         ensures { IfOk result (λ seen. seen ≡ (env_of self.now).meaning name.now) }
     {
         match self.meaning(name) {
@@ -298,8 +297,8 @@ impl Env<'_> {
         if self.path != name.path {
             return false;
         }
-        match self.awaited.get(name.name.bytes()) {
-            Some(known) => is_lacking(known.items(), self.defined.get(name.name.bytes()), sel),
+        match self.awaited.get(&name.name) {
+            Some(known) => is_lacking(known.items(), self.defined.get(&name.name), sel),
             None => false,
         }
     }
@@ -339,27 +338,13 @@ impl TypeTable for Env<'_> {
 
     fn defined(&self, name: &TypeName) -> Option<&Defined> {
         if self.path == name.path {
-            return self.defined.get(name.name.bytes());
+            return self.defined.get(&name.name);
         }
         self.world.defined(name)
     }
 }
 
-fn add_meaning(scope: &mut Names<Seen>, name: Text, seen: Seen) -> Result<(), DeclareError>
-    ensures ok { OnOk result (scope.new ≡ with_value scope.old name seen) }
-    ensures already { (result ≡ Err DeclareError.Already) ↔ (is_some (value_at scope.old name) ≡ true) }
-    ensures err { OnErr result (scope.new ≡ scope.old) }
-{
-    if scope.has(name.bytes()) {
-        return Err(DeclareError::Already);
-    }
-    match scope.put(name, seen) {
-        Ok(()) => Ok(()),
-        Err(NoMemory) => Err(DeclareError::NoMemory),
-    }
-}
-
-fn innermost<'a>(scopes: &'a LinkedList<Names<Seen>>, name: &[u8]) -> Option<&'a Seen>
+fn innermost<'a>(scopes: &'a LinkedList<Names<Seen>>, name: &Text) -> Option<&'a Seen>
     ensures { item_of result ≡ innermost scopes.now name.now }
 {
     for scope in scopes.iter() {

@@ -45,7 +45,7 @@ impl Imports {
     }
 
     /// The path that a file imports under a name.
-    pub(crate) fn get(&self, file: u32, name: &[u8]) -> Option<&Text>
+    pub(crate) fn get(&self, file: u32, name: &Text) -> Option<&Text>
         ensures { item_of result ≡ value_at (imports_in (lookup (nat_eq file) self.now)) name.now }
     {
         match self.files.get(&file) {

@@ -1,20 +1,22 @@
 //! Tables of names.
-ghost use Rattle.std.specs.Prelude.{◌≡◌, ◌∷◌, ◌++◌, [], OnOk, OnErr, is_some};
+ghost use Rattle.std.specs.Prelude.{◌≡◌, ◌↔◌, true, ◌∷◌, ◌++◌, [], OnOk, OnErr, is_some};
 ghost use Rattle.go_base.specs.Keys.{item_of};
 ghost use Rattle.go_rules.specs.Names.{items_at, value_at, with_value};
 ghost use Rattle.go_rules.specs.Scopes.{added_to};
 
+use crate::env::DeclareError;
 use go_base::list::List;
 use go_base::memory::NoMemory;
 use go_base::text::Text;
 use go_model::types::package::{Defined, MethodOf};
 use std::alloc::Global;
 use std::collections::BTreeMap;
+use std::collections::btree_map::Entry;
 use std::marker::Model;
 
 /// Names in the order of bytes, each once, with what each has.
 pub(crate) struct Names<V> {
-    entries: BTreeMap<Vec<u8>, V>,
+    entries: BTreeMap<Text, V>,
 }
 
 impl<V: Drop> Drop for Names<V> {
@@ -26,13 +28,12 @@ impl<V: Drop> Drop for Names<V> {
 impl<V> Model for Names<V> {
     ghost use Rattle.std.specs.Coded.{coded_list, coded×, coded_ℕ};
     ghost use Rattle.go_rules.specs.Names.{Named};
-    ghost use Rattle.go_rules.specs.inner.Entries.{by_text};
 
     ghost Value = { Named V };
 
     ghost coded = { coded_list (coded× (coded_list coded_ℕ) V.code) };
 
-    ghost view = { λ n. by_text n.entries.entries };
+    ghost view = { λ n. n.entries.entries };
 }
 
 impl<V> Names<V> {
@@ -46,14 +47,14 @@ impl<V> Names<V> {
     }
 
     /// What a name has.
-    pub(crate) fn get(&self, name: &[u8]) -> Option<&V>
+    pub(crate) fn get(&self, name: &Text) -> Option<&V>
         ensures { item_of result ≡ value_at self.now name.now }
     {
         self.entries.get(name)
     }
 
     /// Whether a name is there.
-    pub(crate) fn has(&self, name: &[u8]) -> bool
+    pub(crate) fn has(&self, name: &Text) -> bool
         ensures { result ≡ is_some (value_at self.now name.now) }
     {
         self.entries.contains_key(name)
@@ -66,9 +67,28 @@ impl<V: Drop> Names<V> {
         ensures ok { OnOk result (self.new ≡ with_value self.old name value) }
         ensures err { OnErr result (self.new ≡ self.old) }
     {
-        let key = name.into_vec()?;
-        self.entries.insert(key, value)?;
+        self.entries.insert(name, value)?;
         Ok(())
+    }
+
+    /// Gives a name a value. `Already` comes exactly where it has one.
+    pub(crate) fn add(&mut self, name: Text, value: V) -> Result<(), DeclareError>
+        ensures ok { OnOk result (self.new ≡ with_value self.old name value) }
+        ensures already { (result ≡ Err DeclareError.Already) ↔ (is_some (value_at self.old name) ≡ true) }
+        ensures err { OnErr result (self.new ≡ self.old) }
+    {
+        match self.entries.entry(name) {
+            Ok(Entry::Vacant(place)) => {
+                place.insert(value);
+                return Ok(());
+            }
+            Ok(Entry::Occupied(place)) => {
+                // Gives the map back, for the proof.
+                let _same = place.into_mut();
+                return Err(DeclareError::Already);
+            }
+            Err(_) => return Err(DeclareError::NoMemory),
+        }
     }
 }
 
@@ -78,7 +98,7 @@ impl<V: Drop> Names<List<V>> {
         ensures ok { OnOk result (self.new ≡ with_value self.old name (items_at self.old name ++ item ∷ [])) }
         ensures err { OnErr result (self.new ≡ self.old) }
     {
-        if let Some(items) = self.entries.get_mut(name.bytes()) {
+        if let Some(items) = self.entries.get_mut(&name) {
             return items.push(item);
         }
         let mut items = List::new(alloc);
@@ -89,7 +109,7 @@ impl<V: Drop> Names<List<V>> {
 
 impl Names<Defined> {
     /// Adds a method to the defined type of a name, after those that it has; nothing changes where there is no type of that name.
-    pub(crate) fn add_method(&mut self, name: &[u8], method: MethodOf) -> Result<(), NoMemory>
+    pub(crate) fn add_method(&mut self, name: &Text, method: MethodOf) -> Result<(), NoMemory>
         ensures ok { OnOk result (self.new ≡ added_to self.old name.now method (value_at self.old name.now)) }
         ensures err { OnErr result (self.new ≡ self.old) }
     {

@@ -52,7 +52,7 @@ fn named(context: &Context<'_>, alloc: Global, name: &Name) -> Result<Term, Expr
     if is_blank(name) {
         return Err(ExprError::Untyped);
     }
-    match context.env.meaning(name.text.bytes()) {
+    match context.env.meaning(&name.text) {
         Some(Meaning::Object(entity)) => type_of(alloc, entity),
         Some(Meaning::Universe(predeclared)) => {
             type_of_universe(alloc, context.env.iota(), predeclared)
@@ -76,7 +76,7 @@ fn imported(
     if is_blank(package) || !is_exported(name.text.bytes()) {
         return Err(ExprError::Untyped);
     }
-    match context.env.meaning(package.text.bytes()) {
+    match context.env.meaning(&package.text) {
         Some(Meaning::Import(path)) => match context.env.object(path.bytes(), name.text.bytes()) {
             Some(entity) => type_of(alloc, entity),
             None => Err(ExprError::Untyped),

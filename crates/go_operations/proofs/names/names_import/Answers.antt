@@ -1,9 +1,7 @@
 use Rattle.std.proofs.Common.{Some, ap, ◌∙◌, sym}
 use Rattle.go_rules.specs.Meanings.{seen_of}
-use Rattle.go_type_terms.specs.Answers.{env_in}
 use Rattle.go_operations.proofs.names.names_import.Goals as goal
 
 pub returns-in-Some-Import : goal.returns-in-Some-Import
 returns-in-Some-Import c =
-    let E = env_in c.args.context.now in
-    (c.in-Some-Import.field-0-0.now, ap (λ t. E.meaning t) (sym c.bytes.ensures) ∙ sym c.in-Some-Import.ensures ∙ ap (λ m. Some (seen_of m)) c.in-Some-Import.field-0-is)
+    (c.in-Some-Import.field-0-0.now, sym c.in-Some-Import.ensures ∙ ap (λ m. Some (seen_of m)) c.in-Some-Import.field-0-is)
