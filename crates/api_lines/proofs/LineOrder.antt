@@ -21,7 +21,7 @@ use Rattle.api_lines.proofs.TextSets.{order, tie_is}
 
 -- ---- texts
 
-same_front : (p xs ys : List ℕ) → order (p ++ xs) (p ++ ys) ≡ order xs ys
+pub same_front : (p xs ys : List ℕ) → order (p ++ xs) (p ++ ys) ≡ order xs ys
 same_front [] xs ys = refl
 same_front (n ∷ p) xs ys = ap (λ o. ordering_then o (order (p ++ xs) (p ++ ys))) (tied_itself nat_cmp_total n) ∙ same_front p xs ys
 
@@ -86,6 +86,10 @@ pub pushed_in_order : (ls : List Line) (l : Line) → AreInOrder ls → AreBefor
 pushed_in_order [] l h b = first_in_order l [] tt h
 pushed_in_order (m ∷ ls) l h b = first_in_order m (ls ++ l ∷ []) (each_back (IsBelow m) ls l (above_first m ls h) b.0) (pushed_in_order ls l (rest_in_order m ls h) b.1)
 
+pub one_in_order : (ls : List Line) → AreInOrder (take 1 ls)
+one_in_order [] = none_in_order
+one_in_order (l ∷ ls) = first_in_order l [] tt none_in_order
+
 -- ---- where a text stands
 
 abbrev IsBefore : List ℕ → Line → Type 0
@@ -94,6 +98,14 @@ IsBefore t l = order (printed l) t ≡ Less
 before_later : (ls : List Line) (t u : List ℕ) → order t u ≡ Less → AreBefore t ls → AreBefore u ls
 before_later [] t u e b = tt
 before_later (l ∷ ls) t u e b = (nat_list_cmp_total.trans (printed l) t u b.0 e, before_later ls t u e b.1)
+
+-- one line more, which comes after the last one
+pub next_in_order : (ls : List Line) (i j : ℕ) (l m : Line) → i ≡ j + 1 → i < length ls → l ≡ get_or ls j l → m ≡ get_or ls i m → AreInOrder (take i ls) → order (printed l) (printed m) ≡ Less → AreInOrder (take (i + 1) ls)
+next_in_order ls i j l m e h is_l is_m up less =
+    let s : take i ls ≡ take j ls ++ l ∷ [] = ap (λ n. take n ls) e ∙ taken ls j l (omega arith) is_l in
+    let o : AreInOrder (take j ls ++ l ∷ []) = subst AreInOrder s up in
+    let b : AreBefore (printed m) (take j ls ++ l ∷ []) = each_back (IsBefore (printed m)) (take j ls) l (before_later (take j ls) (printed l) (printed m) less (before_line (take j ls) l [] o)) less in
+    subst AreInOrder (sym (taken ls i m h is_m)) (subst (λ w. AreInOrder (w ++ m ∷ [])) (sym s) (pushed_in_order (take j ls ++ l ∷ []) m o b))
 
 none_before : (ls : List Line) (t : List ℕ) → AreBefore t ls → HasText ls t → ⊥
 none_before ls t b k = not_below_itself t (subst (λ w. order w t ≡ Less) k.2 (each_has (IsBefore t) ls k.0 b k.1))
