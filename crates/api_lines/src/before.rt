@@ -40,8 +40,9 @@ pub(crate) fn is_before(line: &Line, other: &Line) -> bool
     if line.context.is_some() || other.context.is_some() {
         return false;
     }
-    if line.path == other.path {
-        return is_rest_before(line, other);
+    match line.path.cmp(&other.path) {
+        Ordering::Less => is_path_before(line.path.bytes(), other.path.bytes()),
+        Ordering::Equal => is_rest_before(line, other),
+        Ordering::Greater => false,
     }
-    is_path_before(line.path.bytes(), other.path.bytes())
 }

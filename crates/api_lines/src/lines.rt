@@ -48,7 +48,7 @@ fn end_of_package(lines: &[Line], from: usize) -> usize
 {
     let path = &lines[from].path;
     for at in from + 1..lines.len() {
-        if lines[at].path != *path {
+        if lines[at].path.cmp(path).is_ne() {
             return at;
         }
     }
