@@ -1,8 +1,7 @@
 -- The order of lines by their texts.
-use Rattle.std.proofs.Common.{◌≡◌, ℕ, suc, ◌+◌, ◌<◌, ◌≤◌, Bool, true, false, List, [], ◌∷◌, ◌++◌, length, map, take, drop, get_or, refl, sym, ap, ◌∙◌, subst, inl, inr, arith, Option, Some, None}
+use Rattle.std.proofs.Common.{◌≡◌, ℕ, suc, ◌+◌, ◌<◌, ◌≤◌, true, false, List, [], ◌∷◌, ◌++◌, length, map, take, drop, get_or, refl, sym, ap, ◌∙◌, subst, inl, inr, arith}
 use mathlib.Core.Bool.{true≢false}
-use Rattle.std.specs.Prelude.{codes, Decides, not}
-use Rattle.std.specs.Option.{is_some}
+use Rattle.std.specs.Prelude.{Decides}
 use Rattle.std.specs.Ordering.{ordering_then, is_lt, is_gt}
 use Rattle.std.specs.declared.cmp.Ordering.TheVariants.{Less, Equal, Greater}
 use Rattle.std.specs.Cmp.{nat_cmp_total, tied_itself}
@@ -12,9 +11,8 @@ use Rattle.std.specs.List.Sorted.{IsStrictlySortedBy}
 use Rattle.go_base.specs.Lists.{Each}
 use Rattle.go_base.proofs.Lists.{split_at, take_past}
 use Rattle.go_base.proofs.Members.{each_has, has_split}
-use Rattle.go_model.specs.declared.files.platform.Platform.{Platform}
 use Rattle.api_lines.specs.declared.line.Line.{Line}
-use Rattle.api_lines.specs.Lines.{context_text, printed, AreInOrder, HasText}
+use Rattle.api_lines.specs.Lines.{printed, AreInOrder, HasText}
 use Rattle.api_lines.specs.inner.MergedLines.{AreBefore}
 use Rattle.api_lines.proofs.Growing.{each_back, has_at, has_right, taken}
 use Rattle.api_lines.proofs.TextSets.{order, tie_is}
@@ -24,16 +22,6 @@ use Rattle.api_lines.proofs.TextSets.{order, tie_is}
 pub same_front : (p xs ys : List ℕ) → order (p ++ xs) (p ++ ys) ≡ order xs ys
 same_front [] xs ys = refl
 same_front (n ∷ p) xs ys = ap (λ o. ordering_then o (order (p ++ xs) (p ++ ys))) (tied_itself nat_cmp_total n) ∙ same_front p xs ys
-
-pub is_none_of : (c : Option Platform) (is : Bool) → is_some c ≡ not is → is ≡ true → c ≡ None
-is_none_of None is e t = refl
-is_none_of (Some p) is e t = absurd (true≢false (e ∙ ap not t))
-
--- lines of one package without context are in the order of their rests
-pub rests_order : (p q : List ℕ) (c d : Option Platform) (x y : List ℕ) → p ≡ q → c ≡ None → d ≡ None
-    → order x y ≡ order (p ++ context_text c ++ codes ", " ++ x) (q ++ context_text d ++ codes ", " ++ y)
-rests_order p q c d x y e f g =
-    sym (same_front (p ++ context_text c ++ codes ", ") x y) ∙ (λ i. order (p ++ context_text c ++ codes ", " ++ x) (e i ++ context_text ((f ∙ sym g) i) ++ codes ", " ++ y))
 
 not_below_itself : (t : List ℕ) → order t t ≡ Less → ⊥
 not_below_itself t e = true≢false (ap is_lt (sym e ∙ tied_itself nat_list_cmp_total t))

@@ -5,8 +5,8 @@ ghost use Rattle.go_base.specs.Lists.{Has};
 ghost use Rattle.go_base.specs.Growing.{Grows};
 ghost use Rattle.api_lines.specs.Lines.{AreInOrder, IsListing};
 
-use crate::before::is_before;
 use crate::line::Line;
+use crate::order::is_before;
 use crate::printed::by_texts;
 use go_base::list::List;
 use go_base::memory::NoMemory;
