@@ -4,4 +4,5 @@ pub mod Merged
 pub mod OrderedLines
 pub mod OrderedTexts
 pub mod Parts
+pub mod PathOrder
 pub mod TextSets

@@ -1,8 +1,7 @@
 -- The order of lines by their texts.
-use Rattle.std.proofs.Common.{◌≡◌, ℕ, suc, ◌+◌, ◌<◌, ◌≤◌, Bool, true, false, List, [], ◌∷◌, ◌++◌, length, map, take, drop, get_or, refl, sym, ap, ◌∙◌, subst, inl, inr, arith, Option, Some, None}
+use Rattle.std.proofs.Common.{◌≡◌, ℕ, suc, ◌+◌, ◌<◌, ◌≤◌, true, false, List, [], ◌∷◌, ◌++◌, length, map, take, drop, get_or, refl, sym, ap, ◌∙◌, subst, inl, inr, arith}
 use mathlib.Core.Bool.{true≢false}
-use Rattle.std.specs.Prelude.{codes, Decides, not}
-use Rattle.std.specs.Option.{is_some}
+use Rattle.std.specs.Prelude.{Decides}
 use Rattle.std.specs.Ordering.{ordering_then, is_lt, is_gt}
 use Rattle.std.specs.declared.cmp.Ordering.TheVariants.{Less, Equal, Greater}
 use Rattle.std.specs.Cmp.{nat_cmp_total, tied_itself}
@@ -12,28 +11,17 @@ use Rattle.std.specs.List.Sorted.{IsStrictlySortedBy}
 use Rattle.go_base.specs.Lists.{Each}
 use Rattle.go_base.proofs.Lists.{split_at, take_past}
 use Rattle.go_base.proofs.Members.{each_has, has_split}
-use Rattle.go_model.specs.declared.files.platform.Platform.{Platform}
 use Rattle.api_lines.specs.declared.line.Line.{Line}
-use Rattle.api_lines.specs.Lines.{context_text, printed, AreInOrder, HasText}
+use Rattle.api_lines.specs.Lines.{printed, AreInOrder, HasText}
 use Rattle.api_lines.specs.inner.MergedLines.{AreBefore}
 use Rattle.api_lines.proofs.Growing.{each_back, has_at, has_right, taken}
 use Rattle.api_lines.proofs.TextSets.{order, tie_is}
 
 -- ---- texts
 
-same_front : (p xs ys : List ℕ) → order (p ++ xs) (p ++ ys) ≡ order xs ys
+pub same_front : (p xs ys : List ℕ) → order (p ++ xs) (p ++ ys) ≡ order xs ys
 same_front [] xs ys = refl
 same_front (n ∷ p) xs ys = ap (λ o. ordering_then o (order (p ++ xs) (p ++ ys))) (tied_itself nat_cmp_total n) ∙ same_front p xs ys
-
-pub is_none_of : (c : Option Platform) (is : Bool) → is_some c ≡ not is → is ≡ true → c ≡ None
-is_none_of None is e t = refl
-is_none_of (Some p) is e t = absurd (true≢false (e ∙ ap not t))
-
--- lines of one package without context are in the order of their rests
-pub rests_order : (p q : List ℕ) (c d : Option Platform) (x y : List ℕ) → p ≡ q → c ≡ None → d ≡ None
-    → order x y ≡ order (p ++ context_text c ++ codes ", " ++ x) (q ++ context_text d ++ codes ", " ++ y)
-rests_order p q c d x y e f g =
-    sym (same_front (p ++ context_text c ++ codes ", ") x y) ∙ (λ i. order (p ++ context_text c ++ codes ", " ++ x) (e i ++ context_text ((f ∙ sym g) i) ++ codes ", " ++ y))
 
 not_below_itself : (t : List ℕ) → order t t ≡ Less → ⊥
 not_below_itself t e = true≢false (ap is_lt (sym e ∙ tied_itself nat_list_cmp_total t))
@@ -86,6 +74,10 @@ pub pushed_in_order : (ls : List Line) (l : Line) → AreInOrder ls → AreBefor
 pushed_in_order [] l h b = first_in_order l [] tt h
 pushed_in_order (m ∷ ls) l h b = first_in_order m (ls ++ l ∷ []) (each_back (IsBelow m) ls l (above_first m ls h) b.0) (pushed_in_order ls l (rest_in_order m ls h) b.1)
 
+pub one_in_order : (ls : List Line) → AreInOrder (take 1 ls)
+one_in_order [] = none_in_order
+one_in_order (l ∷ ls) = first_in_order l [] tt none_in_order
+
 -- ---- where a text stands
 
 abbrev IsBefore : List ℕ → Line → Type 0
@@ -94,6 +86,14 @@ IsBefore t l = order (printed l) t ≡ Less
 before_later : (ls : List Line) (t u : List ℕ) → order t u ≡ Less → AreBefore t ls → AreBefore u ls
 before_later [] t u e b = tt
 before_later (l ∷ ls) t u e b = (nat_list_cmp_total.trans (printed l) t u b.0 e, before_later ls t u e b.1)
+
+-- one line more, which comes after the last one
+pub next_in_order : (ls : List Line) (i j : ℕ) (l m : Line) → i ≡ j + 1 → i < length ls → l ≡ get_or ls j l → m ≡ get_or ls i m → AreInOrder (take i ls) → order (printed l) (printed m) ≡ Less → AreInOrder (take (i + 1) ls)
+next_in_order ls i j l m e h is_l is_m up less =
+    let s : take i ls ≡ take j ls ++ l ∷ [] = ap (λ n. take n ls) e ∙ taken ls j l (omega arith) is_l in
+    let o : AreInOrder (take j ls ++ l ∷ []) = subst AreInOrder s up in
+    let b : AreBefore (printed m) (take j ls ++ l ∷ []) = each_back (IsBefore (printed m)) (take j ls) l (before_later (take j ls) (printed l) (printed m) less (before_line (take j ls) l [] o)) less in
+    subst AreInOrder (sym (taken ls i m h is_m)) (subst (λ w. AreInOrder (w ++ m ∷ [])) (sym s) (pushed_in_order (take j ls ++ l ∷ []) m o b))
 
 none_before : (ls : List Line) (t : List ℕ) → AreBefore t ls → HasText ls t → ⊥
 none_before ls t b k = not_below_itself t (subst (λ w. order w t ≡ Less) k.2 (each_has (IsBefore t) ls k.0 b k.1))

@@ -15,14 +15,14 @@ use Rattle.std.proofs.lemmas.List.Sorted.{Contains-permutation, IsPermutation-sy
 use Rattle.go_base.specs.Lists.{Has}
 use Rattle.api_lines.proofs.Growing.{has_at}
 
-has_contains : {A : Type 0} (xs : List A) (x : A) → Has xs x → Contains xs x
+pub has_contains : {A : Type 0} (xs : List A) (x : A) → Has xs x → Contains xs x
 has_contains [] x h = absurd h
 has_contains (y ∷ xs) x h = elim h [
   | inl e ↦ (0, omega arith, e)
   | inr r ↦ let c : Contains xs x = has_contains xs x r in (suc c.0, omega (arith, c.1), c.2)
 ]
 
-contains_has : {A : Type 0} (xs : List A) (x : A) → Contains xs x → Has xs x
+pub contains_has : {A : Type 0} (xs : List A) (x : A) → Contains xs x → Has xs x
 contains_has xs x c = has_at xs c.0 x c.1 (sym c.2)
 
 any_has : {A : Type 0} (P : A → Type 0) (xs : List A) → Any P xs → (x : A) × Has xs x × P x

@@ -4,5 +4,7 @@
 pub mod line;
 pub mod lines;
 pub mod merge;
+mod order;
 mod part;
+mod printed;
 pub mod texts;

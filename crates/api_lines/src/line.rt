@@ -4,6 +4,7 @@ ghost use Rattle.std.specs.Ordering.{nat_cmp};
 ghost use Rattle.std.specs.Cmp.Lexicographic.{slice_cmp};
 ghost use Rattle.api_lines.specs.Lines.{context_text, in_context, printed};
 
+use crate::order::known_order;
 use go_base::memory::NoMemory;
 use go_base::text::Text;
 use go_model::files::platform::Platform;
@@ -59,12 +60,12 @@ impl Line {
         Ok(Text::from_vec(line))
     }
 
-    /// The order of two lines by their texts. Lines of one package without context are compared by the rest alone.
+    /// The order of two lines by their texts, which are printed where it isn't known without.
     pub fn order(&self, alloc: Global, other: &Line) -> Result<Ordering, NoMemory>
         ensures { IfOk result (λ order. order ≡ slice_cmp nat_cmp (printed self.now) (printed other.now)) }
     {
-        if self.context.is_none() && other.context.is_none() && self.path == other.path {
-            return Ok(self.rest.cmp(&other.rest));
+        if let Some(order) = known_order(self, other) {
+            return Ok(order);
         }
         let text = self.printed(alloc)?;
         let other = other.printed(alloc)?;

@@ -1,90 +1,21 @@
 //! Lines that are gathered, and then listed in the order of their texts.
-ghost use Rattle.std.specs.Prelude.{◌≡◌, [], map, IfOk, OnOk, Some, refl, bytes_eq};
-ghost use Rattle.std.specs.Ordering.{nat_cmp, on};
-ghost use Rattle.std.specs.Cmp.{partial_equiv_from_equiv, on_equiv, on_po, on_total};
-ghost use Rattle.std.specs.Cmp.Lexicographic.{slice_cmp, nat_list_eq_equiv, nat_list_cmp_total, texts_po, texts_ties};
+ghost use Rattle.std.specs.Prelude.{◌≡◌, ◌<◌, ◌≤◌, [], true, length, IfOk, OnOk};
+ghost use Rattle.std.specs.List.Sorted.{IsPermutation};
 ghost use Rattle.go_base.specs.Lists.{Has};
 ghost use Rattle.go_base.specs.Growing.{Grows};
-ghost use Rattle.api_lines.specs.Lines.{printed, IsListing};
+ghost use Rattle.api_lines.specs.Lines.{AreInOrder, IsListing};
 
 use crate::line::Line;
+use crate::order::is_before;
+use crate::printed::by_texts;
 use go_base::list::List;
 use go_base::memory::NoMemory;
-use go_base::text::Text;
 use std::alloc::Global;
-use std::cmp::Ordering;
 use std::marker::Model;
-
-// A line with its text, by which it is ordered.
-struct Printed {
-    text: Text,
-    line: Line,
-    ghost shown: { text ≡ printed line },
-}
-
-impl Drop for Printed {
-    fn drop(self) {
-        let Printed { text: _, line: _ } = self;
-    }
-}
-
-impl Printed {
-    fn new(alloc: Global, line: Line) -> Result<Printed, NoMemory>
-        ensures { IfOk result (λ p. p.line ≡ line) }
-    {
-        let text = line.printed(alloc)?;
-        Ok(Printed { text, line })
-    }
-
-    fn into_line(self) -> Line
-        ensures { result ≡ self.line }
-    {
-        let Printed { text: _, line } = self;
-        line
-    }
-}
-
-impl PartialEq for Printed {
-    ghost eq = { on (λ p. p.text) bytes_eq };
-
-    ghost laws = { partial_equiv_from_equiv (on_equiv (λ p. p.text) nat_list_eq_equiv) };
-
-    fn eq(&self, other: &Printed) -> bool {
-        self.text == other.text
-    }
-}
-
-impl Eq for Printed {
-    ghost laws = { on_equiv (λ p. p.text) nat_list_eq_equiv };
-}
-
-impl PartialOrd for Printed {
-    ghost partial_cmp = { λ a b. Some (slice_cmp nat_cmp a.text b.text) };
-
-    ghost laws = { on_po (λ p. p.text) texts_po };
-
-    fn partial_cmp(&self, other: &Printed) -> Option<Ordering> {
-        Some(self.cmp(other))
-    }
-}
-
-impl Ord for Printed {
-    ghost cmp = { λ a b. slice_cmp nat_cmp a.text b.text };
-
-    ghost total = { on_total (λ p. p.text) nat_list_cmp_total };
-
-    ghost matches_partial_cmp = { λ a b. refl };
-
-    ghost matches_eq = { λ a b. texts_ties a.text b.text };
-
-    fn cmp(&self, other: &Printed) -> Ordering {
-        self.text.cmp(&other.text)
-    }
-}
 
 /// Lines that are gathered.
 pub struct Lines {
-    all: Vec<Printed>,
+    all: Vec<Line>,
 }
 
 impl Drop for Lines {
@@ -94,36 +25,69 @@ impl Drop for Lines {
 }
 
 impl Model for Lines {
-    ghost use Rattle.std.specs.Prelude.{List as Sequence, map};
+    ghost use Rattle.std.specs.Prelude.{List as Sequence};
     ghost use Rattle.api_lines.specs.declared.line.Line.{Line as Feature};
 
     ghost Value = { Sequence Feature };
 
-    ghost view = { λ l. map (λ p. p.line) l.all.items };
+    ghost view = { λ l. l.all.items };
 }
 
-fn push(all: &mut Vec<Printed>, printed: Printed) -> Result<(), NoMemory>
-    ensures { OnOk result (Grows (λ l. printed.line ≡ l) (map (λ p. p.line) all.old.items) (map (λ p. p.line) all.new.items)) }
+fn push(all: &mut Vec<Line>, line: Line) -> Result<(), NoMemory>
+    ensures { OnOk result (Grows (λ l. line ≡ l) all.old.items all.new.items) }
 {
-    all.push(printed)?;
+    all.push(line)?;
     Ok(())
 }
 
-// The lines without their texts, in the same order.
-fn without_texts(alloc: Global, all: Vec<Printed>) -> Result<Vec<Line>, NoMemory>
-    ensures { IfOk result (λ lines. lines.items ≡ map (λ p. p.line) all.items) }
+// Where the lines end that stand together with the one at a place and have its path.
+fn end_of_package(lines: &[Line], from: usize) -> usize
+    requires { from < length lines.now }
+    ensures after { from < result }
+    ensures within { result ≤ length lines.now }
 {
-    let lines = all.into_iter().map(|p| p.into_line()).collect(alloc)?;
-    Ok(lines)
+    let path = &lines[from].path;
+    for at in from + 1..lines.len() {
+        if lines[at].path.cmp(path).is_ne() {
+            return at;
+        }
+    }
+    lines.len()
 }
 
-fn in_order(alloc: Global, mut all: Vec<Printed>) -> Result<List<Line>, NoMemory>
-    ensures { IfOk result (IsListing (Has (map (λ p. p.line) all.items))) }
+// Puts lines of one path that stand together in the order of their rests.
+fn sort_packages(lines: &mut [Line])
+    ensures { IsPermutation lines.old lines.new }
 {
-    all.sort_unstable();
-    all.dedup();
-    let lines = without_texts(alloc, all)?;
-    Ok(List::from_vec(lines))
+    let mut from = 0;
+    while from < lines.len() {
+        let to = end_of_package(lines, from);
+        lines[from..to].sort_unstable_by(|l, m| l.rest.cmp(&m.rest));
+        from = to;
+    }
+}
+
+// Whether the lines are known to be in order.
+fn are_in_order(lines: &[Line]) -> bool
+    ensures { result ≡ true → AreInOrder lines.now }
+{
+    for i in 1..lines.len() {
+        if !is_before(&lines[i - 1], &lines[i]) {
+            return false;
+        }
+    }
+    true
+}
+
+fn listed(alloc: Global, mut all: Vec<Line>) -> Result<List<Line>, NoMemory>
+    ensures { IfOk result (IsListing (Has all.items)) }
+{
+    sort_packages(&mut all);
+    if are_in_order(&all) {
+        return Ok(List::from_vec(all));
+    }
+    let lines = by_texts(alloc, all)?;
+    Ok(lines)
 }
 
 impl Lines {
@@ -140,15 +104,16 @@ impl Lines {
     pub fn add(&mut self, alloc: Global, line: Line) -> Result<(), NoMemory>
         ensures { OnOk result (Grows (λ l. line ≡ l) self.old self.new) }
     {
-        let printed = Printed::new(alloc, line)?;
-        push(&mut self.all, printed)
+        let _alloc = alloc;
+        push(&mut self.all, line)
     }
 
-    /// The lines, each text once, in the order of the texts.
+    /// The lines, each text once, in the order of the texts. No text is printed where the lines of each package came
+    /// together, without context and without a text twice, and the packages in the order of their paths.
     pub fn into_list(self, alloc: Global) -> Result<List<Line>, NoMemory>
         ensures { IfOk result (IsListing (Has self)) }
     {
         let Lines { all } = self;
-        in_order(alloc, all)
+        listed(alloc, all)
     }
 }
