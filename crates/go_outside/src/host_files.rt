@@ -1,5 +1,5 @@
 //! The real folder as a store.
-ghost use Rattle.std.specs.Prelude.{◌≡◌, ◌≢◌, ◌≤◌, ℕ, None, Err, length, IfOk};
+ghost use Rattle.std.specs.Prelude.{◌≡◌, ◌≢◌, ◌≤◌, ℕ, None, Err, length, IfOk, IfSome};
 ghost use Rattle.go_outside.specs.Faults.{one_more};
 
 use crate::files::{Entry, EntryKind, Files, FilesError};
@@ -14,6 +14,9 @@ use std::{fs, io};
 
 /// The most entries of one folder.
 const ENTRIES: usize = 1_048_576;
+
+/// The most bytes of one read.
+const BLOCK: usize = 16_384;
 
 /// The files that a runtime reaches. It tells nothing: a contract sees its count of faults alone.
 #[derive(Drop)]
@@ -110,11 +113,30 @@ fn list<R: Runtime + AllocGlobal>(
     Ok(entries)
 }
 
+// The bytes that a reader has left. Each read is into the same block, since std's `read_to_end` fills
+// with zeros, byte by byte, what it then reads into.
+fn read_all<R: Read>(alloc: Global, reader: &mut R) -> io::Result<Vec<u8>>
+    ensures { IfOk result (λ bytes. IfSome (R.remaining reader.old) (λ left. bytes.items ≡ left)) }
+{
+    let mut bytes = Vec::new(alloc);
+    let mut block = [0; BLOCK];
+    for _ in 0..u64::MAX {
+        match reader.read(&mut block) {
+            Ok(0) => return Ok(bytes),
+            Ok(count) => bytes.extend_from_slice(&block[..count])?,
+            Err(error) => {
+                if error.kind() != ErrorKind::Interrupted {
+                    return Err(error);
+                }
+            }
+        }
+    }
+    Err(io::Error::from(ErrorKind::TimedOut))
+}
+
 // The bytes of an open file, one more than the limit at most.
 fn read_most<F: Read + Drop>(alloc: Global, file: F, limit: u64) -> io::Result<Vec<u8>> {
-    let mut bytes = Vec::new(alloc);
-    file.take(limit.saturating_add(1)).read_to_end(&mut bytes)?;
-    Ok(bytes)
+    read_all(alloc, &mut file.take(limit.saturating_add(1)))
 }
 
 fn read<R: Runtime + AllocGlobal>(
