@@ -2,4 +2,5 @@ pub mod Fronts
 pub mod Lists
 pub mod Members
 pub mod Ordered
+pub mod PlainNames
 pub mod Runs

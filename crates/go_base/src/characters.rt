@@ -1,8 +1,8 @@
 //! Characters in bytes, which need not be UTF-8 behind them.
-ghost use Rattle.std.specs.Prelude.{◌≡◌, ◌<◌, ◌≤◌, ◌++◌, ℕ, length, take, drop, IfSome, IsNone, IsUtf8, IsTrue, ◌↔◌};
+ghost use Rattle.std.specs.Prelude.{◌≡◌, ◌<◌, ◌≤◌, true, ◌++◌, ℕ, length, take, drop, IfSome, IsNone, IsUtf8, IsTrue, ◌↔◌};
 ghost use Rattle.std.specs.Char.{IsScalar, encode_utf8, len_utf8};
 ghost use Rattle.std.specs.Str.{StartsWithNoChar};
-ghost use Rattle.go_base.specs.Characters.{is_letter, is_upper, BeginsPassing, IsRun};
+ghost use Rattle.go_base.specs.Characters.{is_letter, is_name_character, is_upper, BeginsPassing, IsRun};
 ghost use Rattle.go_base.specs.Alphabets.{has, BeginsWith};
 
 use unicode::properties::GeneralCategory;
@@ -105,8 +105,27 @@ pub fn is_exported(name: &[u8]) -> bool
     }
 }
 
+/// Whether the byte is an ASCII character of names, as most are.
+fn is_plain(b: u8) -> bool
+    ensures ascii { IsTrue result → b < 128 }
+    ensures named { IsTrue result → is_name_character b ≡ true }
+{
+    b < 128 && (b.is_ascii_alphanumeric() || b == b'_')
+}
+
 /// How many bytes the first character takes, where it is of the alphabet.
 fn first_len(alphabet: Alphabet, bytes: &[u8]) -> Option<usize>
+    ensures some { IfSome result (BeginsWith (has alphabet) bytes.now) }
+    ensures none { IsNone result → BeginsPassing (has alphabet) bytes.now → ⊥ }
+{
+    match bytes.first() {
+        Some(b) if is_plain(*b) => Some(1),
+        _ => any_first_len(alphabet, bytes),
+    }
+}
+
+/// The same, with no shorter way for ASCII.
+fn any_first_len(alphabet: Alphabet, bytes: &[u8]) -> Option<usize>
     ensures some { IfSome result (BeginsWith (has alphabet) bytes.now) }
     ensures none { IsNone result → BeginsPassing (has alphabet) bytes.now → ⊥ }
 {

@@ -1,7 +1,9 @@
-use Rattle.go_base.specs.Alphabets.{has}
-use Rattle.go_base.proofs.Runs.{fails_first}
-use Rattle.std.proofs.Common.{◌∙◌, sym}
+use Rattle.std.proofs.Common.{rules, refl}
+use Rattle.std.specs.Char.{encode_utf8}
+use Rattle.go_base.proofs.PlainNames.{begins_plain}
 use Rattle.go_base.proofs.characters.first_len.Goals as goal
 
-pub returns-in_default-clause-none : goal.returns-in_default-clause-none
-returns-in_default-clause-none c none = fails_first (has c.args.alphabet) c.args.bytes.now _ c.in-Some.c c.in-Some.ensures.some.0 (sym c.has.ensures ∙ c.if-has.false)
+pub returns-in-Some-clause-some : goal.returns-in-Some-clause-some
+unfolding encode_utf8
+returns-in-Some-clause-some c =
+    begins_plain c.args.alphabet c.in-Some.b.now c.args.bytes.now (c.if-is_plain.ensures.ascii refl) (c.if-is_plain.ensures.named refl) (search rules) (search rules)
