@@ -29,7 +29,7 @@ fn by_value_or_in_length<'a>(
     alloc: Global,
     references: List<Reference<'a>>,
 ) -> Result<List<Reference<'a>>, NoMemory>
-    ensures { IfOk result (λ rs. rs ≡ filter (λ r. r.by_value || r.in_length) references) }
+    ensures { IfOk result (λ rs. rs ≡ filter (λ r. r.by_value || r.in_length) references.entry) }
 {
     let mut kept = List::new(alloc);
     for reference in references.into_vec() {
@@ -45,7 +45,7 @@ fn in_lengths<'a>(
     alloc: Global,
     references: List<Reference<'a>>,
 ) -> Result<List<Reference<'a>>, NoMemory>
-    ensures { IfOk result (λ rs. rs ≡ in_lengths references) }
+    ensures { IfOk result (λ rs. rs ≡ in_lengths references.entry) }
 {
     let mut kept = List::new(alloc);
     for reference in references.into_vec() {
