@@ -17,13 +17,13 @@ use go_references::references::Reference;
 use go_rules::env::Env;
 use std::alloc::Global;
 
-fn is_declared_key(names: &DeclaredNames, reference: &Reference) -> bool
+fn is_declared_key(names: &DeclaredNames, reference: &Reference<'_>) -> bool
     ensures { result ≡ is_declared_key names.now reference.now }
 {
     reference.is_key && names.get(reference.name.text.bytes()).is_some()
 }
 
-fn has_declared_key(names: &DeclaredNames, references: &[Reference]) -> bool
+fn has_declared_key(names: &DeclaredNames, references: &[Reference<'_>]) -> bool
     ensures { result ≡ list_any (is_declared_key names.now) references.now }
 {
     for reference in references {
@@ -38,7 +38,7 @@ fn has_declared_key(names: &DeclaredNames, references: &[Reference]) -> bool
 fn named_row(
     alloc: Global,
     names: &DeclaredNames,
-    references: &[Reference],
+    references: &[Reference<'_>],
 ) -> Result<List<u32>, NoMemory>
     ensures { IfOk result (λ row. row ≡ gather (named names.now) references.now) }
 {
@@ -53,7 +53,7 @@ fn row_by_keys(
     alloc: Global,
     names: &DeclaredNames,
     form: Form<'_>,
-    references: &[Reference],
+    references: &[Reference<'_>],
 ) -> Result<List<u32>, NoMemory>
     ensures { IfOk result (NamesIn names.now (env_of env.now) (form_of form.entry) references.now) }
 {
@@ -70,7 +70,7 @@ pub(crate) fn counted_row(
     alloc: Global,
     names: &DeclaredNames,
     form: Form<'_>,
-    references: &[Reference],
+    references: &[Reference<'_>],
 ) -> Result<List<u32>, NoMemory>
     ensures { IfOk result (NamesIn names.now (env_of env.now) (form_of form.entry) references.now) }
 {

@@ -18,7 +18,7 @@ use std::collections::BTreeSet;
 fn push_named(
     row: &mut List<u32>,
     names: &DeclaredNames,
-    reference: &Reference,
+    reference: &Reference<'_>,
 ) -> Result<(), NoMemory>
     ensures { OnOk result (row.new ≡ row.old ++ named names.now reference.now) }
 {
@@ -32,7 +32,7 @@ fn push_named(
 pub(crate) fn push_all_named(
     row: &mut List<u32>,
     names: &DeclaredNames,
-    references: &[Reference],
+    references: &[Reference<'_>],
 ) -> Result<(), NoMemory>
     ensures { OnOk result (row.new ≡ row.old ++ gather (named names.now) references.now) }
 {
@@ -46,14 +46,14 @@ pub(crate) fn push_all_named(
 fn names_field(
     alloc: Global,
     keys: &BTreeSet<FieldKey>,
-    reference: &Reference,
+    reference: &Reference<'_>,
 ) -> Result<bool, NoMemory>
     ensures { IfOk result (λ b. b ≡ names_field keys.now.keys reference.now) }
 {
     if !reference.is_key {
         return Ok(false);
     }
-    is_among(alloc, &reference.name, keys)
+    is_among(alloc, reference.name, keys)
 }
 
 fn push_counted(
@@ -61,7 +61,7 @@ fn push_counted(
     row: &mut List<u32>,
     names: &DeclaredNames,
     keys: &BTreeSet<FieldKey>,
-    reference: &Reference,
+    reference: &Reference<'_>,
 ) -> Result<(), NoMemory>
     ensures { OnOk result (row.new ≡ row.old ++ counted names.now keys.now.keys reference.now) }
 {
@@ -77,7 +77,7 @@ pub(crate) fn push_all_counted(
     row: &mut List<u32>,
     names: &DeclaredNames,
     keys: &BTreeSet<FieldKey>,
-    references: &[Reference],
+    references: &[Reference<'_>],
 ) -> Result<(), NoMemory>
     ensures { OnOk result (row.new ≡ row.old ++ gather (counted names.now keys.now.keys) references.now) }
 {

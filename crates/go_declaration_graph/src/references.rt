@@ -25,11 +25,11 @@ pub(crate) enum Kind {
 }
 
 // Those that stand by value or in the length of an array.
-fn by_value_or_in_length(
+fn by_value_or_in_length<'a>(
     alloc: Global,
-    references: List<Reference>,
-) -> Result<List<Reference>, NoMemory>
-    ensures { IfOk result (λ rs. rs ≡ filter (λ r. r.by_value || r.in_length) references) }
+    references: List<Reference<'a>>,
+) -> Result<List<Reference<'a>>, NoMemory>
+    ensures { IfOk result (λ rs. rs ≡ filter (λ r. r.by_value || r.in_length) references.entry) }
 {
     let mut kept = List::new(alloc);
     for reference in references.into_vec() {
@@ -41,8 +41,11 @@ fn by_value_or_in_length(
 }
 
 // Those that stand in the length of an array.
-fn in_lengths(alloc: Global, references: List<Reference>) -> Result<List<Reference>, NoMemory>
-    ensures { IfOk result (λ rs. rs ≡ in_lengths references) }
+fn in_lengths<'a>(
+    alloc: Global,
+    references: List<Reference<'a>>,
+) -> Result<List<Reference<'a>>, NoMemory>
+    ensures { IfOk result (λ rs. rs ≡ in_lengths references.entry) }
 {
     let mut kept = List::new(alloc);
     for reference in references.into_vec() {
@@ -54,7 +57,10 @@ fn in_lengths(alloc: Global, references: List<Reference>) -> Result<List<Referen
 }
 
 /// The references of a declaration.
-pub(crate) fn all_references(alloc: Global, form: Form<'_>) -> Result<List<Reference>, NoMemory>
+pub(crate) fn all_references<'a>(
+    alloc: Global,
+    form: Form<'a>,
+) -> Result<List<Reference<'a>>, NoMemory>
     ensures { IfOk result (λ rs. rs ≡ nodes.references (form_of form.entry)) }
 {
     match form {
@@ -70,7 +76,10 @@ pub(crate) fn all_references(alloc: Global, form: Form<'_>) -> Result<List<Refer
 }
 
 // Those of variables that have to be settled first: those of their type, or else of their values.
-fn variable_references(alloc: Global, spec: &VarSpec) -> Result<List<Reference>, NoMemory>
+fn variable_references<'a>(
+    alloc: Global,
+    spec: &'a VarSpec,
+) -> Result<List<Reference<'a>>, NoMemory>
     ensures { IfOk result (λ rs. rs ≡ nodes.variable_references spec.now.type_ spec.now) }
 {
     match &spec.type_ {
@@ -80,7 +89,7 @@ fn variable_references(alloc: Global, spec: &VarSpec) -> Result<List<Reference>,
 }
 
 // Those that have to be settled first.
-fn strong_references(alloc: Global, form: Form<'_>) -> Result<List<Reference>, NoMemory>
+fn strong_references<'a>(alloc: Global, form: Form<'a>) -> Result<List<Reference<'a>>, NoMemory>
     ensures { IfOk result (λ rs. rs ≡ nodes.strong_references (form_of form.entry)) }
 {
     match form {
@@ -95,7 +104,7 @@ fn strong_references(alloc: Global, form: Form<'_>) -> Result<List<Reference>, N
 }
 
 // Those that stand in the length of an array, in the declaration of a type, a function or a method.
-fn length_references(alloc: Global, form: Form<'_>) -> Result<List<Reference>, NoMemory>
+fn length_references<'a>(alloc: Global, form: Form<'a>) -> Result<List<Reference<'a>>, NoMemory>
     ensures { IfOk result (λ rs. rs ≡ nodes.length_references (form_of form.entry)) }
 {
     if lacks_lengths(form) {
@@ -108,11 +117,11 @@ fn length_references(alloc: Global, form: Form<'_>) -> Result<List<Reference>, N
 }
 
 /// The references of a kind.
-pub(crate) fn picked_references(
+pub(crate) fn picked_references<'a>(
     alloc: Global,
     kind: Kind,
-    form: Form<'_>,
-) -> Result<List<Reference>, NoMemory>
+    form: Form<'a>,
+) -> Result<List<Reference<'a>>, NoMemory>
     ensures { IfOk result (λ rs. rs ≡ picked kind (form_of form.entry)) }
 {
     match kind {

@@ -36,7 +36,7 @@ fn depends_by(
     names: &DeclaredNames,
     methods: &DeclaredMethods,
     form: Form<'_>,
-    references: &[Reference],
+    references: &[Reference<'_>],
 ) -> Result<List<u32>, NoMemory>
     requires { references.now ≡ nodes.references (form_of form) }
     ensures { IfOk result (λ row. row ≡ dependencies names.now methods.now (form_of form.entry)) }
@@ -54,7 +54,7 @@ fn leads_by(
     names: &DeclaredNames,
     index: &MethodIndex,
     form: Form<'_>,
-    references: &[Reference],
+    references: &[Reference<'_>],
 ) -> Result<List<u32>, NoMemory>
     requires { references.now ≡ nodes.references (form_of form) }
     ensures { IfOk result (LeadsIn names.now index.now.tables (env_of env.now) (form_of form.entry)) }

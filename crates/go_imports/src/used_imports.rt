@@ -112,7 +112,7 @@ pub fn add_declared(
     Ok(())
 }
 
-fn is_qualifier(declared: &BTreeSet<Text>, reference: &Reference) -> bool
+fn is_qualifier(declared: &BTreeSet<Text>, reference: &Reference<'_>) -> bool
     ensures yes { result ≡ true → IsQualifier declared.now.keys reference.now reference.now.name.text }
     ensures no { result ≡ false → IsQualifier declared.now.keys reference.now reference.now.name.text → ⊥ }
 {
@@ -129,7 +129,7 @@ fn add_reference(
     alloc: Global,
     set: &mut BTreeSet<Text>,
     declared: &BTreeSet<Text>,
-    reference: &Reference,
+    reference: &Reference<'_>,
 ) -> Result<(), NoMemory>
     ensures { OnOk result (Grows (IsQualifier declared.now.keys reference.now) set.old.keys set.new.keys) }
 {
@@ -143,7 +143,7 @@ fn add_references(
     alloc: Global,
     set: &mut BTreeSet<Text>,
     declared: &BTreeSet<Text>,
-    references: &[Reference],
+    references: &[Reference<'_>],
 ) -> Result<(), NoMemory>
     ensures { OnOk result (Grows (IsQualifierAmong declared.now.keys references.now) set.old.keys set.new.keys) }
 {

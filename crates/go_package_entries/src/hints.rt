@@ -32,7 +32,7 @@ fn push_named(row: &mut List<u32>, names: &DeclaredNames, name: &Text) -> Result
 fn push_all(
     row: &mut List<u32>,
     names: &DeclaredNames,
-    references: &[Reference],
+    references: &[Reference<'_>],
 ) -> Result<(), NoMemory> {
     for reference in references {
         push_named(row, names, &reference.name.text)?;
@@ -55,7 +55,7 @@ fn push_types(
     row: &mut List<u32>,
     declarations: &[Declaration<'_>],
     names: &DeclaredNames,
-    references: &[Reference],
+    references: &[Reference<'_>],
 ) -> Result<(), NoMemory> {
     for reference in references {
         let name = &reference.name.text;
