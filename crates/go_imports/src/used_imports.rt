@@ -133,6 +133,9 @@ fn add_reference(
 ) -> Result<(), NoMemory>
     ensures { OnOk result (Grows (IsQualifier declared.now.keys reference.now) set.old.keys set.new.keys) }
 {
+    if reference.selected.is_none() || has_text(set, &reference.name.text) {
+        return Ok(());
+    }
     if !is_qualifier(declared, reference) {
         return Ok(());
     }

@@ -1,5 +1,5 @@
 pub mod Barring
-pub mod KeyOrders
+pub mod KnownKeys
 pub mod Missing
 pub mod Redeclaring
 pub mod Sites

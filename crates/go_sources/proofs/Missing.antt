@@ -1,14 +1,14 @@
 -- The first import that isn't found, import by import and file by file.
-use Rattle.std.proofs.Common.{◌≡◌, ◌<◌, ◌≤◌, ◌+◌, ◌⊎◌, inl, inr, ℕ, zero, suc, Bool, true, false, Option, None, Some, List, [], ◌∷◌, ◌++◌, length, map, drop, get_or, refl, sym, ap, ◌∙◌, subst, arith}
+use Rattle.std.proofs.Common.{◌≡◌, ◌<◌, ◌≤◌, ◌+◌, ℕ, suc, Bool, true, false, Option, None, Some, List, [], ◌∷◌, ◌++◌, length, map, drop, get_or, refl, sym, ap, ◌∙◌, subst, arith}
 use mathlib.Core.Bool.{true≢false}
 use Rattle.std.proofs.lemmas.List.{drop_more}
 use Rattle.go_base.proofs.Lists.{drop_past}
 use Rattle.go_syntax.specs.declared.name.Place.{Place}
-use Rattle.go_typings.specs.Refusals.{import_at, imports_from, IsFirstMissing, missing_here, missing_later, IsMissing}
+use Rattle.go_typings.specs.Refusals.{import_at, imports_from, IsFirstMissing, missing_here, missing_later}
 use Rattle.go_typings.specs.Sources.{Import}
 use Rattle.go_units.specs.declared.unit.UnitFile.{UnitFile}
 use Rattle.go_units.specs.declared.unit.UsedImport.{UsedImport}
-use Rattle.go_sources.specs.UnitSources.{file_of, import_of, source_of}
+use Rattle.go_sources.specs.UnitSources.{file_of, import_of}
 use Rattle.go_sources.specs.inner.MissingImports.{Misses, MissesIn}
 
 Is : ℕ → List UsedImport → List (ℕ × Import)

@@ -1,5 +1,5 @@
 -- The first name that was declared before, and that there is none.
-use Rattle.std.proofs.Common.{◌≡◌, ℕ, Option, None, Some, List, [], refl, sym, subst}
+use Rattle.std.proofs.Common.{◌≡◌, ℕ, Option, None, Some, List, [], sym, subst}
 use Rattle.std.specs.Prelude.{Result, Ok, Err}
 use Rattle.std.specs.Result.{IfOk}
 use Rattle.go_base.specs.Gathered.{gather}
@@ -7,15 +7,13 @@ use Rattle.go_base.specs.declared.memory.NoMemory.{NoMemory}
 use Rattle.go_syntax.specs.declared.declaration.Decl.{Decl}
 use Rattle.go_syntax.specs.declared.name.Place.{Place}
 use Rattle.go_rules.proofs.OneName.{none_some}
-use Rattle.go_typings.specs.Redeclarations.{import_site, IsLater, IsRedeclared, Site, sites}
-use Rattle.go_typings.specs.Sources.{PackageSource}
+use Rattle.go_typings.specs.Redeclarations.{import_site, IsRedeclared, Site, sites}
 use Rattle.go_units.specs.declared.unit.«Unit».{«Unit» as PackageUnit}
 use Rattle.go_units.specs.declared.unit.UnitFile.{UnitFile}
 use Rattle.go_units.specs.declared.unit.UsedImport.{UsedImport}
 use Rattle.go_sources.specs.UnitSources.{import_of, source_of}
-use Rattle.go_sources.specs.declared.known_names.Key.{Key}
 use Rattle.go_sources.specs.inner.DeclarationSites.{decl_sites, unit_file_sites, unit_sites_from}
-use Rattle.go_sources.specs.inner.KnownNames.{After, IsFirstLater, Steps, Visited}
+use Rattle.go_sources.specs.inner.KnownNames.{After, Steps, Visited, Key}
 use Rattle.go_sources.proofs.Sites.{unit_sites}
 use Rattle.go_sources.proofs.Visiting.{step_both}
 

@@ -1,24 +1,22 @@
 -- The names that a package declares are those of its groups, file by file.
-use Rattle.std.proofs.Common.{◌≡◌, ◌<◌, ◌≤◌, ◌+◌, ℕ, zero, suc, Bool, true, false, Option, None, Some, List, [], ◌∷◌, ◌++◌, length, map, take, get_or, refl, sym, ap, ◌∙◌, subst, arith, append_assoc, append-nil}
+use Rattle.std.proofs.Common.{◌≡◌, ◌<◌, ◌≤◌, ◌+◌, ℕ, suc, Bool, true, false, Option, None, Some, List, [], ◌∷◌, ◌++◌, length, map, take, get_or, refl, sym, ap, ◌∙◌, subst, arith, append_assoc, append-nil}
 use Rattle.std.specs.Prelude.{if◌then◌else◌}
 use Rattle.std.proofs.lemmas.List.{take_more}
 use Rattle.go_base.specs.Gathered.{gather}
 use Rattle.go_base.proofs.Lists.{length_take, take_past}
 use Rattle.go_syntax.specs.declared.declaration.ConstSpec.{ConstSpec}
-use Rattle.go_syntax.specs.declared.declaration.Decl.{Decl}
 use Rattle.go_syntax.specs.declared.declaration.Decl.TheVariants as decl
 use Rattle.go_syntax.specs.declared.declaration.TypeSpec.{TypeSpec}
 use Rattle.go_syntax.specs.declared.declaration.VarSpec.{VarSpec}
 use Rattle.go_syntax.specs.declared.expression.Expr.{Expr}
 use Rattle.go_syntax.specs.declared.name.Place.{Place}
-use Rattle.go_typings.specs.Declarations.{Form, alias, constants, constants_from, definition, forms, in_file, no_spec, repeated, repeats, type_form, variables, func_form}
+use Rattle.go_typings.specs.Declarations.{alias, constants_from, definition, forms, in_file, no_spec, repeated, repeats, type_form, variables}
 use Rattle.go_typings.specs.Redeclarations.{declaration_sites, file_sites, form_sites, import_site, name_site, Site, sites, sites_from}
 use Rattle.go_units.specs.declared.unit.«Unit».{«Unit» as PackageUnit}
 use Rattle.go_units.specs.declared.unit.UnitFile.{UnitFile}
 use Rattle.go_sources.specs.UnitSources.{file_of, import_of, source_of}
-use Rattle.go_sources.specs.declared.known_names.Key.{Key}
 use Rattle.go_sources.specs.inner.DeclarationSites.{const_sites, decl_sites, type_sites, unit_file_sites, unit_sites_from, var_sites}
-use Rattle.go_sources.specs.inner.KnownNames.{Steps}
+use Rattle.go_sources.specs.inner.KnownNames.{Steps, Key}
 use Rattle.go_sources.proofs.Visiting.{gather_split, split_taken, step_both, step_ends}
 
 -- ---- gathering

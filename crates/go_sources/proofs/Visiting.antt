@@ -1,5 +1,5 @@
 -- Names that are visited in turn, up to the first that was declared before.
-use Rattle.std.proofs.Common.{◌≡◌, ◌≢◌, ◌<◌, ◌≤◌, ◌+◌, ◌⊎◌, ◌↔◌, inl, inr, ℕ, zero, suc, Bool, true, false, Option, None, Some, List, [], ◌∷◌, ◌++◌, length, take, get_or, refl, sym, ap, ◌∙◌, subst, arith, append_assoc, append-nil, length-append}
+use Rattle.std.proofs.Common.{◌≡◌, ◌<◌, ◌≤◌, ◌+◌, ◌⊎◌, inl, inr, ℕ, zero, suc, Option, None, Some, List, [], ◌∷◌, ◌++◌, length, take, get_or, refl, sym, ap, ◌∙◌, subst, arith, append_assoc, append-nil, length-append}
 use Rattle.std.specs.Prelude.{slice_get}
 use Rattle.std.proofs.lemmas.List.{take_more}
 use Rattle.std.proofs.lemmas.Option.{slice_get_within}
@@ -10,12 +10,8 @@ use Rattle.go_base.proofs.Lists.{take_past}
 use Rattle.go_base.proofs.Members.{has_split}
 use Rattle.go_syntax.specs.declared.name.Place.{Place}
 use Rattle.go_rules.proofs.OneName.{none_some}
-use Rattle.go_rules.specs.Expressions.{is_blank}
-use Rattle.go_typings.specs.Declarations.{is_init}
-use Rattle.go_typings.specs.Redeclarations.{Clash, Collide, IsLater, Role, of_import, of_package, of_receiver, Site, site}
-use Rattle.go_sources.specs.declared.known_names.Block.TheVariants as block
-use Rattle.go_sources.specs.declared.known_names.Key.{Key}
-use Rattle.go_sources.specs.inner.KnownNames.{After, AreKeysOf, Bars, IsFirstLater, key, Puts, Steps, Visited}
+use Rattle.go_typings.specs.Redeclarations.{Clash, IsLater, Site}
+use Rattle.go_sources.specs.inner.KnownNames.{After, IsFirstLater, Puts, Steps, Visited, Key}
 
 -- ---- lists
 
@@ -51,12 +47,12 @@ module _ {A : Type 0} where
   has_get (y ∷ xs) x (inl e) = (0, ap Some e)
   has_get (y ∷ xs) x (inr h) = let k = has_get xs x h in (suc k.0, k.1)
 
-  has_left : (xs ys : List A) (x : A) → Has xs x → Has (xs ++ ys) x
+  pub has_left : (xs ys : List A) (x : A) → Has xs x → Has (xs ++ ys) x
   has_left [] ys x h = absurd h
   has_left (y ∷ xs) ys x (inl e) = inl e
   has_left (y ∷ xs) ys x (inr h) = inr (has_left xs ys x h)
 
-  has_right : (xs ys : List A) (x : A) → Has ys x → Has (xs ++ ys) x
+  pub has_right : (xs ys : List A) (x : A) → Has ys x → Has (xs ++ ys) x
   has_right [] ys x h = h
   has_right (y ∷ xs) ys x h = inr (has_right xs ys x h)
 

@@ -1,10 +1,10 @@
 //! The names that were declared so far, by what they were declared as.
-ghost use Rattle.std.specs.Prelude.{◌≡◌, Decides, IfOk, OnOk};
+ghost use Rattle.std.specs.Prelude.{◌≡◌, [], Decides, IfOk};
 ghost use Rattle.go_base.specs.Lists.{Has};
-ghost use Rattle.go_base.specs.Growing.{Grows};
+ghost use Rattle.go_base.specs.Growing.{Adds};
 ghost use Rattle.go_rules.specs.Expressions.{is_blank};
 ghost use Rattle.go_typings.specs.Redeclarations.{of_import, of_package, of_receiver, site};
-ghost use Rattle.go_sources.specs.inner.KnownNames.{key, role_of, Bars, Puts, Steps};
+ghost use Rattle.go_sources.specs.inner.KnownNames.{all_files, key, keys_of, one_file, one_package, one_receiver, role_of, Declares, Steps};
 
 use go_base::memory::NoMemory;
 use go_base::text::Text;
@@ -12,23 +12,29 @@ use go_syntax::name::Place;
 use std::alloc::Global;
 use std::collections::BTreeSet;
 
-/// Where names can't be declared twice.
-#[derive(PartialEq, Eq, PartialOrd, Ord, Drop)]
-pub(crate) enum Block {
-    /// The imports of a file, by its number.
-    File(u32),
-    /// The imports of all files.
-    Files,
-    Package,
-    /// The methods of a type.
-    Methods(Text),
+/// The name of an import in a file.
+#[derive(PartialEq, Eq, PartialOrd, Ord, Clone, Copy)]
+pub(crate) struct ImportName<'a> {
+    /// The number of the file.
+    pub file: u32,
+    pub name: &'a Text,
 }
 
-/// A name that was declared.
-#[derive(PartialEq, Eq, PartialOrd, Ord, Drop)]
-pub(crate) struct Key {
-    pub block: Block,
-    pub name: Text,
+/// The name of a method of a type.
+#[derive(PartialEq, Eq, PartialOrd, Ord, Clone, Copy)]
+pub(crate) struct MethodName<'a> {
+    pub receiver: &'a Text,
+    pub name: &'a Text,
+}
+
+/// The names that were declared, block by block.
+#[derive(Drop)]
+pub(crate) struct KnownNames<'a> {
+    pub imports: BTreeSet<ImportName<'a>>,
+    /// The names of the imports of all files.
+    pub imported: BTreeSet<&'a Text>,
+    pub objects: BTreeSet<&'a Text>,
+    pub methods: BTreeSet<MethodName<'a>>,
 }
 
 /// What a name is declared as.
@@ -42,123 +48,114 @@ pub(crate) enum NameRole<'a> {
     Method(&'a Text),
 }
 
-fn add(keys: &mut BTreeSet<Key>, alloc: Global, block: Block, name: &Text) -> Result<(), NoMemory>
-    ensures { OnOk result (Grows (λ k. key block name.now ≡ k) keys.old.keys keys.new.keys) }
+/// No names.
+pub(crate) fn no_names<'a>(alloc: Global) -> KnownNames<'a>
+    ensures { keys_of result ≡ [] }
 {
-    let name = Text::of(alloc, name.bytes())?;
-    keys.insert(Key { block, name })?;
-    Ok(())
+    KnownNames {
+        imports: BTreeSet::new(alloc),
+        imported: BTreeSet::new(alloc),
+        objects: BTreeSet::new(alloc),
+        methods: BTreeSet::new(alloc),
+    }
 }
 
-fn has(keys: &BTreeSet<Key>, alloc: Global, block: Block, name: &Text) -> Result<bool, NoMemory>
-    ensures { IfOk result (λ b. Decides b (Has keys.now.keys (key block name.now))) }
+fn add_import<'a>(known: &mut KnownNames<'a>, file: u32, name: &'a Text) -> Result<bool, NoMemory>
+    ensures { IfOk result (Adds (keys_of known.old) (key (one_file file) name.now) (keys_of known.new)) }
 {
-    let name = Text::of(alloc, name.bytes())?;
-    let key = Key { block, name };
-    Ok(keys.contains(&key))
+    let is_new = known.imports.insert(ImportName { file, name })?;
+    Ok(is_new)
 }
 
-fn bars_import(
-    keys: &BTreeSet<Key>,
-    alloc: Global,
-    file: u32,
-    name: &Text,
+fn add_imported<'a>(known: &mut KnownNames<'a>, name: &'a Text) -> Result<bool, NoMemory>
+    ensures { IfOk result (Adds (keys_of known.old) (key all_files name.now) (keys_of known.new)) }
+{
+    let is_new = known.imported.insert(name)?;
+    Ok(is_new)
+}
+
+fn add_object<'a>(known: &mut KnownNames<'a>, name: &'a Text) -> Result<bool, NoMemory>
+    ensures { IfOk result (Adds (keys_of known.old) (key one_package name.now) (keys_of known.new)) }
+{
+    let is_new = known.objects.insert(name)?;
+    Ok(is_new)
+}
+
+fn add_method<'a>(
+    known: &mut KnownNames<'a>,
+    receiver: &'a Text,
+    name: &'a Text,
 ) -> Result<bool, NoMemory>
-    ensures { IfOk result (λ b. Decides b (Bars keys.now.keys name.now (of_import file))) }
+    ensures { IfOk result (Adds (keys_of known.old) (key (one_receiver receiver.now) name.now) (keys_of known.new)) }
 {
-    if name.bytes().is_empty() {
+    let is_new = known.methods.insert(MethodName { receiver, name })?;
+    Ok(is_new)
+}
+
+fn is_imported<'a>(known: &KnownNames<'a>, name: &'a Text) -> bool
+    ensures { Decides result (Has (keys_of known.now) (key all_files name.now)) }
+{
+    known.imported.contains(&name)
+}
+
+fn is_object<'a>(known: &KnownNames<'a>, name: &'a Text) -> bool
+    ensures { Decides result (Has (keys_of known.now) (key one_package name.now)) }
+{
+    known.objects.contains(&name)
+}
+
+fn declare_import<'a>(
+    known: &mut KnownNames<'a>,
+    file: u32,
+    name: &'a Text,
+) -> Result<bool, NoMemory>
+    ensures { IfOk result (Declares name.now (of_import file) (keys_of known.old) (keys_of known.new)) }
+{
+    let has_name = !name.bytes().is_empty();
+    if has_name && is_object(known, name) {
         return Ok(false);
     }
-    if has(keys, alloc, Block::File(file), name)? {
-        return Ok(true);
-    }
-    has(keys, alloc, Block::Package, name)
-}
-
-fn bars_object(keys: &BTreeSet<Key>, alloc: Global, name: &Text) -> Result<bool, NoMemory>
-    ensures { IfOk result (λ b. Decides b (Bars keys.now.keys name.now of_package)) }
-{
-    if name.bytes() != b"init".as_slice() && has(keys, alloc, Block::Package, name)? {
-        return Ok(true);
-    }
-    if name.bytes().is_empty() {
+    let is_new = add_import(known, file, name)?;
+    if has_name && !is_new {
         return Ok(false);
     }
-    has(keys, alloc, Block::Files, name)
+    add_imported(known, name)?;
+    Ok(true)
 }
 
-fn bars_method(
-    keys: &BTreeSet<Key>,
-    alloc: Global,
-    receiver: &Text,
-    name: &Text,
-) -> Result<bool, NoMemory>
-    ensures { IfOk result (λ b. Decides b (Bars keys.now.keys name.now (of_receiver receiver.now))) }
+fn declare_object<'a>(known: &mut KnownNames<'a>, name: &'a Text) -> Result<bool, NoMemory>
+    ensures { IfOk result (Declares name.now of_package (keys_of known.old) (keys_of known.new)) }
 {
-    has(
-        keys,
-        alloc,
-        Block::Methods(Text::of(alloc, receiver.bytes())?),
-        name,
-    )
-}
-
-// Whether a name can't be declared so beside those that were.
-fn bars(
-    keys: &BTreeSet<Key>,
-    alloc: Global,
-    role: NameRole<'_>,
-    name: &Text,
-) -> Result<bool, NoMemory>
-    ensures { IfOk result (λ b. Decides b (Bars keys.now.keys name.now (role_of role.entry))) }
-{
-    match role {
-        NameRole::Import(file) => bars_import(keys, alloc, file, name),
-        NameRole::Package => bars_object(keys, alloc, name),
-        NameRole::Method(receiver) => bars_method(keys, alloc, receiver, name),
+    let has_name = !name.bytes().is_empty();
+    if has_name && is_imported(known, name) {
+        return Ok(false);
     }
+    let is_new = add_object(known, name)?;
+    Ok(is_new || name.bytes() == b"init".as_slice())
 }
 
-fn put_import(
-    keys: &mut BTreeSet<Key>,
-    alloc: Global,
-    file: u32,
-    name: &Text,
-) -> Result<(), NoMemory>
-    ensures { OnOk result (Grows (Puts name.now (of_import file)) keys.old.keys keys.new.keys) }
+fn declare_method<'a>(
+    known: &mut KnownNames<'a>,
+    receiver: &'a Text,
+    name: &'a Text,
+) -> Result<bool, NoMemory>
+    ensures { IfOk result (Declares name.now (of_receiver receiver.now) (keys_of known.old) (keys_of known.new)) }
 {
-    add(keys, alloc, Block::File(file), name)?;
-    add(keys, alloc, Block::Files, name)
+    add_method(known, receiver, name)
 }
 
-fn put_method(
-    keys: &mut BTreeSet<Key>,
-    alloc: Global,
-    receiver: &Text,
-    name: &Text,
-) -> Result<(), NoMemory>
-    ensures { OnOk result (Grows (Puts name.now (of_receiver receiver.now)) keys.old.keys keys.new.keys) }
-{
-    add(
-        keys,
-        alloc,
-        Block::Methods(Text::of(alloc, receiver.bytes())?),
-        name,
-    )
-}
-
-fn put(
-    keys: &mut BTreeSet<Key>,
-    alloc: Global,
-    role: NameRole<'_>,
-    name: &Text,
-) -> Result<(), NoMemory>
-    ensures { OnOk result (Grows (Puts name.now (role_of role.entry)) keys.old.keys keys.new.keys) }
+// Notes a name, unless it can't be declared so beside those that were.
+fn declare<'a>(
+    known: &mut KnownNames<'a>,
+    role: NameRole<'a>,
+    name: &'a Text,
+) -> Result<bool, NoMemory>
+    ensures { IfOk result (Declares name.now (role_of role.entry) (keys_of known.old) (keys_of known.new)) }
 {
     match role {
-        NameRole::Import(file) => put_import(keys, alloc, file, name),
-        NameRole::Package => add(keys, alloc, Block::Package, name),
-        NameRole::Method(receiver) => put_method(keys, alloc, receiver, name),
+        NameRole::Import(file) => declare_import(known, file, name),
+        NameRole::Package => declare_object(known, name),
+        NameRole::Method(receiver) => declare_method(known, receiver, name),
     }
 }
 
@@ -169,21 +166,17 @@ fn is_blank(name: &Text) -> bool
 }
 
 /// Notes a name, unless it is blank, and tells its place where it was declared before.
-pub(crate) fn visit(
-    keys: &mut BTreeSet<Key>,
-    alloc: Global,
+pub(crate) fn visit<'a>(
+    known: &mut KnownNames<'a>,
     place: Place,
-    role: NameRole<'_>,
-    name: &Text,
+    role: NameRole<'a>,
+    name: &'a Text,
 ) -> Result<Option<Place>, NoMemory>
-    ensures { IfOk result (Steps (site place.file place.offset name.now (role_of role.entry)) keys.old.keys keys.new.keys) }
+    ensures { IfOk result (Steps (site place.file place.offset name.now (role_of role.entry)) (keys_of known.old) (keys_of known.new)) }
 {
     if is_blank(name) {
         return Ok(None);
     }
-    if bars(keys, alloc, role, name)? {
-        return Ok(Some(place));
-    }
-    put(keys, alloc, role, name)?;
-    Ok(None)
+    let is_free = declare(known, role, name)?;
+    if is_free { Ok(None) } else { Ok(Some(place)) }
 }

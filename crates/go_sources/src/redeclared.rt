@@ -6,10 +6,10 @@ ghost use Rattle.go_typings.specs.Redeclarations.{form_sites, import_site, metho
 ghost use Rattle.go_typings.specs.Declarations.{func_form};
 ghost use Rattle.go_sources.specs.UnitSources.{import_of, source_of};
 ghost use Rattle.go_sources.specs.inner.DeclarationSites.{const_sites, decl_sites, type_sites, unit_file_sites, var_sites};
-ghost use Rattle.go_sources.specs.inner.KnownNames.{Steps};
+ghost use Rattle.go_sources.specs.inner.KnownNames.{keys_of, Steps};
 ghost use Rattle.go_declared.specs.ReceiverNames.{text_of};
 
-use crate::known_names::{Key, NameRole, visit};
+use crate::known_names::{KnownNames, NameRole, no_names, visit};
 use go_base::memory::NoMemory;
 use go_base::text::Text;
 use go_declared::receivers::receiver_name;
@@ -17,33 +17,30 @@ use go_syntax::declaration::{ConstSpec, Decl, Func, TypeSpec, VarSpec};
 use go_syntax::name::{Name, Place};
 use go_units::unit::{Unit, UnitFile, UsedImport};
 use std::alloc::Global;
-use std::collections::BTreeSet;
 
-fn import(
-    keys: &mut BTreeSet<Key>,
-    alloc: Global,
+fn import<'a>(
+    known: &mut KnownNames<'a>,
     file: u32,
-    import: &UsedImport,
+    import: &'a UsedImport,
 ) -> Result<Option<Place>, NoMemory>
-    ensures { IfOk result (Steps (import_site file (import_of import.now)) keys.old.keys keys.new.keys) }
+    ensures { IfOk result (Steps (import_site file (import_of import.now)) (keys_of known.old) (keys_of known.new)) }
 {
     let place = Place {
         file,
         offset: import.place,
     };
-    visit(keys, alloc, place, NameRole::Import(file), &import.name)
+    visit(known, place, NameRole::Import(file), &import.name)
 }
 
-fn imports(
-    keys: &mut BTreeSet<Key>,
-    alloc: Global,
+fn imports<'a>(
+    known: &mut KnownNames<'a>,
     file: u32,
-    imports: &[UsedImport],
+    imports: &'a [UsedImport],
 ) -> Result<Option<Place>, NoMemory>
-    ensures { IfOk result (Steps (gather (λ i. import_site file (import_of i)) imports.now) keys.old.keys keys.new.keys) }
+    ensures { IfOk result (Steps (gather (λ i. import_site file (import_of i)) imports.now) (keys_of known.old) (keys_of known.new)) }
 {
     for used in imports {
-        let found = import(keys, alloc, file, used)?;
+        let found = import(known, file, used)?;
         match found {
             None => {}
             Some(place) => return Ok(Some(place)),
@@ -52,31 +49,29 @@ fn imports(
     Ok(None)
 }
 
-fn object(
-    keys: &mut BTreeSet<Key>,
-    alloc: Global,
+fn object<'a>(
+    known: &mut KnownNames<'a>,
     file: u32,
-    name: &Name,
+    name: &'a Name,
 ) -> Result<Option<Place>, NoMemory>
-    ensures { IfOk result (Steps (name_site file name.now) keys.old.keys keys.new.keys) }
+    ensures { IfOk result (Steps (name_site file name.now) (keys_of known.old) (keys_of known.new)) }
 {
     let place = Place {
         file,
         offset: name.place,
     };
-    visit(keys, alloc, place, NameRole::Package, &name.text)
+    visit(known, place, NameRole::Package, &name.text)
 }
 
-fn objects(
-    keys: &mut BTreeSet<Key>,
-    alloc: Global,
+fn objects<'a>(
+    known: &mut KnownNames<'a>,
     file: u32,
-    names: &[Name],
+    names: &'a [Name],
 ) -> Result<Option<Place>, NoMemory>
-    ensures { IfOk result (Steps (gather (name_site file) names.now) keys.old.keys keys.new.keys) }
+    ensures { IfOk result (Steps (gather (name_site file) names.now) (keys_of known.old) (keys_of known.new)) }
 {
     for name in names {
-        let found = object(keys, alloc, file, name)?;
+        let found = object(known, file, name)?;
         match found {
             None => {}
             Some(place) => return Ok(Some(place)),
@@ -85,16 +80,15 @@ fn objects(
     Ok(None)
 }
 
-fn constants(
-    keys: &mut BTreeSet<Key>,
-    alloc: Global,
+fn constants<'a>(
+    known: &mut KnownNames<'a>,
     file: u32,
-    specs: &[ConstSpec],
+    specs: &'a [ConstSpec],
 ) -> Result<Option<Place>, NoMemory>
-    ensures { IfOk result (Steps (gather (const_sites file) specs.now) keys.old.keys keys.new.keys) }
+    ensures { IfOk result (Steps (gather (const_sites file) specs.now) (keys_of known.old) (keys_of known.new)) }
 {
     for spec in specs {
-        let found = objects(keys, alloc, file, spec.names.items())?;
+        let found = objects(known, file, spec.names.items())?;
         match found {
             None => {}
             Some(place) => return Ok(Some(place)),
@@ -103,16 +97,15 @@ fn constants(
     Ok(None)
 }
 
-fn variables(
-    keys: &mut BTreeSet<Key>,
-    alloc: Global,
+fn variables<'a>(
+    known: &mut KnownNames<'a>,
     file: u32,
-    specs: &[VarSpec],
+    specs: &'a [VarSpec],
 ) -> Result<Option<Place>, NoMemory>
-    ensures { IfOk result (Steps (gather (var_sites file) specs.now) keys.old.keys keys.new.keys) }
+    ensures { IfOk result (Steps (gather (var_sites file) specs.now) (keys_of known.old) (keys_of known.new)) }
 {
     for spec in specs {
-        let found = objects(keys, alloc, file, spec.names.items())?;
+        let found = objects(known, file, spec.names.items())?;
         match found {
             None => {}
             Some(place) => return Ok(Some(place)),
@@ -121,16 +114,15 @@ fn variables(
     Ok(None)
 }
 
-fn types(
-    keys: &mut BTreeSet<Key>,
-    alloc: Global,
+fn types<'a>(
+    known: &mut KnownNames<'a>,
     file: u32,
-    specs: &[TypeSpec],
+    specs: &'a [TypeSpec],
 ) -> Result<Option<Place>, NoMemory>
-    ensures { IfOk result (Steps (gather (type_sites file) specs.now) keys.old.keys keys.new.keys) }
+    ensures { IfOk result (Steps (gather (type_sites file) specs.now) (keys_of known.old) (keys_of known.new)) }
 {
     for spec in specs {
-        let found = object(keys, alloc, file, &spec.name)?;
+        let found = object(known, file, &spec.name)?;
         match found {
             None => {}
             Some(place) => return Ok(Some(place)),
@@ -139,14 +131,13 @@ fn types(
     Ok(None)
 }
 
-fn method(
-    keys: &mut BTreeSet<Key>,
-    alloc: Global,
+fn method<'a>(
+    known: &mut KnownNames<'a>,
     file: u32,
-    receiver: Option<&Text>,
-    name: &Name,
+    receiver: Option<&'a Text>,
+    name: &'a Name,
 ) -> Result<Option<Place>, NoMemory>
-    ensures { IfOk result (Steps (method_site file (text_of receiver.entry) name.now) keys.old.keys keys.new.keys) }
+    ensures { IfOk result (Steps (method_site file (text_of receiver.entry) name.now) (keys_of known.old) (keys_of known.new)) }
 {
     match receiver {
         None => Ok(None),
@@ -155,51 +146,48 @@ fn method(
                 file,
                 offset: name.place,
             };
-            visit(keys, alloc, place, NameRole::Method(receiver), &name.text)
+            visit(known, place, NameRole::Method(receiver), &name.text)
         }
     }
 }
 
-fn function(
-    keys: &mut BTreeSet<Key>,
-    alloc: Global,
+fn function<'a>(
+    known: &mut KnownNames<'a>,
     file: u32,
-    func: &Func,
+    func: &'a Func,
 ) -> Result<Option<Place>, NoMemory>
-    ensures { IfOk result (Steps (form_sites file (func_form func.now.receiver func.now)) keys.old.keys keys.new.keys) }
+    ensures { IfOk result (Steps (form_sites file (func_form func.now.receiver func.now)) (keys_of known.old) (keys_of known.new)) }
 {
     match &func.receiver {
-        None => object(keys, alloc, file, &func.name),
-        Some(receiver) => method(keys, alloc, file, receiver_name(receiver), &func.name),
+        None => object(known, file, &func.name),
+        Some(receiver) => method(known, file, receiver_name(receiver), &func.name),
     }
 }
 
-fn declaration(
-    keys: &mut BTreeSet<Key>,
-    alloc: Global,
+fn declaration<'a>(
+    known: &mut KnownNames<'a>,
     file: u32,
-    decl: &Decl,
+    decl: &'a Decl,
 ) -> Result<Option<Place>, NoMemory>
-    ensures { IfOk result (Steps (decl_sites file decl.now) keys.old.keys keys.new.keys) }
+    ensures { IfOk result (Steps (decl_sites file decl.now) (keys_of known.old) (keys_of known.new)) }
 {
     match decl {
-        Decl::ConstGroup(specs) => constants(keys, alloc, file, specs.items()),
-        Decl::VarGroup(specs) => variables(keys, alloc, file, specs.items()),
-        Decl::TypeGroup(specs) => types(keys, alloc, file, specs.items()),
-        Decl::FuncDecl(func) => function(keys, alloc, file, func.value()),
+        Decl::ConstGroup(specs) => constants(known, file, specs.items()),
+        Decl::VarGroup(specs) => variables(known, file, specs.items()),
+        Decl::TypeGroup(specs) => types(known, file, specs.items()),
+        Decl::FuncDecl(func) => function(known, file, func.value()),
     }
 }
 
-fn declarations(
-    keys: &mut BTreeSet<Key>,
-    alloc: Global,
+fn declarations<'a>(
+    known: &mut KnownNames<'a>,
     file: u32,
-    decls: &[Decl],
+    decls: &'a [Decl],
 ) -> Result<Option<Place>, NoMemory>
-    ensures { IfOk result (Steps (gather (decl_sites file) decls.now) keys.old.keys keys.new.keys) }
+    ensures { IfOk result (Steps (gather (decl_sites file) decls.now) (keys_of known.old) (keys_of known.new)) }
 {
     for decl in decls {
-        let found = declaration(keys, alloc, file, decl)?;
+        let found = declaration(known, file, decl)?;
         match found {
             None => {}
             Some(place) => return Ok(Some(place)),
@@ -208,20 +196,19 @@ fn declarations(
     Ok(None)
 }
 
-fn names_of_file(
-    keys: &mut BTreeSet<Key>,
-    alloc: Global,
+fn names_of_file<'a>(
+    known: &mut KnownNames<'a>,
     number: u32,
-    file: &UnitFile,
+    file: &'a UnitFile,
 ) -> Result<Option<Place>, NoMemory>
-    ensures { IfOk result (Steps (unit_file_sites number file.now) keys.old.keys keys.new.keys) }
+    ensures { IfOk result (Steps (unit_file_sites number file.now) (keys_of known.old) (keys_of known.new)) }
 {
-    let found = imports(keys, alloc, number, file.imports.items())?;
+    let found = imports(known, number, file.imports.items())?;
     match found {
         None => {}
         Some(place) => return Ok(Some(place)),
     }
-    declarations(keys, alloc, number, file.outline.decls.items())
+    declarations(known, number, file.outline.decls.items())
 }
 
 /// The place of the first name, file by file and in each the imports before the declarations, that the package declared
@@ -230,10 +217,10 @@ pub fn redeclared(alloc: Global, unit: &Unit) -> Result<Option<Place>, NoMemory>
     ensures some { IfOk result (λ found. IfSome found (IsRedeclared (source_of unit.now))) }
     ensures none { IfOk result (λ found. IfNone found ((p : Place) → IsRedeclared (source_of unit.now) p → ⊥)) }
 {
-    let mut keys = BTreeSet::new(alloc);
+    let mut known = no_names(alloc);
     let mut number = 0u32;
     for file in unit.files.items() {
-        let found = names_of_file(&mut keys, alloc, number, file)?;
+        let found = names_of_file(&mut known, number, file)?;
         match found {
             None => {}
             Some(place) => return Ok(Some(place)),
