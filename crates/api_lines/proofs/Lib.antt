@@ -1,7 +1,11 @@
+pub mod CopiedItems
 pub mod Growing
 pub mod LineOrder
 pub mod Merged
 pub mod OrderedLines
 pub mod OrderedTexts
 pub mod Parts
+pub mod SharedMerge
+pub mod Shares
+pub mod Splits
 pub mod TextSets

@@ -1,1 +1,2 @@
 pub mod MergedLines
+pub mod Shares

@@ -1,8 +1,13 @@
 //! Feature lines, and one list of them for several platforms.
 #![tactic(auto)]
 
+mod copies;
+mod join;
 pub mod line;
 pub mod lines;
-pub mod merge;
+mod merge;
 mod part;
+mod place;
+pub mod platform_lines;
+mod split;
 pub mod texts;

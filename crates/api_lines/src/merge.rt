@@ -7,6 +7,7 @@ ghost use Rattle.api_lines.specs.Lines.{printed, AreInOrder, IsListing};
 ghost use Rattle.api_lines.specs.Merging.{HasNoContext, IsMerged};
 ghost use Rattle.api_lines.specs.inner.MergedLines.{IsOwn, IsOwnOfSome, IsTextOnAll, AreExactly};
 
+use crate::join::add_all;
 use crate::line::Line;
 use crate::lines::Lines;
 use crate::part::part;
@@ -64,15 +65,6 @@ fn add_own(
     Ok(())
 }
 
-fn add_all(alloc: Global, lines: List<Line>, merged: &mut Lines) -> Result<(), NoMemory>
-    ensures { OnOk result (Grows (Has lines) merged.old merged.new) }
-{
-    for line in lines.into_vec() {
-        merged.add(alloc, line)?;
-    }
-    Ok(())
-}
-
 // The merged lines of a first list and of others.
 fn merge_several(
     alloc: Global,
@@ -97,7 +89,7 @@ fn merge_several(
 /// One list for several platforms, each of which has its list of lines, in the order of the platforms: a line
 /// whose text is in all lists stands once, without context, and every other one in the context of each platform
 /// whose list has it. Each text stands once, in the order of bytes. A single list is given back as it is.
-pub fn merge(
+pub(crate) fn merge(
     alloc: Global,
     lists: List<List<Line>>,
     platforms: &[Platform],

@@ -1,0 +1,8 @@
+use Rattle.std.proofs.Common.{subst, sym}
+use Rattle.go_base.specs.Lists.{Each}
+use Rattle.api_lines.specs.inner.Shares.{IsRest, AreShared}
+use Rattle.api_lines.proofs.Shares.{none_shared}
+use Rattle.api_lines.proofs.platform_lines.PlatformLines.new.Goals as goal
+
+pub invariant_of-result : goal.invariant_of-result
+invariant_of-result c = none_shared c.new.result c.new-2.result c.new.ensures c.new-2.ensures
