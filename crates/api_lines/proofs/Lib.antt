@@ -1,5 +1,6 @@
 pub mod CopiedItems
 pub mod Growing
+pub mod Joins
 pub mod LineOrder
 pub mod Merged
 pub mod OrderedLines

@@ -7,7 +7,6 @@ ghost use Rattle.api_lines.specs.Lines.{printed, AreInOrder, IsListing};
 ghost use Rattle.api_lines.specs.Merging.{HasNoContext, IsMerged};
 ghost use Rattle.api_lines.specs.inner.MergedLines.{IsOwn, IsOwnOfSome, IsTextOnAll, AreExactly};
 
-use crate::join::add_all;
 use crate::line::Line;
 use crate::lines::Lines;
 use crate::part::part;
@@ -61,6 +60,15 @@ fn add_own(
         let platform = platform_at(platforms, i);
         let _common = part(alloc, lines, common, platform, merged)?;
         i += 1;
+    }
+    Ok(())
+}
+
+fn add_all(alloc: Global, lines: List<Line>, merged: &mut Lines) -> Result<(), NoMemory>
+    ensures { OnOk result (Grows (Has lines) merged.old merged.new) }
+{
+    for line in lines.into_vec() {
+        merged.add(alloc, line)?;
     }
     Ok(())
 }

@@ -49,7 +49,8 @@ fn with_leaving(
     own: List<List<Line>>,
     leaving: &[Line],
 ) -> Result<List<List<Line>>, NoMemory>
-    requires { Each AreInOrder own }
+    requires own { Each AreInOrder own }
+    requires leaving { AreInOrder leaving.now }
     ensures { IfOk result (AreJoined leaving.now own) }
 {
     if leaving.is_empty() {
