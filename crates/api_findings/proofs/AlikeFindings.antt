@@ -1,8 +1,7 @@
 -- What is found on a platform is found on one that is alike.
-use Rattle.std.proofs.Common.{◌≡◌, ℕ, Option, Some, List, [], ◌∷◌, ◌++◌, Result, Ok, sym, subst, inr}
+use Rattle.std.proofs.Common.{◌≡◌, ℕ, Option, Some, List, [], ◌∷◌, ◌++◌, Result, Ok, subst, inr}
 use Rattle.api_findings.specs.Findings.{Finds, features_alone, with_verdict}
-use Rattle.api_findings.specs.declared.found.Found.{Found}
-use Rattle.api_findings.specs.inner.Found.{IsFoundAlike, listed, verdicts_of}
+use Rattle.api_findings.specs.inner.Found.{IsAdded, IsFoundAlike, listed}
 use Rattle.api_judge.specs.declared.verdict.Verdict.{Verdict}
 use Rattle.api_lines.specs.declared.line.Line.{Line}
 use Rattle.api_worlds.specs.PlatformWorlds.{IsWorldOn, sources_of}
@@ -40,9 +39,13 @@ module _ (units : (p q : Platform) (barred : List (List ℕ)) (tree std_tree : T
     same_findings lines vs (features_alone w e i f) = features_alone w e (same_world tree w of_tree i) f
     same_findings lines vs (with_verdict o before now e i j f k) = with_verdict o before now e (same_world o before (of_old o e) i) (same_world tree now of_tree j) f k
 
-  -- and so is a copy of it
-  pub found_again : (q : Platform) (lines : List Line) (verdict : Option Verdict) (found : Found) → found.lines ≡ lines → found.verdict ≡ verdict → IsFoundAlike barred old tree std_tree q lines verdict
-      → Finds barred old tree std_tree q found.lines (verdicts_of found)
-  found_again q lines verdict found e f k =
-      subst (λ (ls : List Line). Finds barred old tree std_tree q ls (listed found.verdict)) (sym e)
-      (subst (λ (v : Option Verdict). Finds barred old tree std_tree q lines (listed v)) (sym f) (same_findings k.earlier q k.alike lines (listed verdict) k.found))
+  -- and so it is added there
+  pub added_again : (q : Platform) (lists : List (List Line)) (vs : List Verdict) (new_lists : List (List Line)) (new_vs : List Verdict) (lines : List Line) (verdict : Option Verdict) → new_lists ≡ lists ++ lines ∷ [] → new_vs ≡ vs ++ listed verdict
+      → IsFoundAlike barred old tree std_tree q lines verdict → IsAdded barred old tree std_tree q lists vs new_lists new_vs
+  added_again q lists vs new_lists new_vs lines verdict e f k = record {
+    lines = lines;
+    verdict = verdict;
+    features = e;
+    verdicts = f;
+    found = same_findings k.earlier q k.alike lines (listed verdict) k.found;
+  }

@@ -1,5 +1,4 @@
 pub mod AlikeFindings
-pub mod CopiedItems
 pub mod FoundOn
 pub mod OneFinding
 pub mod OneListing

@@ -4,11 +4,12 @@ use Rattle.std.proofs.lemmas.List.{drop_more, take_more}
 use Rattle.api_findings.specs.Checks.{CountsAtMost, CountsOf, CountsPackages, count_more, count_none}
 use Rattle.api_findings.specs.Findings.{AnswersFindings, AreFindings, find_none, find_more, Finds, features_alone, with_verdict, IsFirstRefusal, refused_here, refused_later, OldStands}
 use Rattle.api_findings.specs.declared.findings.Findings.{Findings}
-use Rattle.api_findings.specs.inner.Found.{IsError, IsFoundAlike, listed}
+use Rattle.api_findings.specs.declared.found.Found.{Found}
+use Rattle.api_findings.specs.inner.Found.{IsAdded, IsError, IsFoundAlike, listed, verdicts_of}
 use Rattle.api_judge.specs.declared.verdict.Verdict.{Verdict}
 use Rattle.api_features.specs.Features.{IsFeature}
 use Rattle.api_lines.proofs.Growing.{each_of}
-use Rattle.api_lines.specs.Lines.{IsListing}
+use Rattle.api_lines.specs.Lines.{AreInOrder, IsListing}
 use Rattle.api_lines.specs.Merging.{HasNoContext}
 use Rattle.api_lines.specs.declared.line.Line.{Line}
 use Rattle.api_worlds.specs.PlatformWorlds.{IsWorldOn, no_package}
@@ -167,6 +168,15 @@ module _ (barred : List (List ℕ)) (old : Option Tree) (tree std_tree : Tree) w
       alike = (firsts.each i within).alike;
       found = subst (λ (q : Platform). Finds barred old tree std_tree q (get_or lists (get_or ns i 0) []) (listed (slice_get vs (get_or ns i 0)))) (taken_at (get_or ns i 0) (omega (arith, h, many))) (found_there (get_or ns i 0) platform.Linux386 t.found h);
     }
+
+  -- ---- what is added
+
+  pub in_order : (p : Platform) (found : Found) → Finds barred old tree std_tree p found.lines (verdicts_of found) → AreInOrder found.lines
+  in_order p found f = (featured f).features.ordered
+
+  pub added_now : (p : Platform) (found : Found) (lists : List (List Line)) (vs : List Verdict) (new_lists : List (List Line)) (new_vs : List Verdict) → new_lists ≡ lists ++ found.lines ∷ [] → new_vs ≡ vs ++ verdicts_of found
+      → Finds barred old tree std_tree p found.lines (verdicts_of found) → IsAdded barred old tree std_tree p lists vs new_lists new_vs
+  added_now p found lists vs new_lists new_vs e f k = record { lines = found.lines; verdict = found.verdict; features = e; verdicts = f; found = k }
 
   -- ---- what is merged
 

@@ -3,16 +3,17 @@ ghost use Rattle.std.specs.Prelude.{◌≡◌, ◌≢◌, ◌<◌, ◌++◌, ◌
 ghost use Rattle.std.specs.Option.{option_copied};
 ghost use Rattle.api_findings.specs.Checks.{CountsAtMost};
 ghost use Rattle.api_findings.specs.Findings.{AnswersFindings, IsOldTree};
-ghost use Rattle.api_findings.specs.inner.Found.{AnswersFound, IsFoundAlike, verdicts_of};
+ghost use Rattle.api_findings.specs.inner.Found.{AnswersNext, IsFoundAlike, listed, verdicts_of};
+ghost use Rattle.api_lines.specs.Lines.{AreInOrder};
 ghost use Rattle.api_lines.specs.Merging.{HasNoContext};
 ghost use Rattle.go_base.specs.Lists.{Each, Has};
 ghost use Rattle.go_file_choices.specs.AlikePlatforms.{AreFirsts, files_of};
 ghost use Rattle.go_model.specs.files.Trees.{IsTree};
 
-use crate::copies::{lines_copied, verdict_at};
+use crate::copies::verdict_at;
 use crate::found::{Found, found_on};
 use api_judge::verdict::Verdict;
-use api_lines::line::Line;
+use api_lines::platform_lines::PlatformLines;
 use api_worlds::error::PlatformError;
 use go_base::list::List;
 use go_base::memory::NoMemory;
@@ -28,7 +29,7 @@ use std::alloc::Global;
 /// What a run finds in its trees on platforms.
 pub struct Findings {
     /// The features of the new tree on each platform, without contexts.
-    pub features: List<List<Line>>,
+    pub features: PlatformLines,
     /// The verdict on each platform, where there is an old tree, and else none.
     pub verdicts: List<Verdict>,
 }
@@ -43,13 +44,10 @@ impl Drop for Findings {
 }
 
 impl Findings {
-    // Adds what is found on one platform more.
-    fn push(&mut self, found: Found) -> Result<(), NoMemory>
-        ensures features { OnOk result (self.new.features ≡ self.old.features ++ found.lines ∷ []) }
-        ensures verdicts { OnOk result (self.new.verdicts ≡ self.old.verdicts ++ verdicts_of found) }
+    fn push_verdict(&mut self, verdict: Option<Verdict>) -> Result<(), NoMemory>
+        ensures same { self.new.features ≡ self.old.features }
+        ensures verdicts { OnOk result (self.new.verdicts ≡ self.old.verdicts ++ listed verdict) }
     {
-        let (lines, verdict) = found.into_parts();
-        self.features.push(lines)?;
         match verdict {
             None => Ok(()),
             Some(verdict) => {
@@ -59,22 +57,34 @@ impl Findings {
         }
     }
 
-    // What was found on the platform of this number, once more.
-    fn found_at(&self, alloc: Global, number: usize) -> Result<Found, NoMemory>
-        requires { number < length self.now.features }
-        ensures lines { IfOk result (λ found. found.lines ≡ get_or self.now.features number []) }
-        ensures verdict { IfOk result (λ found. found.verdict ≡ slice_get self.now.verdicts number) }
+    // Adds what is found on one platform more.
+    fn push(&mut self, alloc: Global, found: Found) -> Result<(), NoMemory>
+        requires { AreInOrder found.lines }
+        ensures features { OnOk result (self.new.features ≡ self.old.features ++ found.lines ∷ []) }
+        ensures verdicts { OnOk result (self.new.verdicts ≡ self.old.verdicts ++ verdicts_of found) }
     {
-        let lines = lines_copied(alloc, self.features.items()[number].items())?;
+        let (lines, verdict) = found.into_parts();
+        self.features.add(alloc, lines)?;
+        self.push_verdict(verdict)
+    }
+
+    // Adds what was found on the platform of this number, once more.
+    fn push_again(&mut self, alloc: Global, number: usize) -> Result<(), NoMemory>
+        requires { number < length self.old.features }
+        ensures features { OnOk result (self.new.features ≡ self.old.features ++ get_or self.old.features number [] ∷ []) }
+        ensures verdicts { OnOk result (self.new.verdicts ≡ self.old.verdicts ++ listed (slice_get self.old.verdicts number)) }
+    {
         let verdict = verdict_at(alloc, self.verdicts.items(), number)?;
-        Ok(Found { lines, verdict })
+        self.features.add_again(alloc, number)?;
+        self.push_verdict(verdict)
     }
 }
 
-// What is found on a platform, where the first one that is alike has this number: what was found there already, or what is found now.
-fn found_next<G: Gate, L: Copy + Send>(
+// Adds what is found on a platform, where the first one that is alike has this number: what was found there already, or what is found
+// now.
+fn add_next<G: Gate, L: Copy + Send>(
     alloc: Global,
-    all: &Findings,
+    all: &mut Findings,
     first: usize,
     old_tree: Option<&Tree>,
     tree: &Tree,
@@ -83,26 +93,32 @@ fn found_next<G: Gate, L: Copy + Send>(
     platform: Platform,
     gate: &G,
     steps: &mut Steps<L>,
-) -> Result<Found, PlatformError>
-    requires alike { first < length all.now.features → IsFoundAlike barred.now (option_copied old_tree) tree.now std_tree.now platform (get_or all.now.features first []) (slice_get all.now.verdicts first) }
+) -> Result<(), PlatformError>
+    requires alike { first < length all.old.features → IsFoundAlike barred.now (option_copied old_tree) tree.now std_tree.now platform (get_or all.old.features first []) (slice_get all.old.verdicts first) }
     requires old { IsOldTree barred.now (option_copied old_tree) }
     requires tree { IsTree tree.now }
     requires std { IsTree std_tree.now }
     requires named { tree.now.module ≢ [] }
     requires barred { Has barred.now tree.now.module }
-    ensures answer { AnswersFound barred.now (option_copied old_tree.entry) tree.now std_tree.now platform result }
+    ensures answer { AnswersNext barred.now (option_copied old_tree.entry) tree.now std_tree.now platform all.old.features all.old.verdicts all.new.features all.new.verdicts result }
     ensures steps { CountsAtMost barred.now (option_copied old_tree.entry) tree.now std_tree.now (platform ∷ []) steps.old steps.new }
 {
     alike_units();
-    if first < all.features.items().len() {
-        return match all.found_at(alloc, first) {
-            Ok(found) => Ok(found),
+    if first < all.features.len() {
+        return match all.push_again(alloc, first) {
+            Ok(()) => Ok(()),
             Err(NoMemory) => Err(PlatformError::NoMemory),
         };
     }
-    found_on(
+    match found_on(
         alloc, old_tree, tree, std_tree, barred, platform, gate, steps,
-    )
+    ) {
+        Err(error) => Err(error),
+        Ok(found) => match all.push(alloc, found) {
+            Ok(()) => Ok(()),
+            Err(NoMemory) => Err(PlatformError::NoMemory),
+        },
+    }
 }
 
 // What `find` says, by the numbers of the first platforms that are alike.
@@ -126,13 +142,13 @@ fn find_by<G: Gate, L: Copy + Send>(
     ensures answer { AnswersFindings barred.now (option_copied old_tree.entry) tree.now std_tree.now platforms.now result }
     ensures steps { CountsAtMost barred.now (option_copied old_tree.entry) tree.now std_tree.now platforms.now steps.old steps.new }
 {
-    let features = List::new(alloc);
+    let features = PlatformLines::new(alloc);
     let verdicts = List::new(alloc);
     let mut all = Findings { features, verdicts };
     for at in 0..platforms.len() {
-        match found_next(
+        match add_next(
             alloc,
-            &all,
+            &mut all,
             firsts[at],
             old_tree,
             tree,
@@ -143,10 +159,7 @@ fn find_by<G: Gate, L: Copy + Send>(
             steps,
         ) {
             Err(error) => return Err(error),
-            Ok(found) => match all.push(found) {
-                Ok(()) => {}
-                Err(NoMemory) => return Err(PlatformError::NoMemory),
-            },
+            Ok(()) => {}
         }
     }
     Ok(all)

@@ -1,5 +1,4 @@
 pub mod DecisionEnds
-pub mod FoundInOrder
 pub mod OneOutcome
 pub mod OneReport
 pub mod RequestFacts

@@ -1,8 +1,13 @@
+pub mod CopiedItems
 pub mod Growing
+pub mod Joins
 pub mod LineOrder
 pub mod Merged
 pub mod OrderedLines
 pub mod OrderedTexts
 pub mod Parts
 pub mod PathOrder
+pub mod SharedMerge
+pub mod Shares
+pub mod Splits
 pub mod TextSets

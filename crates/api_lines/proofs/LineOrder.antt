@@ -1,5 +1,5 @@
 -- The order of lines by their texts.
-use Rattle.std.proofs.Common.{◌≡◌, ℕ, suc, ◌+◌, ◌<◌, ◌≤◌, true, false, List, [], ◌∷◌, ◌++◌, length, map, take, drop, get_or, refl, sym, ap, ◌∙◌, subst, inl, inr, arith}
+use Rattle.std.proofs.Common.{◌≡◌, ℕ, zero, suc, ◌+◌, ◌-◌, ◌<◌, ◌≤◌, Bool, true, false, List, [], ◌∷◌, ◌++◌, length, map, take, drop, get_or, refl, sym, ap, ◌∙◌, subst, inl, inr, arith}
 use mathlib.Core.Bool.{true≢false}
 use Rattle.std.specs.Prelude.{Decides}
 use Rattle.std.specs.Ordering.{ordering_then, is_lt, is_gt}
@@ -8,12 +8,13 @@ use Rattle.std.specs.Cmp.{nat_cmp_total, tied_itself}
 use Rattle.std.specs.Cmp.Lexicographic.{nat_list_cmp_total}
 use Rattle.std.specs.List.{AllByRecursion}
 use Rattle.std.specs.List.Sorted.{IsStrictlySortedBy}
-use Rattle.go_base.specs.Lists.{Each}
+use Rattle.go_base.specs.Lists.{Has, Each}
 use Rattle.go_base.proofs.Lists.{split_at, take_past}
 use Rattle.go_base.proofs.Members.{each_has, has_split}
 use Rattle.api_lines.specs.declared.line.Line.{Line}
 use Rattle.api_lines.specs.Lines.{printed, AreInOrder, HasText}
 use Rattle.api_lines.specs.inner.MergedLines.{AreBefore}
+use Rattle.api_lines.specs.inner.Shares.{IsLast}
 use Rattle.api_lines.proofs.Growing.{each_back, has_at, has_right, taken}
 use Rattle.api_lines.proofs.TextSets.{order, tie_is}
 
@@ -23,7 +24,7 @@ pub same_front : (p xs ys : List ℕ) → order (p ++ xs) (p ++ ys) ≡ order xs
 same_front [] xs ys = refl
 same_front (n ∷ p) xs ys = ap (λ o. ordering_then o (order (p ++ xs) (p ++ ys))) (tied_itself nat_cmp_total n) ∙ same_front p xs ys
 
-not_below_itself : (t : List ℕ) → order t t ≡ Less → ⊥
+pub not_below_itself : (t : List ℕ) → order t t ≡ Less → ⊥
 not_below_itself t e = true≢false (ap is_lt (sym e ∙ tied_itself nat_list_cmp_total t))
 
 not_above_itself : (t : List ℕ) → order t t ≡ Greater → ⊥
@@ -31,7 +32,7 @@ not_above_itself t e = true≢false (ap is_gt (sym e ∙ tied_itself nat_list_cm
 
 -- ---- lists in order
 
-abbrev IsBelow : Line → Line → Type 0
+abbrev pub IsBelow : Line → Line → Type 0
 IsBelow l m = order (printed l) (printed m) ≡ Less
 
 below_each : (l : Line) (ls : List Line) → AllByRecursion (λ t. order (printed l) t ≡ Less) (map printed ls) → Each (IsBelow l) ls
@@ -42,15 +43,15 @@ each_below : (l : Line) (ls : List Line) → Each (IsBelow l) ls → AllByRecurs
 each_below l [] h = tt
 each_below l (m ∷ ls) h = (h.0, each_below l ls h.1)
 
-above_first : (l : Line) (ls : List Line) → AreInOrder (l ∷ ls) → Each (IsBelow l) ls
+pub above_first : (l : Line) (ls : List Line) → AreInOrder (l ∷ ls) → Each (IsBelow l) ls
 unfolding IsStrictlySortedBy
 above_first l ls h = below_each l ls h.0
 
-rest_in_order : (l : Line) (ls : List Line) → AreInOrder (l ∷ ls) → AreInOrder ls
+pub rest_in_order : (l : Line) (ls : List Line) → AreInOrder (l ∷ ls) → AreInOrder ls
 unfolding IsStrictlySortedBy
 rest_in_order l ls h = h.1
 
-first_in_order : (l : Line) (ls : List Line) → Each (IsBelow l) ls → AreInOrder ls → AreInOrder (l ∷ ls)
+pub first_in_order : (l : Line) (ls : List Line) → Each (IsBelow l) ls → AreInOrder ls → AreInOrder (l ∷ ls)
 unfolding IsStrictlySortedBy
 first_in_order l ls h k = (each_below l ls h, k)
 
@@ -77,6 +78,19 @@ pushed_in_order (m ∷ ls) l h b = first_in_order m (ls ++ l ∷ []) (each_back 
 pub one_in_order : (ls : List Line) → AreInOrder (take 1 ls)
 one_in_order [] = none_in_order
 one_in_order (l ∷ ls) = first_in_order l [] tt none_in_order
+
+-- ---- one line of a text
+
+pub not_above : (l m : Line) (ls : List Line) → AreInOrder (l ∷ ls) → Has ls m → printed l ≡ printed m → ⊥
+not_above l m ls h k e = not_below_itself (printed m) (subst (λ t. order t (printed m) ≡ Less) e (each_has (IsBelow l) ls m (above_first l ls h) k))
+
+-- two lines with one text are one
+pub one_line : (ls : List Line) (a b : Line) → AreInOrder ls → Has ls a → Has ls b → printed a ≡ printed b → a ≡ b
+one_line [] a b h x y e = absurd x
+one_line (l ∷ ls) a b h (inl x) (inl y) e = sym x ∙ y
+one_line (l ∷ ls) a b h (inl x) (inr y) e = absurd (not_above l b ls h y (ap printed x ∙ e))
+one_line (l ∷ ls) a b h (inr x) (inl y) e = absurd (not_above l a ls h x (ap printed y ∙ sym e))
+one_line (l ∷ ls) a b h (inr x) (inr y) e = one_line ls a b (rest_in_order l ls h) x y e
 
 -- ---- where a text stands
 
@@ -135,3 +149,25 @@ module _ (ls : List Line) (i : ℕ) (t : List ℕ) (h : length ls ≤ i) (b : Ar
 
   pub passed_end : (u : List ℕ) → order t u ≡ Less → AreBefore u (take (length ls) ls)
   passed_end u f = before_later (take (length ls) ls) t u f (subst (AreBefore t) (take_past i ls h ∙ sym (take_past (length ls) ls (omega arith))) b)
+
+pub last_equal : (ls : List Line) (i : ℕ) (l : Line) (t : List ℕ) → i < length ls → l ≡ get_or ls i l → order (printed l) t ≡ Equal → IsLast ls (i + 1) t
+last_equal ls i l t h is e = (l, omega arith, omega (arith, h), is ∙ ap (λ n. get_or ls n l) (back i), tie_is (printed l) t e)
+  where
+    back : (n : ℕ) → n ≡ n + 1 - 1
+    back n = omega arith
+
+-- whether a list has a line, where the last line that was passed has its text
+pub has_last_passed : (ls : List Line) (n : ℕ) (l m : Line) (is : Bool) → AreInOrder ls → IsLast ls n (printed l) → m ≡ get_or ls (n - 1) m → Decides is (m ≡ l) → Decides is (Has ls l)
+has_last_passed ls n l m is h k e d =
+    let within : n - 1 < length ls = omega (arith, k.1, k.2) in
+    let there : Has ls m = has_at ls (n - 1) m within e in
+    let same : printed m ≡ printed l = ap printed (e ∙ get_any ls (n - 1) m k.0 within ∙ sym k.3) ∙ k.4 in
+    ((λ t. subst (Has ls) (d.0 t) there), (λ has. d.1 (one_line ls m l h there has same)))
+  where
+    get_any : (xs : List Line) (i : ℕ) (a b : Line) → i < length xs → get_or xs i a ≡ get_or xs i b
+    get_any [] i a b w = absurd (omega (arith, w))
+    get_any (x ∷ xs) zero a b w = refl
+    get_any (x ∷ xs) (suc i) a b w = get_any xs i a b (omega (arith, w))
+
+pub not_there : (ls : List Line) (l : Line) (is : Bool) → is ≡ false → Decides is (HasText ls (printed l)) → Decides is (Has ls l)
+not_there ls l is e d = ((λ t. absurd (true≢false (sym t ∙ e))), (λ h. d.1 (l, h, refl)))

@@ -20,7 +20,7 @@ zip_back [] (z ∷ ys) x y h is = ap (λ w. (x, w) ∷ []) (sym is)
 zip_back (w ∷ xs) [] x y h is = absurd (omega arith)
 zip_back (w ∷ xs) (z ∷ ys) x y h is = ap (λ ps. (w, z) ∷ ps) (zip_back xs ys x y (omega arith) is)
 
-zip_has : {A B : Type 0} (xs : List A) (ys : List B) (x : A) (y : B) → Has (zip xs ys) (x, y) → Has xs x
+pub zip_has : {A B : Type 0} (xs : List A) (ys : List B) (x : A) (y : B) → Has (zip xs ys) (x, y) → Has xs x
 zip_has [] ys x y h = absurd h
 zip_has (z ∷ xs) [] x y h = absurd h
 zip_has (z ∷ xs) (w ∷ ys) x y (inl e) = inl (ap (λ p. p.0) e)
@@ -53,7 +53,7 @@ headed_by xs items others x e h is r = ap (λ w. x ∷ w) r ∙ headed items x (
 -- ---- the whole
 
 -- a line in its own context
-itself : (l : Line) (context : Option Platform) → l.context ≡ context → in_context context l ≡ l
+pub itself : (l : Line) (context : Option Platform) → l.context ≡ context → in_context context l ≡ l
 itself l context e = ap (λ c. in_context c l) (sym e)
 
 -- a single list is merged as it stands

@@ -17,29 +17,41 @@ use Rattle.api_lines.proofs.TextSets.{order}
 
 -- ---- one line more
 
-abbrev pub IsShared : List Line → List Line → Line → Type 0
-IsShared others lines l = Has lines l × HasText others (printed l)
+-- the lines of a list that have a property
+abbrev pub IsKept : (Line → Type 0) → List Line → Line → Type 0
+IsKept Q lines l = Has lines l × Q l
 
-pub shared_none : (others : List Line) → AreExactly (IsShared others []) []
-shared_none others = record { sound = λ l h. absurd h; complete = λ l k. k.0; ordered = none_in_order }
+pub kept_none : (Q : Line → Type 0) → AreExactly (IsKept Q []) []
+kept_none Q = record { sound = λ l h. absurd h; complete = λ l k. k.0; ordered = none_in_order }
 
-module _ (others lines : List Line) (l : Line) (back common : List Line) (h : AreInOrder (lines ++ l ∷ back)) (is : AreExactly (IsShared others lines) common) where
-  pub shared_found : HasText others (printed l) → (new : List Line) → new ≡ common ++ l ∷ [] → AreExactly (IsShared others (lines ++ l ∷ [])) new
-  shared_found t new e = subst (AreExactly (IsShared others (lines ++ l ∷ []))) (sym e) (record {
-    sound = λ m k. elim (has_back common l m k) [
+module _ (Q : Line → Type 0) (lines : List Line) (l : Line) (back kept : List Line) (h : AreInOrder (lines ++ l ∷ back)) (is : AreExactly (IsKept Q lines) kept) where
+  pub kept_found : Q l → (new : List Line) → new ≡ kept ++ l ∷ [] → AreExactly (IsKept Q (lines ++ l ∷ [])) new
+  kept_found t new e = subst (AreExactly (IsKept Q (lines ++ l ∷ []))) (sym e) (record {
+    sound = λ m k. elim (has_back kept l m k) [
       | inl a ↦ (let s = is.sound m a in (has_left lines (l ∷ []) m s.0, s.1))
-      | inr s ↦ subst (IsShared others (lines ++ l ∷ [])) s (has_last lines l, t)
+      | inr s ↦ subst (IsKept Q (lines ++ l ∷ [])) s (has_last lines l, t)
     ];
-    complete = λ m k. elim (has_back lines l m k.0) [ inl a ↦ has_left common (l ∷ []) m (is.complete m (a, k.1)) | inr s ↦ subst (Has (common ++ l ∷ [])) s (has_last common l) ];
-    ordered = pushed_in_order common l is.ordered (each_of (λ m. order (printed m) (printed l) ≡ Less) common (λ m k. each_has (λ n. order (printed n) (printed l) ≡ Less) lines m (before_line lines l back h) (is.sound m k).0));
+    complete = λ m k. elim (has_back lines l m k.0) [ inl a ↦ has_left kept (l ∷ []) m (is.complete m (a, k.1)) | inr s ↦ subst (Has (kept ++ l ∷ [])) s (has_last kept l) ];
+    ordered = pushed_in_order kept l is.ordered (each_of (λ m. order (printed m) (printed l) ≡ Less) kept (λ m k. each_has (λ n. order (printed n) (printed l) ≡ Less) lines m (before_line lines l back h) (is.sound m k).0));
   })
 
-  pub shared_other : (HasText others (printed l) → ⊥) → AreExactly (IsShared others (lines ++ l ∷ [])) common
-  shared_other n = record {
+  pub kept_other : (Q l → ⊥) → AreExactly (IsKept Q (lines ++ l ∷ [])) kept
+  kept_other n = record {
     sound = λ m k. let s = is.sound m k in (has_left lines (l ∷ []) m s.0, s.1);
-    complete = λ m k. elim (has_back lines l m k.0) [ inl a ↦ is.complete m (a, k.1) | inr s ↦ absurd (n (subst (λ (w : Line). HasText others (printed w)) (sym s) k.1)) ];
+    complete = λ m k. elim (has_back lines l m k.0) [ inl a ↦ is.complete m (a, k.1) | inr s ↦ absurd (n (subst Q (sym s) k.1)) ];
     ordered = is.ordered;
   }
+
+-- those that the others lack
+abbrev pub Lacks : List Line → Line → Type 0
+Lacks others l = Has others l → ⊥
+
+-- those whose text the others have
+abbrev pub HasThat : List Line → Line → Type 0
+HasThat others l = HasText others (printed l)
+
+abbrev pub IsShared : List Line → List Line → Line → Type 0
+IsShared others = IsKept (HasThat others)
 
 module _ (IsCommon : List ℕ → Type 0) (p : Platform) (lines : List Line) (l : Line) (old mid : List Line) (g : Grows (IsOwn IsCommon p lines) old mid) where
   pub own_found : IsCommon (printed l) → Grows (IsOwn IsCommon p (lines ++ l ∷ [])) old mid

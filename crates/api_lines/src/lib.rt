@@ -1,10 +1,15 @@
 //! Feature lines, and one list of them for several platforms.
 #![tactic(auto)]
 
+mod copies;
+mod join;
 pub mod line;
 pub mod lines;
-pub mod merge;
+mod merge;
 mod order;
 mod part;
+mod place;
+pub mod platform_lines;
 mod printed;
+mod split;
 pub mod texts;

@@ -97,7 +97,7 @@ fn merge_several(
 /// One list for several platforms, each of which has its list of lines, in the order of the platforms: a line
 /// whose text is in all lists stands once, without context, and every other one in the context of each platform
 /// whose list has it. Each text stands once, in the order of bytes. A single list is given back as it is.
-pub fn merge(
+pub(crate) fn merge(
     alloc: Global,
     lists: List<List<Line>>,
     platforms: &[Platform],

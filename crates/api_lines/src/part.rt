@@ -10,51 +10,11 @@ ghost use Rattle.api_lines.specs.inner.MergedLines.{AreBefore, IsOwn, AreExactly
 
 use crate::line::Line;
 use crate::lines::Lines;
+use crate::place::place_of;
 use go_base::list::List;
 use go_base::memory::NoMemory;
 use go_model::files::platform::Platform;
 use std::alloc::Global;
-use std::cmp::Ordering;
-
-// Where a text stands in a list.
-#[derive(Drop)]
-struct Place {
-    // Whether a line has the text.
-    found: bool,
-    // How many lines come before every later text.
-    passed: usize,
-}
-
-// Where the text of the line stands, which comes after the lines that were passed.
-fn place_of(alloc: Global, lines: &[Line], passed: usize, line: &Line) -> Result<Place, NoMemory>
-    requires lines { AreInOrder lines.now }
-    requires passed { AreBefore (printed line.now) (take passed lines.now) }
-    ensures found { IfOk result (λ place. Decides place.found (HasText lines.now (printed line.now))) }
-    ensures passed { IfOk result (λ place. (text : Sequence ℕ) → slice_cmp nat_cmp (printed line.now) text ≡ Less → AreBefore text (take place.passed lines.now)) }
-{
-    for i in passed..lines.len() {
-        let other = &lines[i];
-        match other.order(alloc, line)? {
-            Ordering::Less => {}
-            Ordering::Equal => {
-                return Ok(Place {
-                    found: true,
-                    passed: i + 1,
-                });
-            }
-            Ordering::Greater => {
-                return Ok(Place {
-                    found: false,
-                    passed: i,
-                });
-            }
-        }
-    }
-    Ok(Place {
-        found: false,
-        passed: lines.len(),
-    })
-}
 
 /// The lines whose text a line of the others has, in the same order. The other ones are added on the platform.
 pub(crate) fn part(

@@ -12,7 +12,7 @@ use api_frozen::file::read_frozen;
 use api_frozen::signed::Signed;
 use api_lines::line::Line;
 use api_lines::lines::Lines;
-use api_lines::merge::merge;
+use api_lines::platform_lines::PlatformLines;
 use go_base::list::List;
 use go_base::memory::NoMemory;
 use go_base::text::Text;
@@ -101,17 +101,6 @@ fn is_plain(lines: &[Line]) -> bool
     true
 }
 
-fn are_plain(lists: &[List<Line>]) -> bool
-    ensures { Decides result (Each (Each HasNoContext) lists.now) }
-{
-    for lines in lists {
-        if !is_plain(lines.items()) {
-            return false;
-        }
-    }
-    true
-}
-
 // The lines in the order of their texts, each text once.
 fn in_order(alloc: Global, lines: List<Line>) -> Result<List<Line>, NoMemory>
     ensures { IfOk result (λ lines. AreInOrder lines) }
@@ -127,20 +116,23 @@ fn in_order(alloc: Global, lines: List<Line>) -> Result<List<Line>, NoMemory>
 /// One list of the lines of platforms, each given as its name, a colon and its lines.
 pub fn merge_answer(alloc: Global, parts: &[&str]) -> Result<Vec<u8>, Refusal> {
     let mut platforms = Vec::new(alloc);
-    let mut lists = List::new(alloc);
+    let mut lists = PlatformLines::new(alloc);
     for part in parts {
         let Some((name, lines)) = part.split_once(':') else {
             return Err(Refusal::NotAQuestion);
         };
         platforms.push(words::platform(name)?)?;
-        let lines = words::lines(alloc, lines)?;
-        lists.push(in_order(alloc, lines)?)?;
+        let lines = in_order(alloc, words::lines(alloc, lines)?)?;
+        if !is_plain(lines.items()) {
+            return Err(Refusal::NotAQuestion);
+        }
+        lists.add(alloc, lines)?;
     }
-    let count = lists.items().len();
-    if count == 0 || count != platforms.len() || !are_plain(lists.items()) {
+    let count = lists.len();
+    if count == 0 || count != platforms.len() {
         return Err(Refusal::NotAQuestion);
     }
-    let merged = merge(alloc, lists, &platforms)?;
+    let merged = lists.into_list(alloc, &platforms)?;
     let mut out = Vec::new(alloc);
     for line in merged.items() {
         out.extend_from_slice(line.printed(alloc)?.bytes())?;

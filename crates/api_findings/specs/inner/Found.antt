@@ -1,5 +1,5 @@
 -- What is found on one platform.
-use Rattle.std.specs.Prelude.{◌≡◌, ℕ, List, [], ◌∷◌, Option, Some, None, Result, Ok, Err}
+use Rattle.std.specs.Prelude.{◌≡◌, ℕ, List, [], ◌∷◌, ◌++◌, Option, Some, None, Result, Ok, Err}
 use Rattle.api_features.specs.Features.{IsFeature}
 use Rattle.api_findings.specs.Findings.{Finds, IsRefusal}
 use Rattle.api_findings.specs.declared.found.Found.{Found}
@@ -40,6 +40,19 @@ module _ (barred : List (List ℕ)) (old : Option Tree) (tree std_tree : Tree) w
   abbrev pub AnswersFound : Platform → Result Found PlatformError → Type 0
   AnswersFound p (Ok found) = Finds barred old tree std_tree p found.lines (verdicts_of found)
   AnswersFound p (Err e) = IsError p e
+
+  -- what is found on a platform more, beside what was found before
+  pub record IsAdded (p : Platform) (lists : List (List Line)) (vs : List Verdict) (new_lists : List (List Line)) (new_vs : List Verdict) : Type 0 where
+    pub lines : List Line
+    pub verdict : Option Verdict
+    pub features : new_lists ≡ lists ++ lines ∷ []
+    pub verdicts : new_vs ≡ vs ++ listed verdict
+    pub found : Finds barred old tree std_tree p lines (listed verdict)
+
+  -- the same, or such an error
+  abbrev pub AnswersNext : Platform → List (List Line) → List Verdict → List (List Line) → List Verdict → Result (Unit {0}) PlatformError → Type 0
+  AnswersNext p lists vs new_lists new_vs (Ok _) = IsAdded p lists vs new_lists new_vs
+  AnswersNext p lists vs new_lists new_vs (Err e) = IsError p e
 
   -- what was found on a platform that is alike
   pub record IsFoundAlike (p : Platform) (lines : List Line) (verdict : Option Verdict) : Type 0 where

@@ -4,7 +4,6 @@ ghost use Rattle.std.specs.List.{list_any};
 ghost use Rattle.api_gate.specs.inner.Decisions.{IsGateDecision, IsOfFindings};
 ghost use Rattle.api_gate.specs.runs.Outcomes.{IsAdvice};
 ghost use Rattle.api_judge.specs.Verdicts.{class_of, has_break};
-ghost use Rattle.api_lines.specs.Lines.{AreInOrder};
 ghost use Rattle.api_lines.specs.Merging.{HasNoContext};
 ghost use Rattle.api_reports.specs.Reports.{judge_text};
 ghost use Rattle.go_base.specs.Lists.{Each};
@@ -16,11 +15,10 @@ use crate::reports::listing::{SignedText, signed_report};
 use api_inputs::inputs::Inputs;
 use api_judge::judge::{class, is_any_broken};
 use api_judge::verdict::Verdict;
-use api_lines::line::Line;
+use api_lines::platform_lines::PlatformLines;
 use api_reports::verdicts::judge_text;
 use api_words::option_name::Mode;
 use api_words::request::Request;
-use go_base::list::List;
 use go_base::memory::NoMemory;
 use go_base::text::Text;
 use std::alloc::Global;
@@ -71,7 +69,7 @@ fn gate_advised(
     alloc: Global,
     request: &Request,
     inputs: &Inputs,
-    lists: List<List<Line>>,
+    lists: PlatformLines,
     verdicts: &[Verdict],
     advice: &[u8],
 ) -> Decision
@@ -79,7 +77,6 @@ fn gate_advised(
     requires some { 0 < length request.now.platforms }
     requires same { length lists ≡ length request.now.platforms }
     requires plain { Each (Each HasNoContext) lists }
-    requires order { Each AreInOrder lists }
     requires advice { IsAdvice request.now.version (class_of verdicts.now) advice.now }
     ensures { IsOfFindings request.now inputs.now lists verdicts.now result }
 {
@@ -95,14 +92,13 @@ pub(crate) fn gate_report(
     alloc: Global,
     request: &Request,
     inputs: &Inputs,
-    lists: List<List<Line>>,
+    lists: PlatformLines,
     verdicts: &[Verdict],
 ) -> Decision
     requires mode { request.now.mode ≡ Mode.Gate }
     requires some { 0 < length request.now.platforms }
     requires same { length lists ≡ length request.now.platforms }
     requires plain { Each (Each HasNoContext) lists }
-    requires order { Each AreInOrder lists }
     ensures { IsOfFindings request.now inputs.now lists verdicts.now result }
 {
     match advice(alloc, &request.version, class(verdicts)) {

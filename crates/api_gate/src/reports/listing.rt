@@ -2,7 +2,6 @@
 ghost use Rattle.std.specs.Prelude.{◌≡◌, ◌<◌, IfOk, length};
 ghost use Rattle.api_gate.specs.inner.Decisions.{IsComparison, IsFeaturesText, report_of};
 ghost use Rattle.api_gate.specs.runs.Outcomes.{IsSignedReport};
-ghost use Rattle.api_lines.specs.Lines.{AreInOrder};
 ghost use Rattle.api_lines.specs.Merging.{HasNoContext};
 ghost use Rattle.api_reports.specs.Reports.{has_loss, signed_text};
 ghost use Rattle.go_base.specs.Lists.{Each};
@@ -12,10 +11,9 @@ use api_frozen::compare::compare;
 use api_frozen::signed::Signed;
 use api_inputs::inputs::Inputs;
 use api_lines::line::Line;
-use api_lines::merge::merge;
+use api_lines::platform_lines::PlatformLines;
 use api_reports::reports::{features_text, has_loss, signed_text};
 use api_words::request::Request;
-use go_base::list::List;
 use go_base::memory::NoMemory;
 use go_base::text::Text;
 use std::alloc::Global;
@@ -42,15 +40,14 @@ impl SignedText {
 pub(crate) fn features_report(
     alloc: Global,
     request: &Request,
-    lists: List<List<Line>>,
+    lists: PlatformLines,
 ) -> Result<Text, NoMemory>
     requires some { 0 < length request.now.platforms }
     requires same { length lists ≡ length request.now.platforms }
     requires plain { Each (Each HasNoContext) lists }
-    requires order { Each AreInOrder lists }
     ensures { IfOk result (IsFeaturesText request.now lists) }
 {
-    let features = merge(alloc, lists, request.platforms.items())?;
+    let features = lists.into_list(alloc, request.platforms.items())?;
     features_text(alloc, features.items())
 }
 
@@ -82,14 +79,13 @@ pub(crate) fn signed_report(
     alloc: Global,
     request: &Request,
     inputs: &Inputs,
-    lists: List<List<Line>>,
+    lists: PlatformLines,
 ) -> Result<SignedText, NoMemory>
     requires some { 0 < length request.now.platforms }
     requires same { length lists ≡ length request.now.platforms }
     requires plain { Each (Each HasNoContext) lists }
-    requires order { Each AreInOrder lists }
     ensures { IfOk result (λ signed. IsSignedReport request.now inputs.now lists signed.lost signed.text) }
 {
-    let features = merge(alloc, lists, request.platforms.items())?;
+    let features = lists.into_list(alloc, request.platforms.items())?;
     compared(alloc, inputs, features.items())
 }

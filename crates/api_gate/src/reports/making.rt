@@ -2,7 +2,6 @@
 ghost use Rattle.std.specs.Prelude.{◌≡◌, ◌<◌, IfOk, length};
 ghost use Rattle.api_gate.specs.inner.Decisions.{IsClassedText, IsMakeText};
 ghost use Rattle.api_gate.specs.runs.Outcomes.{IsMadeText};
-ghost use Rattle.api_lines.specs.Lines.{AreInOrder};
 ghost use Rattle.api_lines.specs.Merging.{HasNoContext};
 ghost use Rattle.go_base.specs.Lists.{Each};
 
@@ -10,11 +9,10 @@ use crate::reports::joining::joined;
 use api_judge::judge::class;
 use api_judge::verdict::Verdict;
 use api_lines::line::Line;
-use api_lines::merge::merge;
+use api_lines::platform_lines::PlatformLines;
 use api_reports::made::made_text;
 use api_reports::verdicts::{class_text, count_breaks};
 use api_words::request::{MadeTrees, Request};
-use go_base::list::List;
 use go_base::memory::NoMemory;
 use go_base::text::Text;
 use std::alloc::Global;
@@ -55,15 +53,14 @@ fn with_class(
 pub(crate) fn make_report(
     alloc: Global,
     request: &Request,
-    lists: List<List<Line>>,
+    lists: PlatformLines,
     verdicts: &[Verdict],
 ) -> Result<Text, NoMemory>
     requires some { 0 < length request.now.platforms }
     requires same { length lists ≡ length request.now.platforms }
     requires plain { Each (Each HasNoContext) lists }
-    requires order { Each AreInOrder lists }
     ensures { IfOk result (IsMakeText request.now lists verdicts.now) }
 {
-    let features = merge(alloc, lists, request.platforms.items())?;
+    let features = lists.into_list(alloc, request.platforms.items())?;
     with_class(alloc, request, features.items(), verdicts)
 }

@@ -1,7 +1,6 @@
 //! The reports of the modes.
 ghost use Rattle.std.specs.Prelude.{◌≡◌, ◌<◌, length};
 ghost use Rattle.api_gate.specs.inner.Decisions.{IsOfFindings};
-ghost use Rattle.api_lines.specs.Lines.{AreInOrder};
 ghost use Rattle.api_lines.specs.Merging.{HasNoContext};
 ghost use Rattle.go_base.specs.Lists.{Each};
 
@@ -13,10 +12,9 @@ use crate::reports::making::make_report;
 use api_findings::findings::Findings;
 use api_inputs::inputs::Inputs;
 use api_judge::verdict::Verdict;
-use api_lines::line::Line;
+use api_lines::platform_lines::PlatformLines;
 use api_words::option_name::Mode;
 use api_words::request::Request;
-use go_base::list::List;
 use go_base::memory::NoMemory;
 use std::alloc::Global;
 use std::mem;
@@ -26,13 +24,12 @@ fn report_on(
     alloc: Global,
     request: &Request,
     inputs: &Inputs,
-    lists: List<List<Line>>,
+    lists: PlatformLines,
     verdicts: &[Verdict],
 ) -> Decision
     requires some { 0 < length request.now.platforms }
     requires same { length lists ≡ length request.now.platforms }
     requires plain { Each (Each HasNoContext) lists }
-    requires order { Each AreInOrder lists }
     ensures { IsOfFindings request.now inputs.now lists verdicts.now result }
 {
     match request.mode {
@@ -60,9 +57,8 @@ pub fn report(alloc: Global, request: &Request, inputs: &Inputs, mut found: Find
     requires some { 0 < length request.now.platforms }
     requires same { length found.features ≡ length request.now.platforms }
     requires plain { Each (Each HasNoContext) found.features }
-    requires order { Each AreInOrder found.features }
     ensures { IsOfFindings request.now inputs.now found.features found.verdicts result }
 {
-    let features = mem::replace(&mut found.features, List::new(alloc));
+    let features = mem::replace(&mut found.features, PlatformLines::new(alloc));
     report_on(alloc, request, inputs, features, found.verdicts.items())
 }

@@ -1,4 +1,4 @@
-use Rattle.api_findings.proofs.CopiedItems.{copied_all, copied_next}
+use Rattle.api_lines.proofs.CopiedItems.{copied_all, copied_next}
 use Rattle.api_findings.proofs.copies.breaks_copied.Goals as goal
 
 pub loop-broken-preserved : goal.loop-broken-preserved

@@ -5,26 +5,22 @@ use Rattle.api_findings.proofs.findings.find_by.Goals as goal
 pub loop-at-init : goal.loop-at-init
 loop-at-init g c = taken_none c.args.barred.now (option_copied c.args.old_tree) c.args.tree.now c.args.std_tree.now c.args.platforms.now c.new-features.result c.new-verdicts.result c.args.steps.now c.new-features.ensures c.new-verdicts.ensures
 
-pub found_next-requires-clause-alike : goal.found_next-requires-clause-alike
-found_next-requires-clause-alike g c = λ κs lives.
+pub add_next-requires-clause-alike : goal.add_next-requires-clause-alike
+add_next-requires-clause-alike g c = λ κs lives.
     alike_earlier c.args.barred.now (option_copied c.args.old_tree) c.args.tree.now c.args.std_tree.now c.args.platforms.now c.args.firsts.now c.requires.firsts c.loop-at.at c.loop-at.all.features c.loop-at.all.verdicts c.args.steps.now c.loop-at.steps c.loop-at-test.true c.loop-at.invariant
 
 pub returns-in-Err-clause-answer : goal.returns-in-Err-clause-answer
 returns-in-Err-clause-answer g c =
-    error_here c.args.barred.now (option_copied c.args.old_tree) c.args.tree.now c.args.std_tree.now c.args.platforms.now c.loop-at.at _ c.loop-at.all.features c.loop-at.all.verdicts c.args.steps.now c.loop-at.steps c.found_next.new.steps c.loop-at-test.true c.loop-at.invariant c.in-Err.ensures.steps c.in-Err.error c.in-Err.ensures.answer
+    error_here c.args.barred.now (option_copied c.args.old_tree) c.args.tree.now c.args.std_tree.now c.args.platforms.now c.loop-at.at _ c.loop-at.all.features c.loop-at.all.verdicts c.args.steps.now c.loop-at.steps c.add_next.new.steps c.loop-at-test.true c.loop-at.invariant c.in-Err.ensures.steps c.in-Err.error c.in-Err.ensures.answer
 
 pub returns-in-Err-clause-steps : goal.returns-in-Err-clause-steps
 returns-in-Err-clause-steps g c =
-    count_here c.args.barred.now (option_copied c.args.old_tree) c.args.tree.now c.args.std_tree.now c.args.platforms.now c.loop-at.at _ c.loop-at.all.features c.loop-at.all.verdicts c.args.steps.now c.loop-at.steps c.found_next.new.steps c.loop-at-test.true c.loop-at.invariant c.in-Err.ensures.steps
-
-pub returns-in-Err-push-clause-steps : goal.returns-in-Err-push-clause-steps
-returns-in-Err-push-clause-steps g c =
-    count_here c.args.barred.now (option_copied c.args.old_tree) c.args.tree.now c.args.std_tree.now c.args.platforms.now c.loop-at.at _ c.loop-at.all.features c.loop-at.all.verdicts c.args.steps.now c.loop-at.steps c.found_next.new.steps c.loop-at-test.true c.loop-at.invariant c.in-Ok.ensures.steps
+    count_here c.args.barred.now (option_copied c.args.old_tree) c.args.tree.now c.args.std_tree.now c.args.platforms.now c.loop-at.at _ c.loop-at.all.features c.loop-at.all.verdicts c.args.steps.now c.loop-at.steps c.add_next.new.steps c.loop-at-test.true c.loop-at.invariant c.in-Err.ensures.steps
 
 pub loop-at-preserved : goal.loop-at-preserved
 loop-at-preserved g c =
-    taken_more c.args.barred.now (option_copied c.args.old_tree) c.args.tree.now c.args.std_tree.now c.args.platforms.now c.loop-at.at _ c.loop-at.all.features c.loop-at.all.verdicts c.args.steps.now c.loop-at.steps c.found_next.new.steps c.loop-at-test.true c.loop-at.invariant c.in-Ok.ensures.steps
-    c.in-Ok.found.lines _ c.push.new.self.features c.push.new.self.verdicts c.in-Ok-push.ensures.features c.in-Ok-push.ensures.verdicts c.in-Ok.ensures.answer
+    taken_more c.args.barred.now (option_copied c.args.old_tree) c.args.tree.now c.args.std_tree.now c.args.platforms.now c.loop-at.at _ c.loop-at.all.features c.loop-at.all.verdicts c.args.steps.now c.loop-at.steps c.add_next.new.steps c.loop-at-test.true c.loop-at.invariant c.in-Ok.ensures.steps
+    c.in-Ok.ensures.answer.lines _ c.add_next.new.all.features c.add_next.new.all.verdicts c.in-Ok.ensures.answer.features c.in-Ok.ensures.answer.verdicts c.in-Ok.ensures.answer.found
 
 pub returns-clause-answer : goal.returns-clause-answer
 returns-clause-answer g c = taken_all c.args.barred.now (option_copied c.args.old_tree) c.args.tree.now c.args.std_tree.now c.args.platforms.now c.loop-at.at c.loop-at.all.features c.loop-at.all.verdicts c.args.steps.now c.loop-at.steps c.loop-at-test.false c.loop-at.invariant

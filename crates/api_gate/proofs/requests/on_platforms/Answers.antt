@@ -1,5 +1,4 @@
 use Rattle.api_gate.proofs.DecisionEnds.{found_decides, unfound_decides}
-use Rattle.api_gate.proofs.FoundInOrder.{found_in_order}
 use Rattle.api_gate.proofs.requests.on_platforms.Goals as goal
 
 pub returns-in-Err-clause-decision : goal.returns-in-Err-clause-decision
@@ -7,6 +6,3 @@ returns-in-Err-clause-decision g c = unfound_decides c.args.request.now c.args.i
 
 pub returns-in-Ok-clause-decision : goal.returns-in-Ok-clause-decision
 returns-in-Ok-clause-decision g c = found_decides c.args.request.now c.args.inputs.now _ _ _ c.in-Ok.found c.report.result c.requires.modules c.as_ref.ensures.value c.items.ensures c.in-Ok.ensures.answer c.report.ensures
-
-pub report-requires-clause-order : goal.report-requires-clause-order
-report-requires-clause-order g c = found_in_order _ _ c.args.inputs.now.tree c.args.inputs.now.std_tree _ c.in-Ok.found c.in-Ok.ensures.answer

@@ -9,12 +9,12 @@ use Rattle.api_lines.specs.Lines.{printed, AreInOrder, HasText}
 use Rattle.api_lines.specs.inner.MergedLines.{AreExactly, IsPlaced}
 use Rattle.api_lines.proofs.Growing.{each_front, grows_none}
 use Rattle.api_lines.proofs.LineOrder.{before_line}
-use Rattle.api_lines.proofs.Parts.{IsShared, not_of, own_found, own_other, shared_found, shared_none, shared_other}
+use Rattle.api_lines.proofs.Parts.{HasThat, IsShared, kept_found, kept_none, kept_other, not_of, own_found, own_other}
 use Rattle.api_lines.proofs.part.part.Goals as goal
 
 pub loop-line-init : goal.loop-line-init
 loop-line-init c = (
-  subst (AreExactly (IsShared c.args.others.now [])) (sym c.new-common.ensures) (shared_none c.args.others.now),
+  subst (AreExactly (IsShared c.args.others.now [])) (sym c.new-common.ensures) (kept_none (HasThat c.args.others.now)),
   grows_none (IsPlaced (HasText c.args.others.now) c.args.platform) c.args.merged.now,
   (λ text h. tt),
   c.into_iter-line-iterator.ensures.into_iter_gives.0 ∙ c.into_vec-line-items.ensures,
@@ -29,7 +29,7 @@ pub loop-line-preserved-in-Continue-branch-2 : goal.loop-line-preserved-in-Conti
 loop-line-preserved-in-Continue-branch-2 c =
     let here : c.args.lines ≡ c.loop-line.yielded ++ c.in-Some.line ∷ into_iter_items c.next.new.self = sym c.loop-line.invariant.3 ∙ ap (λ w. c.loop-line.yielded ++ w) c.in-Some.ensures.steps.0 in
     let has : HasText c.args.others.now (printed c.in-Some.line) = c.in_ok-place.ensures.found.0 c.if-place.true in (
-      shared_found c.args.others.now c.loop-line.yielded c.in-Some.line (into_iter_items c.next.new.self) c.loop-line.common (subst AreInOrder here c.requires.lines) c.loop-line.invariant.0 has c.push.new.self c.in_ok-push.ensures.ok,
+      kept_found (HasThat c.args.others.now) c.loop-line.yielded c.in-Some.line (into_iter_items c.next.new.self) c.loop-line.common (subst AreInOrder here c.requires.lines) c.loop-line.invariant.0 has c.push.new.self c.in_ok-push.ensures.ok,
       own_found (HasText c.args.others.now) c.args.platform c.loop-line.yielded c.in-Some.line c.args.merged.now c.loop-line.merged c.loop-line.invariant.1 has,
       (λ text b. c.in_ok-place.ensures.passed text (each_front (λ l. slice_cmp nat_cmp (printed l) text ≡ Less) c.loop-line.yielded c.in-Some.line b).1),
       append_assoc c.loop-line.yielded (c.in-Some.line ∷ []) (into_iter_items c.next.new.self) ∙ sym here,
@@ -39,7 +39,7 @@ pub loop-line-preserved : goal.loop-line-preserved
 loop-line-preserved c =
     let here : c.args.lines ≡ c.loop-line.yielded ++ c.in-Some.line ∷ into_iter_items c.next.new.self = sym c.loop-line.invariant.3 ∙ ap (λ w. c.loop-line.yielded ++ w) c.in-Some.ensures.steps.0 in
     let none = not_of c.in_ok-place.place.found (HasText c.args.others.now (printed c.in-Some.line)) c.in_ok-place.ensures.found c.if-place.false in (
-      shared_other c.args.others.now c.loop-line.yielded c.in-Some.line (into_iter_items c.next.new.self) c.loop-line.common (subst AreInOrder here c.requires.lines) c.loop-line.invariant.0 none,
+      kept_other (HasThat c.args.others.now) c.loop-line.yielded c.in-Some.line (into_iter_items c.next.new.self) c.loop-line.common (subst AreInOrder here c.requires.lines) c.loop-line.invariant.0 none,
       own_other (HasText c.args.others.now) c.args.platform c.loop-line.yielded c.in-Some.line c.args.merged.now c.loop-line.merged c.loop-line.invariant.1 c.add.new.self none
           (subst (λ (w : Line). Grows (λ x. w ≡ x) c.loop-line.merged c.add.new.self) c.on.ensures c.in_ok-add.ensures),
       (λ text b. c.in_ok-place.ensures.passed text (each_front (λ l. slice_cmp nat_cmp (printed l) text ≡ Less) c.loop-line.yielded c.in-Some.line b).1),

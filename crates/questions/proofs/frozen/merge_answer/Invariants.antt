@@ -1,6 +1,6 @@
 use Rattle.go_base.specs.Lists.{Each}
-use Rattle.api_lines.specs.Lines.{AreInOrder}
+use Rattle.api_lines.specs.Merging.{HasNoContext}
 use Rattle.questions.proofs.frozen.merge_answer.Given as goal
 
 abbrev pub invariant-loop-part : goal.invariant-loop-part
-invariant-loop-part l = Each AreInOrder l.lists
+invariant-loop-part l = Each (Each HasNoContext) l.lists

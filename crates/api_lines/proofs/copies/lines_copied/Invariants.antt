@@ -1,5 +1,5 @@
 use Rattle.std.proofs.Common.{◌≡◌, take}
-use Rattle.api_findings.proofs.copies.lines_copied.Given as goal
+use Rattle.api_lines.proofs.copies.lines_copied.Given as goal
 
 abbrev pub invariant-loop-line : goal.invariant-loop-line
 invariant-loop-line l = l.copy ≡ take l.line-index l.lines

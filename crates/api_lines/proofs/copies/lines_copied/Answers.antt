@@ -1,5 +1,5 @@
-use Rattle.api_findings.proofs.CopiedItems.{copied_all, copied_next}
-use Rattle.api_findings.proofs.copies.lines_copied.Goals as goal
+use Rattle.api_lines.proofs.CopiedItems.{copied_all, copied_next}
+use Rattle.api_lines.proofs.copies.lines_copied.Goals as goal
 
 pub loop-line-preserved : goal.loop-line-preserved
 loop-line-preserved c =
