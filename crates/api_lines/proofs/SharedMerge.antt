@@ -1,5 +1,5 @@
 -- Lists that share lines are merged from those lines and the others.
-use Rattle.std.proofs.Common.{◌≡◌, ℕ, ◌+◌, ◌<◌, List, [], ◌∷◌, ◌++◌, length, map, refl, sym, ap, ◌∙◌, subst, inl, inr, ◌⊎◌, arith, Option, Some, None, Result, Ok, Err, IfOk}
+use Rattle.std.proofs.Common.{◌≡◌, ◌<◌, List, [], ◌∷◌, length, map, refl, sym, ap, ◌∙◌, subst, inl, inr, arith, Option, Some, None, Result, Ok, Err, IfOk}
 use Rattle.std.specs.List.{zip}
 use Rattle.go_base.specs.Lists.{Has, Each}
 use Rattle.go_base.proofs.Members.{each_has}

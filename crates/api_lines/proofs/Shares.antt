@@ -1,5 +1,5 @@
 -- Whole lists, from the lines that all have and those of each.
-use Rattle.std.proofs.Common.{◌≡◌, ℕ, List, [], ◌∷◌, ◌++◌, length, map, refl, sym, ap, ◌∙◌, subst, inl, inr, ◌⊎◌}
+use Rattle.std.proofs.Common.{◌≡◌, List, [], ◌∷◌, ◌++◌, map, refl, sym, ap, ◌∙◌, subst, inl, inr, ◌⊎◌}
 use Rattle.std.specs.Ordering.{match_ordering, ordering_reverse}
 use Rattle.std.specs.declared.cmp.Ordering.{Ordering}
 use Rattle.std.specs.declared.cmp.Ordering.TheVariants.{Less, Equal, Greater}
@@ -10,7 +10,7 @@ use Rattle.go_base.proofs.Members.{each_has}
 use Rattle.api_lines.specs.declared.line.Line.{Line}
 use Rattle.api_lines.specs.Lines.{printed, AreInOrder, HasText, IsListing}
 use Rattle.api_lines.specs.inner.MergedLines.{AreExactly}
-use Rattle.api_lines.specs.inner.Shares.{AreApart, AreJoined, AreShared, IsIn, IsNotIn, IsOfEither, IsRest, put, whole}
+use Rattle.api_lines.specs.inner.Shares.{AreJoined, AreShared, IsIn, IsNotIn, IsOfEither, IsRest, put, whole}
 use Rattle.api_lines.proofs.Growing.{each_back, each_of}
 use Rattle.api_lines.proofs.LineOrder.{above_first, first_in_order, IsBelow, none_in_order, not_above, not_below_itself, one_line, rest_in_order}
 use Rattle.api_lines.proofs.TextSets.{order, tie_is}

@@ -1,10 +1,9 @@
-use Rattle.std.proofs.Common.{◌≡◌, [], ◌∷◌, ◌++◌, sym, ap, ◌∙◌, subst, append_assoc, inl, inr}
+use Rattle.std.proofs.Common.{◌≡◌, [], ◌∷◌, ◌++◌, sym, ap, ◌∙◌, subst, append_assoc}
 use Rattle.std.specs.Ordering.{nat_cmp}
 use Rattle.std.specs.Cmp.Lexicographic.{slice_cmp}
 use Rattle.std.specs.Vec.Iter.{into_iter_items}
 use Rattle.std.specs.declared.cmp.Ordering.TheVariants.{Less}
 use Rattle.go_base.specs.Lists.{Has}
-use Rattle.api_lines.specs.declared.line.Line.{Line}
 use Rattle.api_lines.specs.Lines.{printed, AreInOrder}
 use Rattle.api_lines.specs.inner.MergedLines.{AreExactly}
 use Rattle.api_lines.specs.inner.Shares.{IsIn, IsNotIn}

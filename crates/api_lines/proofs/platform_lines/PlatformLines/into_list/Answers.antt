@@ -1,7 +1,6 @@
-use Rattle.std.proofs.Common.{List, length, ◌<◌, ◌≡◌, sym, ◌∙◌, ap, subst}
+use Rattle.std.proofs.Common.{sym, subst}
 use Rattle.go_base.specs.Lists.{Each}
-use Rattle.api_lines.specs.Merging.{HasNoContext, IsMerged}
-use Rattle.api_lines.specs.Lines.{IsListing}
+use Rattle.api_lines.specs.Merging.{HasNoContext}
 use Rattle.api_lines.proofs.SharedMerge.{order_owns, plain_owns, listed_wholes}
 use Rattle.api_lines.proofs.platform_lines.PlatformLines.into_list.Goals as goal
 

@@ -1,6 +1,3 @@
-use Rattle.std.proofs.Common.{subst, sym}
-use Rattle.go_base.specs.Lists.{Each}
-use Rattle.api_lines.specs.inner.Shares.{IsRest, AreShared}
 use Rattle.api_lines.proofs.Shares.{none_shared}
 use Rattle.api_lines.proofs.platform_lines.PlatformLines.new.Goals as goal
 
