@@ -1,5 +1,5 @@
 -- What is found on a platform is found on one that is alike.
-use Rattle.std.proofs.Common.{◌≡◌, ℕ, Option, Some, List, [], ◌∷◌, ◌++◌, Result, Ok, subst, inr}
+use Rattle.std.proofs.Common.{◌≡◌, ℕ, Option, Some, List, [], ◌∷◌, ◌++◌, Result, Ok, sym, subst, inr}
 use Rattle.api_findings.specs.Findings.{Finds, features_alone, with_verdict}
 use Rattle.api_findings.specs.inner.Found.{IsAdded, IsFoundAlike, listed}
 use Rattle.api_judge.specs.declared.verdict.Verdict.{Verdict}

@@ -1,5 +1,17 @@
-use Rattle.std.proofs.Common.{[], get_or, refl, slice_get, ◌∷◌}
+use Rattle.std.proofs.Common.{[], get_or, length, refl, slice_get, subst, ◌<◌, ◌∷◌}
 use Rattle.std.specs.Option.{option_copied}
 use Rattle.api_findings.proofs.AlikeFindings.{added_again}
 use Rattle.api_findings.proofs.PlatformFindings.{added_now, in_order, none_counted}
 use Rattle.api_findings.proofs.findings.add_next.Goals as goal
+
+pub returns-in-Ok-clause-answer : goal.returns-in-Ok-clause-answer
+returns-in-Ok-clause-answer g c =
+    added_again c.alike_units.ensures c.args.barred.now (option_copied c.args.old_tree) c.args.tree.now c.args.std_tree.now c.args.platform c.args.all.now.features c.args.all.now.verdicts c.push_again.new.self.features c.push_again.new.self.verdicts
+    (get_or c.args.all.now.features c.args.first []) (slice_get c.args.all.now.verdicts c.args.first) c.in-Ok.ensures.features c.in-Ok.ensures.verdicts
+    (c.requires.alike (subst (λ n. c.args.first < n) c.len.ensures c.if-first-len.true))
+
+pub returns-in-Ok-clause-steps : goal.returns-in-Ok-clause-steps
+returns-in-Ok-clause-steps g c = none_counted c.args.barred.now (option_copied c.args.old_tree) c.args.tree.now c.args.std_tree.now (c.args.platform ∷ []) c.args.steps.now c.args.steps.now refl
+
+pub returns-in-Err-clause-steps : goal.returns-in-Err-clause-steps
+returns-in-Err-clause-steps g c = none_counted c.args.barred.now (option_copied c.args.old_tree) c.args.tree.now c.args.std_tree.now (c.args.platform ∷ []) c.args.steps.now c.args.steps.now refl
