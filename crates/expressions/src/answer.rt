@@ -9,9 +9,13 @@ use go_expr::typing::type_expr;
 use go_model::types::package::Entity;
 use go_model::types::world::World;
 use go_rules::env::{DeclareError, Env};
+use go_rules::operand::Operand;
 use go_rules::seen::Seen;
+use go_selectors::lookup::error_type;
+use go_syntax::expression::Expr;
 use go_syntax::held::expression::HeldExpr;
 use go_type_terms::error::ExprError;
+use go_usability::context::Context;
 use std::alloc::Global;
 use worlds::constants::{const_term, value};
 use worlds::objects::{defined, entity, type_entity};
@@ -38,10 +42,16 @@ fn file(word: &str) -> Result<u32, Refusal> {
     }
 }
 
+fn answered(alloc: Global, env: &Env<'_>, expr: &Expr) -> Result<Operand, ExprError> {
+    let error = error_type(alloc)?;
+    let context = Context::new(env, &error);
+    type_expr(&context, alloc, expr)
+}
+
 // What an expression is. The tree goes back into its holder, so that giving it up is a call.
 fn typed(alloc: Global, env: &Env<'_>, held: HeldExpr) -> Result<Vec<u8>, Refusal> {
     let expr = held.take();
-    let answer = type_expr(env, alloc, &expr);
+    let answer = answered(alloc, env, &expr);
     let _tree = HeldExpr::new(expr);
     match answer {
         Ok(found) => Ok(operand(alloc, &found)?),

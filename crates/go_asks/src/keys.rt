@@ -30,7 +30,7 @@ pub(crate) fn key_compares(
 ) -> Result<bool, NoMemory>
     ensures { IfOk result (Decides ((u : Term) × OfType (env_in context.now) key.now u × Compares (env_in context.now) u)) }
 {
-    match type_of(context.env, alloc, key) {
+    match type_of(context, alloc, key) {
         Ok(term) => {
             let answer = term_compares(context, alloc, &term)?;
             Ok(answer)

@@ -4,7 +4,6 @@ ghost use Rattle.go_base.specs.Lists.{Each};
 ghost use Rattle.go_nodes.specs.Here.{MeetsHere};
 ghost use Rattle.go_nodes.specs.Trees.{node_of, nodes_in};
 ghost use Rattle.go_rules.specs.Asks.{AreDistinctNames, Meets, TypeMeets, signature_names};
-ghost use Rattle.go_rules.specs.Scopes.{env_of};
 ghost use Rattle.go_selectors.specs.Answers.{Decides};
 ghost use Rattle.go_syntax.specs.declared.types.«Type».{«out-Type» as out-Typ};
 ghost use Rattle.go_type_terms.specs.Answers.{env_in};
@@ -16,8 +15,6 @@ use go_nodes::distinct::are_distinct;
 use go_nodes::names::signature_names;
 use go_nodes::tree::Tree;
 use go_nodes::trees::Trees;
-use go_rules::env::Env;
-use go_selectors::lookup::error_type;
 use go_syntax::types::{Signature, Type};
 use go_usability::context::Context;
 use std::alloc::Global;
@@ -56,8 +53,8 @@ fn meets_here(context: &Context<'_>, alloc: Global, tree: Tree<'_>) -> Result<bo
     }
 }
 
-// Whether all that is asked in each of these trees is met.
-fn all_meet(context: &Context<'_>, alloc: Global, mut trees: Trees<'_>) -> Result<bool, NoMemory>
+/// Whether all that is asked in each of these trees is met.
+pub fn meet(context: &Context<'_>, alloc: Global, mut trees: Trees<'_>) -> Result<bool, NoMemory>
     ensures { IfOk result (Decides (Each (Meets (env_in context.now)) (nodes_in trees.entry))) }
 {
     for _ in 0..usize::MAX {
@@ -74,23 +71,13 @@ fn all_meet(context: &Context<'_>, alloc: Global, mut trees: Trees<'_>) -> Resul
     Err(NoMemory)
 }
 
-/// Whether all that is asked in each of these trees is met.
-pub fn meet(env: &Env<'_>, alloc: Global, trees: Trees<'_>) -> Result<bool, NoMemory>
-    ensures { IfOk result (Decides (Each (Meets (env_of env.now)) (nodes_in trees.entry))) }
-{
-    let error = error_type(alloc)?;
-    let context = Context::new(env, &error);
-    let met = all_meet(&context, alloc, trees)?;
-    Ok(met)
-}
-
 /// Whether all that is asked in a tree is met: that the keys of maps can be compared, that what is
 /// embedded may be, and that names are distinct where they have to be.
-pub fn meets(env: &Env<'_>, alloc: Global, tree: Tree<'_>) -> Result<bool, NoMemory>
-    ensures { IfOk result (Decides (Meets (env_of env.now) (node_of tree.entry))) }
+pub fn meets(context: &Context<'_>, alloc: Global, tree: Tree<'_>) -> Result<bool, NoMemory>
+    ensures { IfOk result (Decides (Meets (env_in context.now) (node_of tree.entry))) }
 {
     let mut trees = Trees::new(alloc);
     trees.push(tree)?;
-    let met = meet(env, alloc, trees)?;
+    let met = meet(context, alloc, trees)?;
     Ok(met)
 }

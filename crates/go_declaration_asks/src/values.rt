@@ -47,7 +47,7 @@ fn type_and_values(
 ) -> Result<(Term, List<Operand>), ExprError>
     ensures { Tells (GivesValues (env_in context.now) form.now count values.now) result }
 {
-    let term = type_of(context.env, alloc, form)?;
+    let term = type_of(context, alloc, form)?;
     let operands = initialize(context, alloc, count, values)?;
     Ok((term, operands))
 }

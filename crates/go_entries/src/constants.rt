@@ -69,7 +69,7 @@ fn constant(
 ) -> Result<Entity, ExprError>
     ensures { Tells (IsConstant (env_in context.now) (item_of given.entry) value.now) result }
 {
-    let operand = type_expr(context.env, alloc, value)?;
+    let operand = type_expr(context, alloc, value)?;
     match given {
         Some(term) => typed_constant(context, alloc, term, &operand),
         None => own_constant(alloc, &operand),
@@ -107,7 +107,7 @@ fn holds_constants(context: &Context<'_>, term: &Term) -> bool
 fn type_of_constants(context: &Context<'_>, alloc: Global, form: &Type) -> Result<Term, ExprError>
     ensures { Tells (IsTypeOfConstants (env_in context.now) form.now) result }
 {
-    let term = type_of(context.env, alloc, form)?;
+    let term = type_of(context, alloc, form)?;
     if !holds_constants(context, &term) {
         return Err(ExprError::Untyped);
     }

@@ -32,7 +32,7 @@ pub(crate) fn signature(
 ) -> Result<Signed, ExprError>
     ensures { Tells (IsSignatureOf (env_in context.now) written.now) result }
 {
-    let signed = signature_of(context.env, alloc, written)?;
+    let signed = signature_of(context, alloc, written)?;
     match within_bounds(signed) {
         Some(signed) => Ok(signed),
         None => Err(ExprError::Untyped),

@@ -1,8 +1,7 @@
-//! What a declaration is given in an environment.
+//! What a declaration is given in the environment of a context.
 ghost use Rattle.std.specs.Prelude.{List};
 ghost use Rattle.go_declarations.specs.Forms.{form_of};
 ghost use Rattle.go_entries.specs.Entries.{TellsQualified, entry_of};
-ghost use Rattle.go_rules.specs.Scopes.{env_of};
 ghost use Rattle.go_type_terms.specs.Answers.{Tells, env_in};
 ghost use Rattle.go_typings.specs.DeclarationRules.{Gives};
 ghost use Rattle.go_typings.specs.Declarations.{Declaration};
@@ -13,14 +12,14 @@ use crate::functions::{function, signature};
 use crate::types::{alias, definition};
 use crate::variables::variables;
 use go_declarations::form::Form;
-use go_rules::env::Env;
-use go_selectors::lookup::error_type;
 use go_type_terms::error::ExprError;
 use go_usability::context::Context;
 use std::alloc::Global;
 
-// What the declaration is given in the environment of a context.
-fn by_form(
+/// What a declaration is given in the environment of a context; `Untyped` exactly where it is given nothing. For the definition
+/// of a type in a client of the profile it is told whether the type is written as a name that after the aliases of the
+/// package is one of another package.
+pub fn entry(
     context: &Context<'_>,
     alloc: Global,
     qualified: bool,
@@ -36,20 +35,4 @@ fn by_form(
         Form::Function(func) => objects(function(context, alloc, &func.signature)),
         Form::Method(_, func) => signed(signature(context, alloc, &func.signature)),
     }
-}
-
-/// What a declaration is given in an environment; `Untyped` exactly where it is given nothing. For the definition of a
-/// type in a client of the profile it is told whether the type is written as a name that after the aliases of the
-/// package is one of another package.
-pub fn entry(
-    env: &Env<'_>,
-    alloc: Global,
-    qualified: bool,
-    form: &Form<'_>,
-) -> Result<Entry, ExprError>
-    ensures { (ds : List Declaration) → TellsQualified (env_of env.now) ds (form_of form.now) qualified → Tells (λ entry. Gives (env_of env.now) ds (form_of form.now) (entry_of entry)) result }
-{
-    let error = error_type(alloc)?;
-    let context = Context::new(env, &error);
-    by_form(&context, alloc, qualified, form)
 }

@@ -20,7 +20,7 @@ fn each(context: &Context<'_>, alloc: Global, exprs: &[Expr]) -> Result<List<Ope
 {
     let mut operands = List::new(alloc);
     for expr in exprs {
-        let operand = type_expr(context.env, alloc, expr)?;
+        let operand = type_expr(context, alloc, expr)?;
         operands.push(operand)?;
     }
     Ok(operands)
@@ -35,7 +35,7 @@ fn by_one(
 ) -> Result<List<Operand>, ExprError>
     ensures { Tells (GivesSeveral (env_in context.now) count expr.now) result }
 {
-    let operand = type_expr(context.env, alloc, expr)?;
+    let operand = type_expr(context, alloc, expr)?;
     several(alloc, count, is_assertion_or_receive(expr), &operand)
 }
 

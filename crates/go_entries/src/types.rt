@@ -76,7 +76,7 @@ pub(crate) fn definition(
 ) -> Result<Term, ExprError>
     ensures { Tells (IsDefinitionOf (env_in context.now) qualified form.now) result }
 {
-    let term = type_of(context.env, alloc, form)?;
+    let term = type_of(context, alloc, form)?;
     underneath(context, alloc, is_barred(context, qualified), &term)
 }
 
@@ -88,7 +88,7 @@ pub(crate) fn alias(
 ) -> Result<List<Entity>, ExprError>
     ensures { Tells (IsAliasOf (env_in context.now) form.now) result }
 {
-    let term = type_of(context.env, alloc, form)?;
+    let term = type_of(context, alloc, form)?;
     let mut objects = List::new(alloc);
     objects.push(Entity::TypeOf(term))?;
     Ok(objects)

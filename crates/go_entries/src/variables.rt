@@ -109,7 +109,7 @@ fn typed_variables(
 ) -> Result<List<Entity>, ExprError>
     ensures { Tells (AreTypedVariables (env_in context.now) count form.now) result }
 {
-    let term = type_of(context.env, alloc, form)?;
+    let term = type_of(context, alloc, form)?;
     let variables = copies(alloc, count, &term)?;
     Ok(variables)
 }

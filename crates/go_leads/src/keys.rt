@@ -139,7 +139,7 @@ fn push_composite<'a>(
 ) -> Result<(), NoMemory>
     ensures { OnOk result (Grows (KeyAt (env_in context.now) (Expr-F.Composite form.now elements.now)) (names_of keys.old) (names_of keys.new)) }
 {
-    match type_of(context.env, alloc, form) {
+    match type_of(context, alloc, form) {
         Ok(term) => push_literal(context, alloc, &term, elements, keys),
         Err(ExprError::Untyped) => Ok(()),
         Err(ExprError::NoMemory) => Err(NoMemory),
@@ -155,7 +155,7 @@ fn push_composite_array<'a>(
 ) -> Result<(), NoMemory>
     ensures { OnOk result (Grows (KeyAt (env_in context.now) (Expr-F.CompositeArray form.now elements.now)) (names_of keys.old) (names_of keys.new)) }
 {
-    match type_of(context.env, alloc, form) {
+    match type_of(context, alloc, form) {
         Ok(term) => push_array(context, alloc, &term, elements, keys),
         Err(ExprError::Untyped) => Ok(()),
         Err(ExprError::NoMemory) => Err(NoMemory),

@@ -129,7 +129,7 @@ fn push_along(
     let mut operand = first;
     for post in posts {
         push_post(context, alloc, &operand, post, methods)?;
-        match type_post(context.env, alloc, &operand, post) {
+        match type_post(context, alloc, &operand, post) {
             Ok(next) => operand = next,
             Err(ExprError::Untyped) => return Ok(()),
             Err(ExprError::NoMemory) => return Err(NoMemory),
@@ -152,7 +152,7 @@ fn push_imported(
         Some(post) => post,
         None => return Ok(()),
     };
-    match type_imported(context.env, alloc, operand, post) {
+    match type_imported(context, alloc, operand, post) {
         Ok(first) => push_along(context, alloc, first, &posts[1..], methods),
         Err(ExprError::Untyped) => Ok(()),
         Err(ExprError::NoMemory) => Err(NoMemory),
@@ -169,7 +169,7 @@ fn push_primary(
 ) -> Result<(), NoMemory>
     ensures { OnOk result (Grows (FoundAt (env_in context.now) (Expr-F.Primary operand.now posts.now)) methods.old methods.new) }
 {
-    match type_expr(context.env, alloc, operand) {
+    match type_expr(context, alloc, operand) {
         Ok(first) => push_along(context, alloc, first, posts, methods),
         Err(ExprError::Untyped) => push_imported(context, alloc, operand, posts, methods),
         Err(ExprError::NoMemory) => Err(NoMemory),

@@ -8,6 +8,7 @@ ghost use Rattle.go_declared.specs.NameTables.{AreDeclared};
 ghost use Rattle.go_graphs.specs.Flags.{AreFlagsOf};
 ghost use Rattle.go_met.specs.inner.MetAsks.{AreMetThere};
 ghost use Rattle.go_met.specs.inner.ToldBases.{TellBases};
+ghost use Rattle.go_model.specs.types.Terms.{error_type};
 ghost use Rattle.go_package_scopes.specs.KeptScopes.{IsMoved};
 ghost use Rattle.go_package_scopes.specs.PackageScopes.{at_declaration, IsScopeOf};
 ghost use Rattle.go_rules.specs.Scopes.{env_of};
@@ -25,35 +26,43 @@ use go_declaration_asks::base::Base;
 use go_declarations::listing::Declaration;
 use go_declared::methods::DeclaredMethods;
 use go_declared::names::DeclaredNames;
+use go_model::types::package::Defined;
 use go_package_scopes::laws::same_answers;
 use go_rules::env::Env;
+use go_selectors::lookup::error_type;
+use go_usability::context::Context;
 use std::alloc::Global;
 
 // Whether a declaration meets what it is asked where it stands.
 fn is_met(
     env: &mut Env<'_>,
     alloc: Global,
+    error: &Defined,
     package_name: &[u8],
     base: Option<Base<'_>>,
     declaration: &Declaration<'_>,
 ) -> Result<bool, NoMemory>
+    requires { error.now ≡ error_type }
     ensures answer { IfOk result (λ answer. (u : PackageSource) (number : ℕ) → u.name ≡ package_name.now → u.path ≡ env.old.path → TellsBase u number (form_of declaration.now.form) base.entry → Decides (Asks (env_of (at_declaration env.old (declaration_of declaration.now))) u number (form_of declaration.now.form)) answer) }
     ensures moved { IsMoved env.old env.new }
 {
     env.turn_to(declaration.file);
     env.set_iota(declaration.form.iota());
-    asks(env, alloc, package_name, base, declaration.form)
+    let context = Context::new(env, error);
+    asks(&context, alloc, package_name, base, declaration.form)
 }
 
 // The same of each declaration.
 fn are_met(
     env: &mut Env<'_>,
     alloc: Global,
+    error: &Defined,
     package_name: &[u8],
     told: &[Option<Base<'_>>],
     declarations: &[Declaration<'_>],
 ) -> Result<Vec<bool>, NoMemory>
-    requires { TellBases (declarations_of declarations.now) told.now }
+    requires error { error.now ≡ error_type }
+    requires told { TellBases (declarations_of declarations.now) told.now }
     ensures met { IfOk result (λ flags. AreMetThere env.old package_name.now (declarations_of declarations.now) flags.items) }
     ensures moved { IsMoved env.old env.new }
 {
@@ -62,6 +71,7 @@ fn are_met(
         match is_met(
             env,
             alloc,
+            error,
             package_name,
             told_at(told, number),
             &declarations[number],
@@ -93,5 +103,9 @@ pub fn met(
         Ok(told) => told,
         Err(error) => return Err(error),
     };
-    are_met(env, alloc, package_name, &told, declarations)
+    let error = match error_type(alloc) {
+        Ok(error) => error,
+        Err(fault) => return Err(fault),
+    };
+    are_met(env, alloc, &error, package_name, &told, declarations)
 }

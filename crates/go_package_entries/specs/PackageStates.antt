@@ -8,6 +8,7 @@ use Rattle.go_declared.specs.NameTables.{AreDeclared}
 use Rattle.go_declared.specs.NamesakeTables.{AreNamesakes}
 use Rattle.go_entries.specs.declared.entry.Entry.{Entry}
 use Rattle.go_had_entries.specs.HadEntries.{entries_at}
+use Rattle.go_model.specs.types.Terms.{error_type}
 use Rattle.go_package_entries.specs.declared.giver.PackageEntries.{PackageEntries}
 use Rattle.go_package_scopes.specs.KeptScopes.{Keeps}
 use Rattle.go_rules.specs.Scopes.{Scopes}
@@ -46,3 +47,4 @@ pub record IsKept (p : PackageEntries) : Type 0 where
   pub namesakes : AreNamesakes (declarations_of p.tables.declarations.now) p.tables.namesakes
   pub count : length p.had ≡ length p.tables.declarations.now
   pub pathed : (source_in p).path ≢ []
+  pub predeclared : p.error ≡ error_type

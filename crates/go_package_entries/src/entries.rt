@@ -22,6 +22,7 @@ use go_declared::names::DeclaredNames;
 use go_declared::namesakes::Namesakes;
 use go_had_entries::had::HadEntries;
 use go_rules::env::Env;
+use go_selectors::lookup::error_type;
 use go_settling::laws::nothing_had;
 use go_settling::settle::settle_all;
 use go_units::unit::Unit;
@@ -49,9 +50,11 @@ fn nothing_of<'w, 'a>(
     let ends = alias_ends(alloc, declarations, names)?;
     let namesakes = Namesakes::of(alloc, declarations, names)?;
     let had = HadEntries::new(alloc, declarations.len())?;
+    let error = error_type(alloc)?;
     Ok(PackageEntries {
         alloc,
         env,
+        error,
         unit,
         tables: Tables {
             declarations,

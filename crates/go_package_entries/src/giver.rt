@@ -8,16 +8,18 @@ use crate::tables::Tables;
 use crate::takings::take;
 use go_base::memory::NoMemory;
 use go_had_entries::had::HadEntries;
+use go_model::types::package::Defined;
 use go_rules::env::Env;
 use go_settling::giver::Giver;
 use go_type_terms::error::ExprError;
 use go_units::unit::Unit;
 use std::alloc::Global;
 
-/// A package, the scopes that its declarations are typed in, and the entries that are had.
+/// A package, the scopes that its declarations are typed in, the predeclared `error`, and the entries that are had.
 pub struct PackageEntries<'w, 'a> {
     pub(crate) alloc: Global,
     pub(crate) env: Env<'w>,
+    pub(crate) error: Defined,
     pub(crate) unit: &'a Unit,
     pub(crate) tables: Tables<'a>,
     pub(crate) had: HadEntries,
@@ -28,6 +30,7 @@ impl Drop for PackageEntries<'_, '_> {
         let PackageEntries {
             alloc: _,
             env: _,
+            error: _,
             unit: _,
             tables: _,
             had: _,
@@ -44,6 +47,7 @@ impl<'w> PackageEntries<'w, '_> {
         let PackageEntries {
             alloc: _,
             env,
+            error: _,
             unit: _,
             tables: _,
             had,
@@ -70,7 +74,13 @@ impl Giver for PackageEntries<'_, '_> {
             return Ok(false);
         }
         let declaration = self.tables.declarations[number];
-        match give(&mut self.env, self.alloc, &self.tables, &declaration) {
+        match give(
+            &mut self.env,
+            self.alloc,
+            &self.error,
+            &self.tables,
+            &declaration,
+        ) {
             Err(ExprError::Untyped) => Ok(false),
             Err(ExprError::NoMemory) => Err(NoMemory),
             Ok(entry) => {

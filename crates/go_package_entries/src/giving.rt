@@ -5,6 +5,7 @@ ghost use Rattle.go_declarations.specs.Listings.{declaration_of, declarations_of
 ghost use Rattle.go_declared.specs.AliasEnds.{AreEnds};
 ghost use Rattle.go_declared.specs.NameTables.{AreDeclared};
 ghost use Rattle.go_entries.specs.Entries.{TellsQualified, entry_of};
+ghost use Rattle.go_model.specs.types.Terms.{error_type};
 ghost use Rattle.go_package_scopes.specs.PackageScopes.{at_declaration};
 ghost use Rattle.go_rules.specs.Environments.{Env as Environment};
 ghost use Rattle.go_rules.specs.Scopes.{env_of};
@@ -17,8 +18,10 @@ use go_declarations::listing::Declaration;
 use go_declared::bases::is_qualified;
 use go_entries::entry::Entry;
 use go_entries::given::entry;
+use go_model::types::package::Defined;
 use go_rules::env::Env;
 use go_type_terms::error::ExprError;
+use go_usability::context::Context;
 use std::alloc::Global;
 
 // Whether a type is defined by a name that after the aliases of the package is one of another package.
@@ -37,9 +40,11 @@ fn is_qualified_form(tables: &Tables<'_>, form: &Form<'_>) -> bool
 pub(crate) fn give(
     env: &mut Env<'_>,
     alloc: Global,
+    error: &Defined,
     tables: &Tables<'_>,
     declaration: &Declaration<'_>,
 ) -> Result<Entry, ExprError>
+    requires error { error.now ≡ error_type }
     requires names { AreDeclared (declarations_of tables.now.declarations.now) tables.now.names.now }
     requires ends { AreEnds (declarations_of tables.now.declarations.now) tables.now.ends.items }
     ensures moved { env.new ≡ at_declaration env.old (declaration_of declaration.now) }
@@ -48,5 +53,6 @@ pub(crate) fn give(
     env.turn_to(declaration.file);
     env.set_iota(declaration.form.iota());
     let qualified = is_qualified_form(tables, &declaration.form);
-    entry(env, alloc, qualified, &declaration.form)
+    let context = Context::new(env, error);
+    entry(&context, alloc, qualified, &declaration.form)
 }

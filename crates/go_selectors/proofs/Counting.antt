@@ -44,7 +44,7 @@ many_stay depth (e ∷ es) = both (many_stay depth es) (nat_eq depth depth)
     both h true = h
     both h false = h
 
-two_noted : (depth : ℕ) (called : Option Signature) (es : List Ending) → (b : Bool) → nat_eq depth depth ≡ b → all_noted depth es (if b then Some (record { depth = depth; called = None }) else Some (record { depth = depth; called = called })) ≡ Some (record { depth = depth; called = None })
+pub two_noted : (depth : ℕ) (called : Option Signature) (es : List Ending) → (b : Bool) → nat_eq depth depth ≡ b → all_noted depth es (if b then Some (record { depth = depth; called = None }) else Some (record { depth = depth; called = called })) ≡ Some (record { depth = depth; called = None })
 two_noted depth called es true e = many_stay depth es
 two_noted depth called es false e = absurd (true≢false (sym (nat_same depth depth refl) ∙ e))
 
@@ -57,7 +57,7 @@ some_many : (es : List Ending) → 2 ≤ length es → es ≡ [] → ⊥
 some_many [] h e = absurd (omega arith)
 some_many (x ∷ es) h e = absurd (cc)
 
-one_some : {A : Type 0} (xs : List A) (x : A) → xs ≡ x ∷ [] → xs ≡ [] → ⊥
+pub one_some : {A : Type 0} (xs : List A) (x : A) → xs ≡ x ∷ [] → xs ≡ [] → ⊥
 one_some xs x e f = absurd (cc)
 
 module _ (T : Table) (t : Term) where
@@ -95,7 +95,7 @@ module _ (T : Table) (t : Term) where
   }
 
   -- a method that a path alone ends in is called
-  called_alone : (e : Ending) (g : Signature) → called_target e.through e.target ≡ Some g → (owner : Option TypeName) × (pointer : Bool) × (e.target ≡ method owner pointer g) × Reaches pointer e.through
+  pub called_alone : (e : Ending) (g : Signature) → called_target e.through e.target ≡ Some g → (owner : Option TypeName) × (pointer : Bool) × (e.target ≡ method owner pointer g) × Reaches pointer e.through
   called_alone e g h = by e.target refl h
     where
       reach : (pointer through : Bool) (f : Signature) → called_method pointer through f ≡ Some g → (f ≡ g) × Reaches pointer through
@@ -107,12 +107,12 @@ module _ (T : Table) (t : Term) where
       by (field u) i k = absurd (cc)
       by (method owner pointer f) i k = let r = reach pointer e.through f k in (owner, pointer, i ∙ ap (method owner pointer) r.0, r.1)
 
-  alone : (es : List Ending) (g : Signature) → sole es ≡ Some g → (e : Ending) × (es ≡ e ∷ []) × (called_target e.through e.target ≡ Some g)
+  pub alone : (es : List Ending) (g : Signature) → sole es ≡ Some g → (e : Ending) × (es ≡ e ∷ []) × (called_target e.through e.target ≡ Some g)
   alone [] g h = absurd (cc)
   alone (e ∷ []) g h = (e, refl, h)
   alone (e ∷ (f ∷ es)) g h = absurd (cc)
 
-  called_so : (pointer through : Bool) (g : Signature) → Reaches pointer through → called_method pointer through g ≡ Some g
+  pub called_so : (pointer through : Bool) (g : Signature) → Reaches pointer through → called_method pointer through g ≡ Some g
   called_so true through g (inl e) = absurd (true≢false e)
   called_so false through g (inl e) = refl
   called_so true through g (inr e) = ap (λ b. if not b then None else Some g) e

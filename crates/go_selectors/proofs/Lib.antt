@@ -7,6 +7,7 @@ pub mod Listing
 pub mod Lists
 pub mod Noting
 pub mod Owners
+pub mod OwnMethods
 pub mod Searching
 pub mod UniqueFind
 pub mod Ways

@@ -24,7 +24,7 @@ use Rattle.go_model.specs.types.MethodSets.{sel_order}
 use Rattle.go_model.specs.declared.types.names.Sel.{Sel}
 use Rattle.go_model.specs.declared.types.names.TypeName.{TypeName}
 use Rattle.go_model.specs.declared.types.term.Signature.{Signature}
-use Rattle.go_selectors.specs.Candidates.{Candidate, Candidates, candidate_at, depth_of, noted, all_noted, called_target, Puts, NotesOne, Notes}
+use Rattle.go_selectors.specs.Candidates.{Candidate, Candidates, candidate_at, depth_of, noted, all_noted, called_target, Puts, Removes, NotesOne, Notes}
 use Rattle.go_selectors.proofs.Lists.{gather-append, taken_next}
 
 then_is_eq : (o p : Ordering) → is_eq (ordering_then o p) ≡ (is_eq o && is_eq p)
@@ -56,6 +56,9 @@ sel_self a = ap (λ b. b && bytes_eq a.«package» a.«package») ((bytes_eq-Dec
 
 pub puts_insert : (old new : Candidates) (k : Sel) (x : Candidate) → Updates sel_order old new k (Some x) → Puts old new k x
 puts_insert old new k x u s = subst (λ (b : Bool). candidate_at new s ≡ (if b then Some x else candidate_at old s)) (eq_same k s) (u.0 s)
+
+pub removes_at : (old new : Candidates) (k : Sel) → Updates sel_order old new k None → Removes old new k
+removes_at old new k u s = subst (λ (b : Bool). candidate_at new s ≡ (if b then None else candidate_at old s)) (eq_same k s) (u.0 s)
 
 pub nat_same : (m n : ℕ) → m ≡ n → nat_eq m n ≡ true
 nat_same m n e = (unsigned_Decides m n).1 e
@@ -96,14 +99,22 @@ module _ (depth : ℕ) (called : Option Signature) (old new : Candidates) (k : S
       (λ s h. p s ∙ ap (λ b. if b then Some x else candidate_at old s) h ∙ e ∙ ap (λ w. noted depth called (candidate_at old w)) (sel_is k s h))
       (λ s h. p s ∙ ap (λ b. if b then Some x else candidate_at old s) h)
 
-  pub note_first : depth_of (candidate_at old k) ≡ None → Puts old new k (record { depth = depth; called = called }) → NotesOne depth called old new k
-  note_first e p = put_at _ p (first_as (candidate_at old k) e)
+  pub note_first : candidate_at old k ≡ None → Puts old new k (record { depth = depth; called = called }) → NotesOne depth called old new k
+  note_first e p = put_at _ p (first_as (candidate_at old k) (ap depth_of e))
 
-  pub note_again : (before : ℕ) → depth_of (candidate_at old k) ≡ Some before → before ≡ depth → Puts old new k (record { depth = depth; called = None }) → NotesOne depth called old new k
-  note_again before e i p = put_at _ p (again_as before (candidate_at old k) e i)
+  module _ (mid : Candidates) (y before : Candidate) (e : candidate_at old k ≡ Some before) (first : Puts old mid k y) where
+    puts_again : (x : Candidate) → Puts mid new k x → Puts old new k x
+    puts_again x p s = p s ∙ by (same_sel k s) (first s)
+      where
+        by : (b : Bool) → candidate_at mid s ≡ (if b then Some y else candidate_at old s) → (if b then Some x else candidate_at mid s) ≡ (if b then Some x else candidate_at old s)
+        by true q = refl
+        by false q = q
 
-pub note_later : (depth before : ℕ) (called : Option Signature) (old : Candidates) (k : Sel) → depth_of (candidate_at old k) ≡ Some before → (before ≡ depth → ⊥) → NotesOne depth called old old k
-note_later depth before called old k e n = note_by depth called old old k (λ s h. later_as depth called old old k before (candidate_at old s) (ap (λ w. depth_of (candidate_at old w)) (sym (sel_is k s h)) ∙ e) n) (λ s h. refl)
+    pub note_again : before.depth ≡ depth → Puts mid new k (record { depth = depth; called = None }) → NotesOne depth called old new k
+    note_again i p = put_at _ (puts_again _ p) (again_as before.depth (candidate_at old k) (ap depth_of e) i)
+
+    pub note_later : (before.depth ≡ depth → ⊥) → Puts mid new k before → NotesOne depth called old new k
+    note_later n p = put_at before (puts_again before p) (sym e ∙ later_as before.depth (candidate_at old k) (ap depth_of e) n)
 
 -- lists of ends
 pub noted_append : (depth : ℕ) (xs ys : List Ending) (o : Option Candidate) → all_noted depth (xs ++ ys) o ≡ all_noted depth ys (all_noted depth xs o)

@@ -1,15 +1,19 @@
 -- A search for all selectors at once: the candidate of each for the method set.
 -- Own: words of the contracts inside this crate.
-use Rattle.std.specs.Prelude.{◌≡◌, ◌↔◌, ◌&&◌, not, nat_eq, ℕ, Bool, false, List, [], ◌∷◌, ◌++◌, map, Option, Some, None, if◌then◌else◌}
+use Rattle.std.specs.Prelude.{◌≡◌, ◌↔◌, ◌&&◌, not, nat_eq, ℕ, Bool, List, [], ◌∷◌, ◌++◌, map, Option, Some, None, if◌then◌else◌}
 use Rattle.std.specs.BTreeMap.{BTreeMap, get}
 use Rattle.std.specs.List.Sorted.{IsStrictlySortedBy}
 use denote.Ref.{Bor}
+use Rattle.go_base.specs.Gathered.{gather}
 use Rattle.go_base.specs.Lists.{Has}
 use Rattle.go_model.specs.types.Tables.{Table}
 use Rattle.go_model.specs.types.Terms.{same_sel}
-use Rattle.go_model.specs.types.Selectors.{Ending, Target, field, method}
+use Rattle.go_model.specs.types.Selectors.{Ending, Target, field, method, field_ending, declared_ending, method_ending}
 use Rattle.go_model.specs.types.MethodSets.{InSet, method_sel, sel_order}
 use Rattle.go_model.specs.declared.types.names.Sel.{Sel}
+use Rattle.go_model.specs.declared.types.names.TypeName.{TypeName}
+use Rattle.go_model.specs.declared.types.package.MethodOf.{MethodOf}
+use Rattle.go_model.specs.declared.types.term.Field.{Field}
 use Rattle.go_model.specs.declared.types.term.Term.{Term}
 use Rattle.go_model.specs.declared.types.term.Method.{Method, out-Method}
 use Rattle.go_model.specs.declared.types.term.Signature.{Signature}
@@ -61,6 +65,10 @@ called_at m s = called_of (candidate_at m s)
 abbrev pub Puts : Candidates → Candidates → Sel → Candidate → Type 0
 Puts old new k x = (s : Sel) → candidate_at new s ≡ (if same_sel k s then Some x else candidate_at old s)
 
+-- nothing is known of this selector, and of the others what was
+abbrev pub Removes : Candidates → Candidates → Sel → Type 0
+Removes old new k = (s : Sel) → candidate_at new s ≡ (if same_sel k s then None else candidate_at old s)
+
 -- a path of one selector was noted
 abbrev pub NotesOne : ℕ → Option Signature → Candidates → Candidates → Sel → Type 0
 NotesOne depth called old new k = (s : Sel) → candidate_at new s ≡ (if same_sel k s then noted depth called (candidate_at old s) else candidate_at old s)
@@ -68,6 +76,19 @@ NotesOne depth called old new k = (s : Sel) → candidate_at new s ≡ (if same_
 -- the paths that each selector has here were noted
 abbrev pub Notes : ℕ → Candidates → Candidates → (Sel → List Ending) → Type 0
 Notes depth old new es = (s : Sel) → candidate_at new s ≡ all_noted depth (es s) (candidate_at old s)
+
+-- what is known of a selector, unless these paths end in fields
+abbrev pub unhidden : List Ending → Option Candidate → Option Candidate
+unhidden [] x = x
+unhidden (e ∷ es) x = None
+
+-- nothing is known of the selectors that have these paths, and of the others what was
+abbrev pub Hides : Candidates → Candidates → (Sel → List Ending) → Type 0
+Hides old new es = (s : Sel) → candidate_at new s ≡ unhidden (es s) (candidate_at old s)
+
+-- the candidates among the methods that stand in a type itself, beside these fields
+abbrev pub HoldOwnMethods : Bool → List Field → List MethodOf → List Method → Candidates → Type 0
+HoldOwnMethods through fields declared methods m = (owner : Option TypeName) (s : Sel) → candidate_at m s ≡ unhidden (gather (field_ending s through) fields) (all_noted 0 (gather (declared_ending owner s through) declared ++ gather (method_ending s through) methods) None)
 
 -- the candidates hold the method set of the type
 abbrev pub HoldMethodSet : Table → Term → Candidates → Type 0

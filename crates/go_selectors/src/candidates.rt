@@ -3,10 +3,11 @@ ghost use Rattle.std.specs.Prelude.{◌≡◌, ◌++◌, Bool, true, false, None
 ghost use Rattle.go_base.specs.Gathered.{gather};
 ghost use Rattle.go_model.specs.declared.types.names.TypeName.{TypeName};
 ghost use Rattle.go_model.specs.types.Selectors.{field_ending, declared_ending, method_ending, steps, endings, is_defined_pointer};
-ghost use Rattle.go_selectors.specs.Candidates.{signature_of, depth_of, called_at, called_method, candidate_at, Puts, NotesOne, Notes, HoldMethodSet};
+ghost use Rattle.go_selectors.specs.Candidates.{signature_of, called_at, called_method, candidate_at, Puts, Removes, NotesOne, Notes, Hides, HoldOwnMethods, HoldMethodSet};
 
 use crate::candidate::Candidate;
 use crate::lookup::Lookup;
+use crate::members::Members;
 use crate::seen::Seen;
 use crate::spot::Spot;
 use crate::steps::push_steps;
@@ -18,37 +19,31 @@ use go_model::types::term::{Field, Method, Signature, Term};
 use std::alloc::Global;
 use std::collections::BTreeMap;
 
-fn depth_of(candidates: &BTreeMap<Sel, Candidate<'_>>, sel: &Sel) -> Option<u64>
-    ensures { result ≡ depth_of (candidate_at candidates.now sel.now) }
-{
-    match candidates.get(sel) {
-        Some(candidate) => Some(candidate.depth()),
-        None => None,
-    }
-}
-
 fn insert<'a>(
     candidates: &mut BTreeMap<Sel, Candidate<'a>>,
     sel: Sel,
     candidate: Candidate<'a>,
-) -> Result<(), NoMemory>
-    ensures { OnOk result (Puts candidates.old candidates.new sel candidate.entry) }
+) -> Result<Option<Candidate<'a>>, NoMemory>
+    ensures puts { OnOk result (Puts candidates.old candidates.new sel candidate.entry) }
+    ensures before { IfOk result (λ before. before ≡ candidate_at candidates.old sel) }
 {
-    candidates.insert(sel, candidate)?;
-    Ok(())
+    let before = candidates.insert(sel, candidate)?;
+    Ok(before)
 }
 
+// Gives what was known of the selector.
 fn put<'a>(
     alloc: Global,
     candidates: &mut BTreeMap<Sel, Candidate<'a>>,
     sel: &Sel,
     candidate: Candidate<'a>,
-) -> Result<(), NoMemory>
-    ensures { OnOk result (Puts candidates.old candidates.new sel.now candidate.entry) }
+) -> Result<Option<Candidate<'a>>, NoMemory>
+    ensures puts { OnOk result (Puts candidates.old candidates.new sel.now candidate.entry) }
+    ensures before { IfOk result (λ before. before ≡ candidate_at candidates.old sel.now) }
 {
     let copied = sel.copy(alloc)?;
-    insert(candidates, copied, candidate)?;
-    Ok(())
+    let before = insert(candidates, copied, candidate)?;
+    Ok(before)
 }
 
 // One more path of a selector ends at this depth.
@@ -61,14 +56,12 @@ fn note<'a>(
 ) -> Result<(), NoMemory>
     ensures { OnOk result (NotesOne depth (signature_of called.entry) candidates.old candidates.new sel.now) }
 {
-    let known = depth_of(candidates, sel);
+    let known = put(alloc, candidates, sel, Candidate::new(depth, called))?;
     match known {
-        None => {
-            put(alloc, candidates, sel, Candidate::new(depth, called))?;
-            Ok(())
-        }
+        None => Ok(()),
         Some(before) => {
-            if before != depth {
+            if before.depth() != depth {
+                put(alloc, candidates, sel, before)?;
                 return Ok(());
             }
             put(alloc, candidates, sel, Candidate::new(depth, None))?;
@@ -174,6 +167,35 @@ fn note_layer<'a, T: TypeTable>(
     Ok(())
 }
 
+fn hide(candidates: &mut BTreeMap<Sel, Candidate<'_>>, sel: &Sel)
+    ensures { Removes candidates.old candidates.new sel.now }
+{
+    let _hidden = candidates.remove(sel);
+}
+
+fn hide_fields(candidates: &mut BTreeMap<Sel, Candidate<'_>>, fields: &[Field])
+    ensures { (through : Bool) → Hides candidates.old candidates.new (λ s. gather (field_ending s through) fields.now) }
+{
+    for field in fields {
+        hide(candidates, &field.sel);
+    }
+}
+
+// The candidates among the methods that stand in a type itself: those whose selectors no field has.
+fn own_methods<'a>(
+    alloc: Global,
+    through: bool,
+    members: &Members<'a>,
+) -> Result<BTreeMap<Sel, Candidate<'a>>, NoMemory>
+    ensures { IfOk result (HoldOwnMethods through members.now.fields.now members.now.declared.now members.now.methods.now) }
+{
+    let mut candidates = BTreeMap::new(alloc);
+    note_declared(alloc, &mut candidates, 0, through, members.declared)?;
+    note_methods(alloc, &mut candidates, 0, members.methods)?;
+    hide_fields(&mut candidates, members.fields);
+    Ok(candidates)
+}
+
 fn is_done(layer: &Vec<Spot<'_>>) -> bool
     ensures { result ≡ true → layer.now.items ≡ [] }
 {
@@ -203,6 +225,27 @@ fn count<'a, T: TypeTable>(
     Err(NoMemory)
 }
 
+// The candidates, where methods are found in the type: its own, if no field is embedded.
+fn count_own<'a, T: TypeTable>(
+    alloc: Global,
+    types: &Lookup<'a, T>,
+    term: &'a Term,
+) -> Result<BTreeMap<Sel, Candidate<'a>>, NoMemory>
+    ensures { IfOk result (λ candidates. is_defined_pointer (T.lookup types.now.table.now) term.now ≡ false → HoldMethodSet (T.lookup types.now.table.now) term.now candidates) }
+{
+    let start = types.start(term);
+    let through = start.through();
+    let members = types.members(start.term());
+    let mut further = Vec::new(alloc);
+    push_steps(through, members.fields, &mut further)?;
+    if is_done(&further) {
+        let own = own_methods(alloc, through, &members)?;
+        return Ok(own);
+    }
+    let counted = count(alloc, types, term)?;
+    Ok(counted)
+}
+
 /// The methods that can be called on a type, by their selectors.
 pub fn candidates<'a, T: TypeTable>(
     alloc: Global,
@@ -214,7 +257,7 @@ pub fn candidates<'a, T: TypeTable>(
     if types.is_defined_pointer(term) {
         return Ok(BTreeMap::new(alloc));
     }
-    let counted = count(alloc, types, term)?;
+    let counted = count_own(alloc, types, term)?;
     Ok(counted)
 }
 

@@ -15,7 +15,7 @@ loop-number-preserved c =
     record {
       moved = moved_on c.args.env.now c.loop-number.env c.is_met.new.env c.loop-number.invariant.moved c.in-Ok.ensures.moved;
       met = met_next c.args.env.now c.args.package_name.now (declarations_of xs) n c.loop-number.flags.items c.push.new.self.items c.in-Ok.met c.loop-number.invariant.met
-          (met_there c.args.env.now c.loop-number.env c.args.package_name.now xs c.args.told.now n x c.in-Ok.met c.requires c.loop-number-test.true c.index-declarations-number.is c.loop-number.invariant.moved
+          (met_there c.args.env.now c.loop-number.env c.args.package_name.now xs c.args.told.now n x c.in-Ok.met c.requires.told c.loop-number-test.true c.index-declarations-number.is c.loop-number.invariant.moved
           (λ u number named pathed told. c.in-Ok.ensures.answer u number named pathed (subst (λ (o : Option Base). TellsBase u number (form_of x.form) o) (sym c.told_at.ensures) told)))
           c.in_ok-push-in-Ok.ensures.items;
     }

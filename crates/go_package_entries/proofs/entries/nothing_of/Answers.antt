@@ -27,4 +27,5 @@ returns-clause-kept c =
       namesakes = c.in_ok-namesakes.ensures;
       count = ap length c.in_ok-had.ensures ∙ long (length c.args.declarations.now) None;
       pathed = c.requires.pathed;
+      predeclared = c.in_ok-error.ensures;
     }

@@ -3,7 +3,7 @@ use Rattle.go_declarations.specs.Listings.{declaration_of, declarations_of}
 use Rattle.go_entries.specs.Entries.{entry_of}
 use Rattle.go_package_scopes.specs.PackageScopes.{at_declaration}
 use Rattle.go_rules.specs.Scopes.{Scopes, env_of}
-use Rattle.go_type_terms.specs.Answers.{Tells}
+use Rattle.go_type_terms.specs.Answers.{Tells, env_in}
 use Rattle.go_typings.specs.DeclarationRules.{Gives}
 use Rattle.go_typings.specs.PackageEnvironments.{iota_of}
 use Rattle.go_package_entries.proofs.giving.give.Goals as goal
@@ -15,4 +15,5 @@ returns-clause-given c =
     let moved : c.set_iota.new.self ≡ at_declaration c.args.env.now d =
     c.set_iota.ensures ∙ ap (λ i. record c.turn_to.new.self { iota = i }) c.iota.ensures ∙ ap (λ (s : Scopes). record s { iota = iota_of d.form }) c.turn_to.ensures in
     subst (λ (s : Scopes). Tells (λ x. Gives (env_of s) ds d.form (entry_of x)) c.entry.result) moved
-    (c.entry.ensures ds (c.is_qualified_form-qualified.ensures (env_of c.set_iota.new.self)))
+    (subst (λ (s : Scopes). Tells (λ x. Gives (env_of s) ds d.form (entry_of x)) c.entry.result) c.new-context.ensures
+    (c.entry.ensures ds (c.is_qualified_form-qualified.ensures (env_in c.new-context.result))))

@@ -53,6 +53,7 @@ returns-in_default-clause-held c =
       namesakes = held.namesakes;
       count = c.put.ensures.count ∙ held.count;
       pathed = held.pathed;
+      predeclared = held.predeclared;
     }
 
 pub returns-in_default-clause-attempts : goal.returns-in_default-clause-attempts

@@ -1,7 +1,7 @@
 use Rattle.go_nodes.proofs.MeetsParts.{asks_begin, asks_done, asks_next, asks_not}
 use Rattle.go_nodes.specs.Trees.{node_of, nodes_in}
 use Rattle.go_type_terms.specs.Answers.{env_in}
-use Rattle.go_asks.proofs.meets.all_meet.Goals as goal
+use Rattle.go_asks.proofs.meets.meet.Goals as goal
 
 pub loop-init : goal.loop-init
 loop-init c = asks_begin (env_in c.args.context.now) (nodes_in c.args.trees)

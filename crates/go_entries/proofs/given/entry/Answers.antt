@@ -2,7 +2,7 @@ use Rattle.std.proofs.Common.{ap}
 use Rattle.go_declarations.specs.Forms.{form_of, spec_of}
 use Rattle.go_type_terms.specs.Answers.{env_in}
 use Rattle.go_entries.proofs.GivenEntries.{told_alias, told_constants, told_definition, told_function, told_method, told_variables}
-use Rattle.go_entries.proofs.given.by_form.Goals as goal
+use Rattle.go_entries.proofs.given.entry.Goals as goal
 
 pub returns-in-Constants : goal.returns-in-Constants
 returns-in-Constants c =
