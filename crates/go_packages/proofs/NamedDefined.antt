@@ -26,12 +26,12 @@ module _ (own : List ℕ → Option Defined) where
   next_name all rest n old new (Some had) e (d, s, a) before more k =
       subst (AreDefined own all) (sym (ap (λ ds. ds ++ more) a ∙ append_assoc old (d ∷ []) more)) (before (d ∷ more) (defined_more e s k))
 
-  pub defined_next : (listed : List ListedName) (at : ℕ) (d : ListedName) (old new : List Defined) → at < length listed → Adds (own (get_or listed at d).name.now) old new
+  pub defined_next : (listed : List ListedName) (at : ℕ) (d : ListedName) (old new : List Defined) → at < length listed → d ≡ get_or listed at d → Adds (own d.name.now) old new
       → Goes (texts_of listed) (texts_of (drop at listed)) old → Goes (texts_of listed) (texts_of (drop (at + 1) listed)) new
-  defined_next listed at d old new within a before =
+  defined_next listed at d old new within e a before =
       let x = get_or listed at d in
       let split : drop at listed ≡ x ∷ drop (at + 1) listed = drop-cons listed at d within ∙ ap (λ k. x ∷ drop k listed) (sym (add-one at)) in
-      next_name (texts_of listed) (texts_of (drop (at + 1) listed)) x.name.now old new (own x.name.now) refl a (subst (λ (xs : List ListedName). Goes (texts_of listed) (texts_of xs) old) split before)
+      next_name (texts_of listed) (texts_of (drop (at + 1) listed)) x.name.now old new (own x.name.now) refl (subst (λ (z : ListedName). Adds (own z.name.now) old new) e a) (subst (λ (xs : List ListedName). Goes (texts_of listed) (texts_of xs) old) split before)
 
   pub defined_whole : (listed : List ListedName) (at : ℕ) (ds : List Defined) → length listed ≤ at → Goes (texts_of listed) (texts_of (drop at listed)) ds → AreDefined own (texts_of listed) ds
   defined_whole listed at ds within before =

@@ -1,5 +1,5 @@
 -- Names that a table lists are declared at their places.
-use Rattle.std.proofs.Common.{◌≡◌, ℕ, Bool, true, false, cond, List, [], ◌∷◌, ◌+◌, ◌<◌, drop, get_or, length, Option, None, Some, refl, sym, ap, ◌∙◌, subst, inl, inr, suc, zero, arith}
+use Rattle.std.proofs.Common.{◌≡◌, ℕ, Bool, true, false, cond, List, [], ◌∷◌, ◌<◌, get_or, length, Option, None, Some, refl, sym, ap, ◌∙◌, subst, inl, inr, suc, zero, arith}
 use mathlib.Core.Bool.{true≢false}
 use Rattle.std.proofs.lemmas.Map.Text.{is_eq-slice_cmp}
 use Rattle.std.specs.Cmp.Lexicographic.{slice_cmp, bytes_decides}
@@ -8,13 +8,12 @@ use Rattle.std.specs.Str.{bytes_eq}
 use Rattle.std.specs.declared.cmp.Ordering.{Ordering}
 use Rattle.std.specs.declared.cmp.Ordering.TheVariants.{Less, Equal, Greater}
 use Rattle.go_base.specs.Lists.{Ascending, Before, Each, Has}
-use Rattle.go_declarations.specs.Forms.{form_of}
 use Rattle.go_declared.specs.NameTables.{AreDeclared, declared_form, entries_of, names_in, place_of}
 use Rattle.go_declared.specs.declared.names.ListedName.{ListedName}
 use Rattle.go_declared.specs.declared.names.NamePlace.{NamePlace}
 use Rattle.go_rules.specs.Names.{Named, value_at}
 use Rattle.go_typings.proofs.Cells.{none_some, some_once}
-use Rattle.go_typings.specs.Declarations.{declared, Declaration, Declared, Form}
+use Rattle.go_typings.specs.Declarations.{Declaration, Declared, Form}
 use Rattle.go_packages.specs.inner.FoundNames.{ArePlaced, IsPlaced}
 
 -- ---- one name
@@ -59,7 +58,10 @@ module _ (ds : List Declaration) (t : Named NamePlace) (are : AreDeclared ds t) 
   pub placed : (ls : List ListedName) → Ascending (names_in t) → entries_of ls ≡ t → ArePlaced ds ls
   placed ls rising e = placed_from ls (subst (λ (z : Named NamePlace). Ascending (names_in z)) (sym e) rising) (λ l h. ap (λ z. value_at z l.name.now) e)
 
-pub placed_at : (ds : List Declaration) (ls : List ListedName) (i : ℕ) (x : ListedName) → i < length ls → ArePlaced ds ls → IsPlaced ds (get_or ls i x)
-placed_at ds [] i x h p = absurd (omega (arith, h))
-placed_at ds (l ∷ ls) zero x h p = p.0
-placed_at ds (l ∷ ls) (suc i) x h p = placed_at ds ls i x (omega (arith, h)) p.1
+pub placed_at : (ds : List Declaration) (ls : List ListedName) (i : ℕ) (x : ListedName) → i < length ls → x ≡ get_or ls i x → ArePlaced ds ls → IsPlaced ds x
+placed_at ds ls i x h e p = subst (IsPlaced ds) (sym e) (at ls i h p)
+  where
+    at : (ms : List ListedName) (k : ℕ) → k < length ms → ArePlaced ds ms → IsPlaced ds (get_or ms k x)
+    at [] k g q = absurd (omega (arith, g))
+    at (m ∷ ms) zero g q = q.0
+    at (m ∷ ms) (suc k) g q = at ms k (omega (arith, g)) q.1

@@ -3,4 +3,4 @@ use Rattle.go_packages.proofs.PlacedNames.{placed_at}
 use Rattle.go_packages.proofs.objects.objects.Goals as goal
 
 pub entity-requires : goal.entity-requires
-entity-requires c = placed_at (declarations_of c.args.declarations.now) c.args.listed.now c.loop-name.name-index _ c.loop-name-test.true c.requires
+entity-requires c = placed_at (declarations_of c.args.declarations.now) c.args.listed.now c.loop-name.name-index c.name-item.result c.loop-name-test.true c.name-item.is c.requires

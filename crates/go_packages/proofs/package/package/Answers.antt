@@ -27,8 +27,8 @@ returns c = λ s t.
 
 pub objects-requires : goal.objects-requires
 objects-requires c =
-    placed (declarations_of c.args.declarations.now) c.args.names.now c.items.result.now c.requires.names c.in_ok-listed.ensures.ordered (ap entries_of c.items.ensures ∙ c.in_ok-listed.ensures.entries)
+    placed (declarations_of c.args.declarations.now) c.args.names.now c.requires.names c.items.result.now c.in_ok-listed.ensures.ordered (ap entries_of c.items.ensures ∙ c.in_ok-listed.ensures.entries)
 
 pub defined_types-requires-clause-placed : goal.defined_types-requires-clause-placed
 defined_types-requires-clause-placed c =
-    placed (declarations_of c.args.declarations.now) c.args.names.now c.items-2.result.now c.requires.names c.in_ok-listed.ensures.ordered (ap entries_of c.items-2.ensures ∙ c.in_ok-listed.ensures.entries)
+    placed (declarations_of c.args.declarations.now) c.args.names.now c.requires.names c.items-2.result.now c.in_ok-listed.ensures.ordered (ap entries_of c.items-2.ensures ∙ c.in_ok-listed.ensures.entries)
