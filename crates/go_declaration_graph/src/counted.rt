@@ -20,7 +20,7 @@ use std::alloc::Global;
 fn is_declared_key(names: &DeclaredNames, reference: &Reference<'_>) -> bool
     ensures { result ≡ is_declared_key names.now reference.now }
 {
-    reference.is_key && names.get(reference.name.text.bytes()).is_some()
+    reference.is_key && names.get(&reference.name.text).is_some()
 }
 
 fn has_declared_key(names: &DeclaredNames, references: &[Reference<'_>]) -> bool

@@ -36,10 +36,7 @@ fn push_found(
     if method.owner.path.bytes() != path {
         return Ok(());
     }
-    push_numbers(
-        row,
-        index.get(names, method.owner.name.bytes(), method.sel.name.bytes()),
-    )
+    push_numbers(row, index.get(names, &method.owner.name, &method.sel.name))
 }
 
 fn push_all_found(

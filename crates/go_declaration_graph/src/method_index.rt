@@ -21,7 +21,7 @@ use std::marker::Model;
 
 /// The numbers of the methods of a type, by their names.
 pub(crate) struct MethodNumbers {
-    entries: BTreeMap<Vec<u8>, List<u32>>,
+    entries: BTreeMap<Text, List<u32>>,
 }
 
 impl Drop for MethodNumbers {
@@ -32,14 +32,13 @@ impl Drop for MethodNumbers {
 
 impl Model for MethodNumbers {
     ghost use Rattle.std.specs.Coded.{coded_list, coded×, coded_ℕ};
-    ghost use Rattle.go_rules.specs.inner.Entries.{by_text};
     ghost use Rattle.go_declaration_graph.specs.inner.MethodNumbers.{Numbered};
 
     ghost Value = { Numbered };
 
     ghost coded = { coded_list (coded× (coded_list coded_ℕ) (coded_list coded_ℕ)) };
 
-    ghost view = { λ n. by_text n.entries.entries };
+    ghost view = { λ n. n.entries.entries };
 }
 
 /// The methods of the defined types of a package, by the number of the declaration of the type.
@@ -87,7 +86,7 @@ impl MethodNumbers {
         }
     }
 
-    fn get(&self, name: &[u8]) -> &[u32]
+    fn get(&self, name: &Text) -> &[u32]
         ensures { result.now ≡ items_at self.now name.now }
     {
         match self.entries.get(name) {
@@ -96,23 +95,22 @@ impl MethodNumbers {
         }
     }
 
-    fn put(&mut self, alloc: Global, name: &[u8], numbers: List<u32>) -> Result<(), NoMemory>
-        ensures { OnOk result (self.new ≡ with_value self.old name.now numbers) }
+    fn put(&mut self, name: Text, numbers: List<u32>) -> Result<(), NoMemory>
+        ensures { OnOk result (self.new ≡ with_value self.old name numbers) }
     {
-        let key = Text::of(alloc, name)?.into_vec()?;
-        self.entries.insert(key, numbers)?;
+        self.entries.insert(name, numbers)?;
         Ok(())
     }
 
-    fn push(&mut self, alloc: Global, name: &[u8], number: u32) -> Result<(), NoMemory>
-        ensures { OnOk result (self.new ≡ with_number self.old name.now number) }
+    fn push(&mut self, alloc: Global, name: Text, number: u32) -> Result<(), NoMemory>
+        ensures { OnOk result (self.new ≡ with_number self.old name number) }
     {
-        if let Some(numbers) = self.entries.get_mut(name) {
+        if let Some(numbers) = self.entries.get_mut(&name) {
             return numbers.push(number);
         }
         let mut numbers = List::new(alloc);
         numbers.push(number)?;
-        self.put(alloc, name, numbers)
+        self.put(name, numbers)
     }
 
     fn push_all(
@@ -125,7 +123,8 @@ impl MethodNumbers {
     {
         for row in rows {
             let number = to_number(row.number)?;
-            self.push(alloc, method_name(declarations, row.number), number)?;
+            let name = Text::of(alloc, method_name(declarations, row.number))?;
+            self.push(alloc, name, number)?;
         }
         Ok(())
     }
@@ -140,7 +139,7 @@ impl MethodNumbers {
     {
         let mut table = MethodNumbers::new(alloc);
         if let Form::Definition(spec) = form {
-            let rows = methods.of_type(spec.name.text.bytes());
+            let rows = methods.of_type(&spec.name.text);
             table.push_all(alloc, declarations, rows)?;
         }
         Ok(table)
@@ -165,10 +164,10 @@ impl MethodIndex {
 
     /// The numbers of the methods of a name that a type has, where a selector can find them. `names` tells where
     /// types are declared.
-    pub(crate) fn get(&self, names: &DeclaredNames, type_name: &[u8], name: &[u8]) -> &[u32]
+    pub(crate) fn get(&self, names: &DeclaredNames, type_name: &Text, name: &Text) -> &[u32]
         ensures { result.now ≡ numbers_at self.now.tables names.now type_name.now name.now }
     {
-        if is_blank(name) {
+        if is_blank(name.bytes()) {
             return &[];
         }
         match names.get(type_name) {

@@ -22,7 +22,7 @@ fn push_named(
 ) -> Result<(), NoMemory>
     ensures { OnOk result (row.new ≡ row.old ++ named names.now reference.now) }
 {
-    match names.get(reference.name.text.bytes()) {
+    match names.get(&reference.name.text) {
         None => Ok(()),
         Some(place) => push(row, place.number),
     }
@@ -105,7 +105,7 @@ pub(crate) fn push_own_methods(
     ensures { OnOk result (row.new ≡ row.old ++ own_methods methods.now (form_of form.entry)) }
 {
     match form {
-        Form::Definition(spec) => push_rows(row, methods.of_type(spec.name.text.bytes())),
+        Form::Definition(spec) => push_rows(row, methods.of_type(&spec.name.text)),
         _ => Ok(()),
     }
 }

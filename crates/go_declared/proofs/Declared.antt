@@ -1,5 +1,5 @@
 -- A table to which the names of declarations were added in turn tells where each is declared.
-use Rattle.std.proofs.Common.{◌≡◌, ◌+◌, ◌<◌, ◌≤◌, ℕ, zero, suc, Bool, true, false, ◌||◌, cond, List, [], ◌∷◌, ◌++◌, length, take, get_or, Option, None, Some, refl, sym, ap, ◌∙◌, subst, inl, inr, arith}
+use Rattle.std.proofs.Common.{◌≡◌, ◌+◌, ◌<◌, ◌≤◌, ℕ, suc, Bool, true, false, ◌||◌, cond, List, [], ◌∷◌, ◌++◌, length, take, get_or, Option, None, Some, refl, sym, ap, ◌∙◌, arith}
 use mathlib.Core.Bool.{true≢false}
 use Rattle.std.specs.Prelude.{if◌then◌else◌, is_some}
 use Rattle.std.specs.Option.{option_or}
@@ -15,7 +15,7 @@ use Rattle.go_rules.specs.Expressions.{is_blank}
 use Rattle.go_rules.specs.Names.{Named, value_at, with_value}
 use Rattle.go_rules.proofs.NamedEntries.{put_is}
 use Rattle.go_syntax.specs.declared.name.Name.{Name}
-use Rattle.go_typings.specs.Declarations.{declared, declared_by, declared_from, Declaration, Declared, Form, is_init, names_of, place_from}
+use Rattle.go_typings.specs.Declarations.{declared_by, declared_from, Declaration, Declared, Form, is_init, names_of, place_from}
 use Rattle.go_declared.specs.NameTables.{AreDeclared, place_of}
 use Rattle.go_declared.specs.declared.names.NamePlace.{NamePlace}
 use Rattle.go_declared.specs.inner.Adding.{with_declarations, with_first, with_names}

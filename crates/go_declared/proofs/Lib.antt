@@ -7,3 +7,5 @@ pub mod ToldMethods
 pub mod BaseTypes
 pub mod ToldNamesakes
 pub mod NumberTables
+pub mod TextEntries
+pub mod NewNames

@@ -49,6 +49,17 @@ module _ (xs : List ℕ) where
   walked_fixed zero n e = refl
   walked_fixed (suc k) n e = ap (walked xs k) e ∙ walked_fixed k n e
 
+  -- numbers that stay one by one
+  pub stays_more : (n : ℕ) → ((i : ℕ) → i < n → step xs i ≡ i) → step xs n ≡ n → (i : ℕ) → i < n + 1 → step xs i ≡ i
+  stays_more n h e i k = elim (cases_lt i n) [ inl b ↦ h i b | inr p ↦ (let same : n ≡ i = omega (arith, p, k) in subst (λ (j : ℕ). step xs j ≡ j) same e) ]
+
+  pub stays_whole : (n : ℕ) → length xs ≤ n → ((i : ℕ) → i < n → step xs i ≡ i) → (i : ℕ) → step xs i ≡ i
+  stays_whole n l h i = elim (cases_lt i n) [ inl b ↦ h i b | inr p ↦ step_past xs i (omega (arith, p, l)) ]
+
+  -- where each number stays, so many steps stay too
+  pub stayed : (times : ℕ) (ys : List ℕ) → ((i : ℕ) → step xs i ≡ i) → AreSteps (length xs) (λ i. i) ys → AreSteps (length xs) (walked xs times) ys
+  stayed times ys stay h = (h.0, λ i b. h.1 i b ∙ sym (walked_fixed times i (stay i)))
+
   pub walked_past : (k i : ℕ) → length xs ≤ i → walked xs k i ≡ i
   walked_past k i h = walked_fixed k i (step_past xs i h)
 

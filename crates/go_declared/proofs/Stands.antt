@@ -1,5 +1,5 @@
 -- The declaration of a name stands at its number.
-use Rattle.std.proofs.Common.{◌≡◌, ◌+◌, ◌<◌, ◌≤◌, ℕ, zero, suc, Bool, true, false, ◌||◌, List, [], ◌∷◌, length, get_or, Option, None, Some, refl, sym, ap, ◌∙◌, subst, arith}
+use Rattle.std.proofs.Common.{◌≡◌, ◌+◌, ◌<◌, ℕ, zero, suc, Bool, true, false, ◌||◌, List, [], ◌∷◌, length, get_or, Option, None, Some, refl, sym, ap, ◌∙◌, arith}
 use Rattle.std.specs.Prelude.{if◌then◌else◌, slice_get}
 use Rattle.std.specs.Option.{option_or}
 use Rattle.std.proofs.lemmas.Option.{slice_get_within}
@@ -66,10 +66,10 @@ not_declared ds t name are e = by (declared ds name) (sym (are name) ∙ e)
     by None h = refl
     by (Some d) h = absurd (none_some (sym h))
 
--- the declaration at the place that the table tells is the name's
-pub declared_there : (xs : List Borrowed) (t : Named NamePlace) (name : List ℕ) (p : NamePlace) → AreDeclared (declarations_of xs) t → value_at t name ≡ Some p
+-- the declaration at the place of a name is the name's
+pub declared_at : (xs : List Borrowed) (name : List ℕ) (p : NamePlace) → place_of (declared (declarations_of xs) name) ≡ Some p
     → (d : Declared) × (declared (declarations_of xs) name ≡ Some d) × (b : Borrowed) × (slice_get xs p.number ≡ Some b) × (form_of b.form ≡ d.form) × (p.place ≡ d.place)
-declared_there xs t name p are e = by (declared (declarations_of xs) name) refl (sym (are name) ∙ e)
+declared_at xs name p e = by (declared (declarations_of xs) name) refl e
   where
     by : (o : Option Declared) → declared (declarations_of xs) name ≡ o → place_of o ≡ Some p
         → (d : Declared) × (declared (declarations_of xs) name ≡ Some d) × (b : Borrowed) × (slice_get xs p.number ≡ Some b) × (form_of b.form ≡ d.form) × (p.place ≡ d.place)
@@ -80,14 +80,24 @@ declared_there xs t name p are e = by (declared (declarations_of xs) name) refl 
         let q = some_once (record { number = d.number; place = d.place }) p h in
         (d, f, g.0, (ap (slice_get xs) (sym (ap (λ (z : NamePlace). z.number) q)) ∙ g.1), (ap (λ (z : Declaration). z.form) g.2 ∙ s.2), sym (ap (λ (z : NamePlace). z.place) q))
 
+-- the declaration at the place that the table tells is the name's
+pub declared_there : (xs : List Borrowed) (t : Named NamePlace) (name : List ℕ) (p : NamePlace) → AreDeclared (declarations_of xs) t → value_at t name ≡ Some p
+    → (d : Declared) × (declared (declarations_of xs) name ≡ Some d) × (b : Borrowed) × (slice_get xs p.number ≡ Some b) × (form_of b.form ≡ d.form) × (p.place ≡ d.place)
+declared_there xs t name p are e = declared_at xs name p (sym (are name) ∙ e)
+
+-- the form at the place of a name is the name's
+pub form_at_place : (xs : List Borrowed) (name : List ℕ) (p : NamePlace) (r : Option BorrowedForm) → place_of (declared (declarations_of xs) name) ≡ Some p → FormAt xs p.number r
+    → found_form r ≡ declared_form (declared (declarations_of xs) name)
+form_at_place xs name p None e h = let s = declared_at xs name p e in let w = slice_get_within xs p.number s.2 s.3 in absurd (omega (arith, h, w))
+form_at_place xs name p (Some f) e h =
+    let s = declared_at xs name p e in
+    let same = some_once h.0 s.2 (sym h.1 ∙ s.3) in
+    ap (λ (x : BorrowedForm). Some (form_of x)) (sym h.2 ∙ ap (λ (b : Borrowed). b.form) same) ∙ ap (λ (x : Form). Some x) s.4 ∙ ap declared_form (sym s.1)
+
 -- the form at the place that the table tells is the name's
 pub form_of_name : (xs : List Borrowed) (t : Named NamePlace) (name : List ℕ) (p : NamePlace) (r : Option BorrowedForm) → AreDeclared (declarations_of xs) t → Some p ≡ value_at t name → FormAt xs p.number r
     → found_form r ≡ declared_form (declared (declarations_of xs) name)
-form_of_name xs t name p None are e h = let s = declared_there xs t name p are (sym e) in let w = slice_get_within xs p.number s.2 s.3 in absurd (omega (arith, h, w))
-form_of_name xs t name p (Some f) are e h =
-    let s = declared_there xs t name p are (sym e) in
-    let same = some_once h.0 s.2 (sym h.1 ∙ s.3) in
-    ap (λ (x : BorrowedForm). Some (form_of x)) (sym h.2 ∙ ap (λ (b : Borrowed). b.form) same) ∙ ap (λ (x : Form). Some x) s.4 ∙ ap declared_form (sym s.1)
+form_of_name xs t name p r are e h = form_at_place xs name p r (sym (are name) ∙ sym e) h
 
 pub borrowed_at : (xs : List Borrowed) (n : ℕ) (d : Borrowed) → n < length xs → slice_get xs n ≡ Some (get_or xs n d)
 borrowed_at [] n d h = absurd (omega arith)

@@ -1,5 +1,5 @@
 -- A table to which the methods of declarations were added in turn tells those of each type.
-use Rattle.std.proofs.Common.{◌≡◌, ◌+◌, ◌<◌, ◌≤◌, ℕ, zero, suc, Bool, true, false, cond, List, [], ◌∷◌, ◌++◌, length, map, take, get_or, Option, None, Some, refl, sym, ap, ◌∙◌, subst, arith, append_assoc, append-nil}
+use Rattle.std.proofs.Common.{◌≡◌, ◌+◌, ◌<◌, ◌≤◌, ℕ, suc, Bool, true, false, cond, List, [], ◌∷◌, ◌++◌, length, map, take, get_or, Option, None, Some, refl, sym, ap, ◌∙◌, arith, append_assoc, append-nil}
 use mathlib.Core.Bool.{true≢false}
 use Rattle.std.specs.Prelude.{if◌then◌else◌, slice_get}
 use Rattle.std.specs.Option.{unwrap_or}
@@ -10,7 +10,7 @@ use Rattle.go_base.proofs.Lists.{length_take, take_past}
 use Rattle.go_declarations.specs.Forms.{form_of}
 use Rattle.go_declarations.specs.Listings.{declaration_of, declarations_of}
 use Rattle.go_declarations.specs.declared.listing.Declaration.{Declaration as Borrowed}
-use Rattle.go_rules.specs.Names.{Named, items_at, value_at, with_value}
+use Rattle.go_rules.specs.Names.{Named, items_at, value_at}
 use Rattle.go_rules.proofs.NamedEntries.{put_is}
 use Rattle.go_typings.specs.Declarations.{Form, constants, variables, alias, definition, function, method, declarations, Declaration}
 use Rattle.go_typings.specs.Receivers.{base, DeclaredMethod, is_named, is_pointer_form, method_by, methods_from, receiver_form, selector}

@@ -2,11 +2,11 @@
 -- Public source: Go specification, "Declarations and scope" and "Uniqueness of identifiers".
 use Rattle.std.specs.Prelude.{◌≡◌, ℕ, Bool, false, nat_eq, List, map, Option, None, Some}
 use Rattle.std.specs.Map.{keys_of}
-use denote.Ref.{Bor}
 use Rattle.go_rules.specs.Names.{Named, value_at}
 use Rattle.go_declarations.specs.Forms.{form_of}
 use Rattle.go_declarations.specs.declared.form.Form.{Form as Borrowed}
 use Rattle.go_typings.specs.Declarations.{declared, Declaration, Declared, Form}
+use Rattle.go_declared.specs.declared.names.ListedName.{ListedName}
 use Rattle.go_declared.specs.declared.names.NamePlace.{NamePlace}
 
 -- where a name is declared, its form aside
@@ -31,9 +31,13 @@ is_first names number name = is_in number (value_at names name)
 abbrev pub names_in : {A : Type 0} → Named A → List (List ℕ)
 names_in t = keys_of t
 
--- names that are borrowed
-abbrev pub texts_of : List (Bor (List ℕ)) → List (List ℕ)
-texts_of names = map (λ n. n.now) names
+-- the names of a listing
+abbrev pub texts_of : List ListedName → List (List ℕ)
+texts_of names = map (λ n. n.name.now) names
+
+-- the names of a listing, each with its place
+abbrev pub entries_of : List ListedName → Named NamePlace
+entries_of names = map (λ n. (n.name.now, n.place)) names
 
 -- ---- the forms of declarations
 

@@ -1,8 +1,7 @@
 -- The names by which types are written.
 -- Public source: Go specification, "Method declarations". Own: words of contracts.
-use Rattle.std.specs.Prelude.{◌≡◌, ℕ, List, Option, None, Some}
+use Rattle.std.specs.Prelude.{ℕ, List, Option, None, Some}
 use denote.Ref.{Bor}
-use Rattle.go_syntax.specs.declared.name.QualifiedName.{QualifiedName}
 use Rattle.go_typings.specs.Receivers.{NameForm}
 use Rattle.go_declared.specs.declared.receivers.WrittenName.{WrittenName}
 

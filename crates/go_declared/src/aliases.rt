@@ -1,5 +1,5 @@
 //! What declared names are after the aliases of a package.
-ghost use Rattle.std.specs.Prelude.{◌≡◌, length, IfOk};
+ghost use Rattle.std.specs.Prelude.{◌≡◌, ℕ, true, length, IfOk};
 ghost use Rattle.go_base.specs.Keys.{item_of};
 ghost use Rattle.go_declarations.specs.Listings.{declarations_of};
 ghost use Rattle.go_declared.specs.AliasEnds.{AreEnds, aliased_at, name_at};
@@ -75,7 +75,7 @@ fn number_of(
     if name.qualifier.is_some() {
         return other;
     }
-    number_by(aliased, names.get(name.name.text.bytes()), other)
+    number_by(aliased, names.get(&name.name.text), other)
 }
 
 // The number of the alias that follows that of a number; the same number where none does.
@@ -139,6 +139,28 @@ fn steps_on(alloc: Global, numbers: &[usize], times: usize) -> Result<Vec<usize>
     composed(alloc, numbers, &twice)
 }
 
+// Whether each number stays.
+fn stays(numbers: &[usize]) -> bool
+    ensures { result ≡ true → (i : ℕ) → step numbers.now i ≡ i }
+{
+    for number in 0..numbers.len() {
+        if step(numbers, number) != number {
+            return false;
+        }
+    }
+    true
+}
+
+// So many steps on. Where each number stays, as in most packages, that takes no halves.
+fn walks(alloc: Global, numbers: &[usize], times: usize) -> Result<Vec<usize>, NoMemory>
+    ensures { IfOk result (λ walks. AreSteps (length numbers.now) (walked numbers.now times) walks.items) }
+{
+    if stays(numbers) {
+        return staying(alloc, numbers.len());
+    }
+    steps_on(alloc, numbers, times)
+}
+
 // The names at the last numbers.
 fn names_at<'a>(
     alloc: Global,
@@ -167,6 +189,6 @@ pub fn alias_ends<'a>(
 {
     let aliased = aliased_names(alloc, declarations)?;
     let numbers = nexts(alloc, names, &aliased)?;
-    let lasts = steps_on(alloc, &numbers, declarations.len().saturating_sub(1))?;
+    let lasts = walks(alloc, &numbers, declarations.len().saturating_sub(1))?;
     names_at(alloc, &aliased, &lasts)
 }

@@ -1,16 +1,16 @@
 //! The defined types for which methods are declared, after the aliases of the package.
-ghost use Rattle.std.specs.Prelude.{◌≡◌, List};
+ghost use Rattle.std.specs.Prelude.{◌≡◌, ℕ, List, Some};
 ghost use Rattle.go_declarations.specs.Listings.{declarations_of};
 ghost use Rattle.go_typings.specs.DeclarationRules.{is_qualified};
 ghost use Rattle.go_typings.specs.Receivers.{after_aliases, base, base_in, name_form as form_by, named_definition, written_name as name_by};
 ghost use Rattle.go_typings.specs.Declarations.{declared, Declaration as Declared};
 ghost use Rattle.go_declared.specs.AliasEnds.{AreEnds};
-ghost use Rattle.go_declared.specs.NameTables.{AreDeclared, declared_form, found_form};
+ghost use Rattle.go_declared.specs.NameTables.{AreDeclared, declared_form, found_form, place_of};
 ghost use Rattle.go_declared.specs.inner.FormsAt.{FormAt};
 ghost use Rattle.go_declared.specs.ReceiverNames.{form_of, text_of};
 
 use crate::aliases::name_at;
-use crate::names::DeclaredNames;
+use crate::names::{DeclaredNames, NamePlace};
 use crate::receivers::{WrittenName, definition_name, name_form, written_name};
 use go_base::text::Text;
 use go_declarations::form::Form;
@@ -32,7 +32,7 @@ fn form_at<'a>(declarations: &[Declaration<'a>], number: usize) -> Option<Form<'
 pub fn declared_form<'a>(
     declarations: &[Declaration<'a>],
     names: &DeclaredNames,
-    name: &[u8],
+    name: &Text,
 ) -> Option<Form<'a>>
     requires { AreDeclared (declarations_of declarations.now) names.now }
     ensures { found_form result ≡ declared_form (declared (declarations_of declarations.now) name.now) }
@@ -41,6 +41,13 @@ pub fn declared_form<'a>(
         None => None,
         Some(place) => form_at(declarations, place.number),
     }
+}
+
+/// The form of the declaration at a place where names are declared.
+pub fn form_there<'a>(declarations: &[Declaration<'a>], place: NamePlace) -> Option<Form<'a>>
+    ensures { (name : List ℕ) → place_of (declared (declarations_of declarations.now) name) ≡ Some place → found_form result ≡ declared_form (declared (declarations_of declarations.now) name) }
+{
+    form_at(declarations, place.number)
 }
 
 // The defined type of the package for which a name stands.
@@ -55,7 +62,7 @@ fn definition<'a>(
     if name.qualifier.is_some() {
         return None;
     }
-    match declared_form(declarations, names, name.name.text.bytes()) {
+    match declared_form(declarations, names, &name.name.text) {
         None => None,
         Some(form) => definition_name(form),
     }
@@ -72,7 +79,7 @@ fn after_aliases<'a>(
     if name.qualifier.is_some() {
         return name;
     }
-    match names.get(name.name.text.bytes()) {
+    match names.get(&name.name.text) {
         None => name,
         Some(place) => match name_at(ends, place.number) {
             None => name,

@@ -33,7 +33,7 @@ pub struct MethodRow {
 
 /// The methods that are declared for each defined type of a package, blank ones too, in the order of their declarations.
 pub struct DeclaredMethods {
-    entries: BTreeMap<Vec<u8>, List<MethodRow>>,
+    entries: BTreeMap<Text, List<MethodRow>>,
 }
 
 impl Drop for DeclaredMethods {
@@ -46,7 +46,6 @@ impl Model for DeclaredMethods {
     ghost use Rattle.std.specs.Coded.{coded_list, coded×, coded_ℕ};
     ghost use Rattle.std.specs.Prelude.{List as Items};
     ghost use Rattle.go_rules.specs.Names.{Named};
-    ghost use Rattle.go_rules.specs.inner.Entries.{by_text};
     ghost use Rattle.go_declared.specs.declared.methods.MethodRow as row;
     ghost use Rattle.go_declared.specs.contracts.methods.MethodRow as r;
 
@@ -54,7 +53,7 @@ impl Model for DeclaredMethods {
 
     ghost coded = { coded_list (coded× (coded_list coded_ℕ) (coded_list r.the_row.coded)) };
 
-    ghost view = { λ n. by_text n.entries.entries };
+    ghost view = { λ n. n.entries.entries };
 }
 
 fn name_by<'a>(form: Form<'a>) -> &'a [u8]
@@ -86,7 +85,7 @@ impl DeclaredMethods {
     }
 
     /// The methods that are declared for a defined type of the package, by its name.
-    pub fn of_type(&self, name: &[u8]) -> &[MethodRow]
+    pub fn of_type(&self, name: &Text) -> &[MethodRow]
         ensures { result.now ≡ items_at self.now name.now }
     {
         match self.entries.get(name) {
@@ -98,7 +97,7 @@ impl DeclaredMethods {
     fn put(&mut self, alloc: Global, name: &Text, rows: List<MethodRow>) -> Result<(), NoMemory>
         ensures { OnOk result (self.new ≡ with_value self.old name.now rows) }
     {
-        let key = Text::of(alloc, name.bytes())?.into_vec()?;
+        let key = Text::of(alloc, name.bytes())?;
         self.entries.insert(key, rows)?;
         Ok(())
     }
@@ -111,7 +110,7 @@ impl DeclaredMethods {
     ) -> Result<(), NoMemory>
         ensures { OnOk result (self.new ≡ with_row self.old name.now row) }
     {
-        if let Some(rows) = self.entries.get_mut(name.bytes()) {
+        if let Some(rows) = self.entries.get_mut(name) {
             return rows.push(row);
         }
         let mut rows = List::new(alloc);

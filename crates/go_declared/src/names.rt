@@ -1,14 +1,13 @@
 //! Where names are declared.
-ghost use Rattle.std.specs.Prelude.{◌≡◌, ◌||◌, [], IfOk, OnOk, is_some};
+ghost use Rattle.std.specs.Prelude.{◌≡◌, ◌||◌, [], IfOk, OnOk};
 ghost use Rattle.go_base.specs.Lists.{Ascending};
 ghost use Rattle.go_declarations.specs.Forms.{form_of};
 ghost use Rattle.go_declarations.specs.Listings.{declarations_of};
-ghost use Rattle.go_rules.specs.Names.{value_at, with_value};
-ghost use Rattle.go_rules.specs.inner.Entries.{by_text};
+ghost use Rattle.go_rules.specs.Names.{value_at};
 ghost use Rattle.go_typings.specs.Declarations.{is_init, names_of};
 ghost use Rattle.go_rules.specs.Expressions.{is_blank};
-ghost use Rattle.go_declared.specs.NameTables.{AreDeclared, is_first, names_in, texts_of};
-ghost use Rattle.go_declared.specs.inner.Adding.{with_first, with_names};
+ghost use Rattle.go_declared.specs.NameTables.{AreDeclared, entries_of, is_first, names_in};
+ghost use Rattle.go_declared.specs.inner.Adding.{with_first, with_names, with_new};
 
 use go_base::list::List;
 use go_base::memory::NoMemory;
@@ -18,6 +17,7 @@ use go_declarations::listing::Declaration;
 use go_syntax::name::Name;
 use std::alloc::Global;
 use std::collections::BTreeMap;
+use std::collections::btree_map::Entry;
 use std::marker::Model;
 
 /// Where a name is declared: the number of the declaration, and the place of the name among those that it declares,
@@ -28,10 +28,17 @@ pub struct NamePlace {
     pub place: usize,
 }
 
+/// A declared name, with where it is declared first.
+#[derive(Clone, Copy)]
+pub struct ListedName<'a> {
+    pub name: &'a Text,
+    pub place: NamePlace,
+}
+
 /// The names that a package declares, but for blank ones and `init`, in the order of bytes, each with where it is
 /// declared first.
 pub struct DeclaredNames {
-    entries: BTreeMap<Vec<u8>, NamePlace>,
+    entries: BTreeMap<Text, NamePlace>,
 }
 
 impl Drop for DeclaredNames {
@@ -43,7 +50,6 @@ impl Drop for DeclaredNames {
 impl Model for DeclaredNames {
     ghost use Rattle.std.specs.Coded.{coded_list, coded×, coded_ℕ};
     ghost use Rattle.go_rules.specs.Names.{Named};
-    ghost use Rattle.go_rules.specs.inner.Entries.{by_text};
     ghost use Rattle.go_declared.specs.declared.names.NamePlace as place;
     ghost use Rattle.go_declared.specs.contracts.names.NamePlace as p;
 
@@ -51,7 +57,7 @@ impl Model for DeclaredNames {
 
     ghost coded = { coded_list (coded× (coded_list coded_ℕ) p.the_row.coded) };
 
-    ghost view = { λ n. by_text n.entries.entries };
+    ghost view = { λ n. n.entries.entries };
 }
 
 fn is_left_out(name: &[u8]) -> bool
@@ -60,16 +66,22 @@ fn is_left_out(name: &[u8]) -> bool
     name == b"_".as_slice() || name == b"init".as_slice()
 }
 
-// The keys of an ordered map.
-fn keys_of(alloc: Global, entries: &BTreeMap<Vec<u8>, NamePlace>) -> Result<List<&[u8]>, NoMemory>
-    ensures names { IfOk result (λ keys. texts_of keys ≡ names_in (by_text entries.now.entries)) }
-    ensures ordered { OnOk result (Ascending (names_in (by_text entries.now.entries))) }
+// The entries of an ordered map.
+fn listed(
+    alloc: Global,
+    entries: &BTreeMap<Text, NamePlace>,
+) -> Result<List<ListedName<'_>>, NoMemory>
+    ensures entries { IfOk result (λ names. entries_of names ≡ entries.now.entries) }
+    ensures ordered { OnOk result (Ascending (names_in entries.now.entries)) }
 {
-    let mut keys = List::new(alloc);
-    for key in entries.keys() {
-        keys.push(key.as_slice())?;
+    let mut names = List::new(alloc);
+    for entry in entries.iter() {
+        names.push(ListedName {
+            name: entry.0,
+            place: *entry.1,
+        })?;
     }
-    Ok(keys)
+    Ok(names)
 }
 
 impl DeclaredNames {
@@ -82,14 +94,14 @@ impl DeclaredNames {
     }
 
     /// Where a name is declared; None where it isn't.
-    pub fn get(&self, name: &[u8]) -> Option<NamePlace>
+    pub fn get(&self, name: &Text) -> Option<NamePlace>
         ensures { result ≡ value_at self.now name.now }
     {
         self.entries.get(name).copied()
     }
 
     /// Whether the declaration of this number is the first that declares a name.
-    pub fn is_first(&self, number: usize, name: &[u8]) -> bool
+    pub fn is_first(&self, number: usize, name: &Text) -> bool
         ensures { result ≡ is_first self.now number name.now }
     {
         match self.get(name) {
@@ -98,35 +110,39 @@ impl DeclaredNames {
         }
     }
 
-    /// The names in the order of bytes, each once.
-    pub fn in_order(&self, alloc: Global) -> Result<List<&[u8]>, NoMemory>
-        ensures names { IfOk result (λ names. texts_of names ≡ names_in self.now) }
+    /// The names in the order of bytes, each once, with where they are declared.
+    pub fn in_order(&self, alloc: Global) -> Result<List<ListedName<'_>>, NoMemory>
+        ensures entries { IfOk result (λ names. entries_of names ≡ self.now) }
         ensures ordered { OnOk result (Ascending (names_in self.now)) }
     {
-        keys_of(alloc, &self.entries)
+        listed(alloc, &self.entries)
     }
 
-    fn has(&self, name: &[u8]) -> bool
-        ensures { result ≡ is_some (value_at self.now name.now) }
+    // Gives a name a place, unless it has one.
+    fn put(&mut self, name: Text, place: NamePlace) -> Result<(), NoMemory>
+        ensures { OnOk result (self.new ≡ with_new self.old name place) }
     {
-        self.entries.contains_key(name)
-    }
-
-    fn put(&mut self, alloc: Global, name: &Text, place: NamePlace) -> Result<(), NoMemory>
-        ensures { OnOk result (self.new ≡ with_value self.old name.now place) }
-    {
-        let key = Text::of(alloc, name.bytes())?.into_vec()?;
-        self.entries.insert(key, place)?;
-        Ok(())
+        match self.entries.entry(name) {
+            Ok(Entry::Vacant(there)) => {
+                there.insert(place);
+                return Ok(());
+            }
+            Ok(Entry::Occupied(there)) => {
+                // Gives the map back, for the proof.
+                let _same = there.into_mut();
+                return Ok(());
+            }
+            Err(_) => return Err(NoMemory),
+        }
     }
 
     fn add(&mut self, alloc: Global, name: &Text, place: NamePlace) -> Result<(), NoMemory>
         ensures { OnOk result (self.new ≡ with_first self.old name.now place) }
     {
-        if is_left_out(name.bytes()) || self.has(name.bytes()) {
+        if is_left_out(name.bytes()) {
             return Ok(());
         }
-        self.put(alloc, name, place)
+        self.put(Text::of(alloc, name.bytes())?, place)
     }
 
     fn add_names(&mut self, alloc: Global, number: usize, names: &[Name]) -> Result<(), NoMemory>

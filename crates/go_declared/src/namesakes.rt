@@ -28,7 +28,7 @@ use std::marker::Model;
 /// order of their declarations.
 pub struct Namesakes {
     // By the name of a type the methods by their names.
-    entries: BTreeMap<Vec<u8>, DeclaredMethods>,
+    entries: BTreeMap<Text, DeclaredMethods>,
 }
 
 impl Drop for Namesakes {
@@ -41,7 +41,6 @@ impl Model for Namesakes {
     ghost use Rattle.std.specs.Coded.{coded_list, coded×, coded_ℕ};
     ghost use Rattle.std.specs.Prelude.{List as Items};
     ghost use Rattle.go_rules.specs.Names.{Named};
-    ghost use Rattle.go_rules.specs.inner.Entries.{by_text};
     ghost use Rattle.go_declared.specs.declared.methods.MethodRow as row;
     ghost use Rattle.go_declared.specs.contracts.methods.MethodRow as r;
 
@@ -49,7 +48,7 @@ impl Model for Namesakes {
 
     ghost coded = { coded_list (coded× (coded_list coded_ℕ) (coded_list (coded× (coded_list coded_ℕ) (coded_list r.the_row.coded)))) };
 
-    ghost view = { λ n. by_text n.entries.entries };
+    ghost view = { λ n. n.entries.entries };
 }
 
 impl Namesakes {
@@ -62,7 +61,7 @@ impl Namesakes {
     }
 
     /// The methods of a name that are declared for a defined type of the package.
-    pub fn of_name(&self, type_name: &[u8], name: &[u8]) -> &[MethodRow]
+    pub fn of_name(&self, type_name: &Text, name: &Text) -> &[MethodRow]
         ensures { result.now ≡ rows_at self.now type_name.now name.now }
     {
         match self.entries.get(type_name) {
@@ -79,7 +78,7 @@ impl Namesakes {
     ) -> Result<(), NoMemory>
         ensures { OnOk result (self.new ≡ with_value self.old type_name.now rows) }
     {
-        let key = Text::of(alloc, type_name.bytes())?.into_vec()?;
+        let key = Text::of(alloc, type_name.bytes())?;
         self.entries.insert(key, rows)?;
         Ok(())
     }
@@ -93,7 +92,7 @@ impl Namesakes {
     ) -> Result<(), NoMemory>
         ensures { OnOk result (self.new ≡ with_row self.old type_name.now name.now row) }
     {
-        if let Some(rows) = self.entries.get_mut(type_name.bytes()) {
+        if let Some(rows) = self.entries.get_mut(type_name) {
             return rows.push(alloc, name, row);
         }
         let mut rows = DeclaredMethods::new(alloc);

@@ -92,16 +92,10 @@ fn tell_form<'a>(
     match form {
         Form::Definition(spec) => {
             let name = &spec.name.text;
-            if !names.is_first(number, name.bytes()) {
+            if !names.is_first(number, name) {
                 return Ok(());
             }
-            tell_type(
-                alloc,
-                told,
-                declarations,
-                name,
-                methods.of_type(name.bytes()),
-            )
+            tell_type(alloc, told, declarations, name, methods.of_type(name))
         }
         _ => Ok(()),
     }

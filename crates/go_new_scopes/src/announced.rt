@@ -23,7 +23,7 @@ fn announce_name(
 ) -> Result<(), NoMemory>
     ensures { OnOk result (env.new ≡ record env.old { announced = with_name names.now env.old.announced name.now.text }) }
 {
-    if names.get(name.text.bytes()).is_none() {
+    if names.get(&name.text).is_none() {
         return Ok(());
     }
     env.announce(Text::of(alloc, name.text.bytes())?)

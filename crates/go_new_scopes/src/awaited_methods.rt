@@ -68,16 +68,10 @@ fn await_form(
     match form {
         Form::Definition(spec) => {
             let name = &spec.name.text;
-            if !names.is_first(number, name.bytes()) {
+            if !names.is_first(number, name) {
                 return Ok(());
             }
-            await_rows(
-                env,
-                alloc,
-                declarations,
-                name,
-                methods.of_type(name.bytes()),
-            )
+            await_rows(env, alloc, declarations, name, methods.of_type(name))
         }
         _ => Ok(()),
     }

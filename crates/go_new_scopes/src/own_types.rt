@@ -52,7 +52,7 @@ fn declare_form(
 {
     match form {
         Form::Definition(spec) => {
-            if !names.is_first(number, spec.name.text.bytes()) {
+            if !names.is_first(number, &spec.name.text) {
                 return Ok(());
             }
             declare_type(env, alloc, &spec.name.text)

@@ -22,7 +22,7 @@ fn push(row: &mut List<u32>, number: usize) -> Result<(), NoMemory> {
 }
 
 fn push_named(row: &mut List<u32>, names: &DeclaredNames, name: &Text) -> Result<(), NoMemory> {
-    match names.get(name.bytes()) {
+    match names.get(name) {
         Some(at) => push(row, at.number),
         None => Ok(()),
     }
@@ -40,17 +40,31 @@ fn push_all(
     Ok(())
 }
 
-fn is_definition(declarations: &[Declaration<'_>], names: &DeclaredNames, name: &Text) -> bool {
-    match names.get(name.bytes()) {
-        Some(at) => match declarations.get(at.number) {
-            Some(declaration) => matches!(declaration.form, Form::Definition(_)),
-            None => false,
-        },
+fn is_definition(declarations: &[Declaration<'_>], number: usize) -> bool {
+    match declarations.get(number) {
+        Some(declaration) => matches!(declaration.form, Form::Definition(_)),
         None => false,
     }
 }
 
-// Adds what types name, but for defined types behind pointers and the like, whose names suffice there.
+// Adds what a type names, unless it's a defined type behind a pointer or the like, whose name suffices there.
+fn push_type(
+    row: &mut List<u32>,
+    declarations: &[Declaration<'_>],
+    names: &DeclaredNames,
+    reference: &Reference,
+) -> Result<(), NoMemory> {
+    let number = match names.get(&reference.name.text) {
+        Some(at) => at.number,
+        None => return Ok(()),
+    };
+    if reference.by_value || reference.in_length || !is_definition(declarations, number) {
+        return push(row, number);
+    }
+    Ok(())
+}
+
+// Adds what types name.
 fn push_types(
     row: &mut List<u32>,
     declarations: &[Declaration<'_>],
@@ -58,10 +72,7 @@ fn push_types(
     references: &[Reference<'_>],
 ) -> Result<(), NoMemory> {
     for reference in references {
-        let name = &reference.name.text;
-        if reference.by_value || reference.in_length || !is_definition(declarations, names, name) {
-            push_named(row, names, name)?;
-        }
+        push_type(row, declarations, names, reference)?;
     }
     Ok(())
 }

@@ -92,14 +92,14 @@ fn push_row(
     alloc: Global,
     tables: &Tables<'_>,
     grown: Grown<'_>,
-    type_name: &[u8],
+    type_name: &Text,
     row: MethodRow,
 ) -> Result<(), NoMemory>
     ensures { OnOk result (shown.new ≡ shown.old ++ shown_row (entries_of grown.entry) env.now.path (method_name (declarations_of tables.now.declarations.now) row.number) (rows_at tables.now.namesakes type_name.now (method_name (declarations_of tables.now.declarations.now) row.number)) row) }
 {
-    let name = method_name(tables.declarations, row.number);
-    let all = tables.namesakes.of_name(type_name, name);
-    push_shown(shown, env, alloc, grown, name, all, row)
+    let name = Text::of(alloc, method_name(tables.declarations, row.number))?;
+    let all = tables.namesakes.of_name(type_name, &name);
+    push_shown(shown, env, alloc, grown, name.bytes(), all, row)
 }
 
 /// The methods of a type that are shown: of each name that isn't blank all, once each of them is had.
@@ -108,7 +108,7 @@ pub(crate) fn shown_methods(
     alloc: Global,
     tables: &Tables<'_>,
     grown: Grown<'_>,
-    type_name: &[u8],
+    type_name: &Text,
 ) -> Result<List<MethodOf>, NoMemory>
     ensures { IfOk result (λ ms. ms ≡ shown_of (entries_of grown.entry) (declarations_of tables.now.declarations.now) env.now.path tables.now.namesakes type_name.now (items_at tables.now.methods.now type_name.now)) }
 {
@@ -164,20 +164,20 @@ fn add_shown(
     alloc: Global,
     tables: &Tables<'_>,
     grown: Grown<'_>,
-    type_name: &[u8],
-    name: &[u8],
+    type_name: &Text,
+    name: &Text,
 ) -> Result<(), NoMemory>
     ensures ok { OnOk result (env.new ≡ with_shown (entries_of grown.entry) tables.now.namesakes (Some type_name.now) name.now env.old) }
     ensures same { setting_of env.new ≡ setting_of env.old }
 {
-    if is_blank(name) {
+    if is_blank(name.bytes()) {
         return Ok(());
     }
     let rows = tables.namesakes.of_name(type_name, name);
     if !are_had(grown, rows) {
         return Ok(());
     }
-    add_rows(env, alloc, grown, type_name, name, rows)
+    add_rows(env, alloc, grown, type_name.bytes(), name.bytes(), rows)
 }
 
 /// Adds to the type that a method is declared for the methods of its name, where the name isn't blank and each of them is had.
@@ -196,13 +196,6 @@ pub(crate) fn take_method(
 {
     match base(tables.declarations, tables.names, &tables.ends, receiver) {
         None => Ok(()),
-        Some(type_name) => add_shown(
-            env,
-            alloc,
-            tables,
-            grown,
-            type_name.bytes(),
-            func.name.text.bytes(),
-        ),
+        Some(type_name) => add_shown(env, alloc, tables, grown, type_name, &func.name.text),
     }
 }

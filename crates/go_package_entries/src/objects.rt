@@ -37,7 +37,7 @@ fn object_at<'b>(
 ) -> Option<&'b Entity>
     ensures { as_object (item_of result) ≡ object_at names.now number objects.now place name.now }
 {
-    if !is_at(names.get(name.bytes()), number, place) {
+    if !is_at(names.get(name), number, place) {
         return None;
     }
     objects.get(place)

@@ -40,7 +40,7 @@ fn defined(
     Ok(Defined {
         name: Text::of(alloc, name.bytes())?,
         underlying: underlying.copy(alloc)?,
-        methods: shown_methods(env, alloc, tables, grown, name.bytes())?,
+        methods: shown_methods(env, alloc, tables, grown, name)?,
     })
 }
 
@@ -56,7 +56,7 @@ pub(crate) fn take_type(
     ensures ok { OnOk result (env.new ≡ with_type env.old (is_of (value_at tables.now.names.now name.now) grown.entry.number) name.now underlying.now (shown_of (entries_of grown.entry) (declarations_of tables.now.declarations.now) env.old.path tables.now.namesakes name.now (items_at tables.now.methods.now name.now))) }
     ensures same { setting_of env.new ≡ setting_of env.old }
 {
-    if !is_of(tables.names.get(name.bytes()), grown.number) {
+    if !is_of(tables.names.get(name), grown.number) {
         return Ok(());
     }
     let defined = defined(env, alloc, tables, grown, name, underlying)?;

@@ -5,3 +5,4 @@ pub mod SelectorOrder
 pub mod ToldMethods
 pub mod OnceNamed
 pub mod Packages
+pub mod PlacedNames

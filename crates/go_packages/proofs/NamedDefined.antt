@@ -4,11 +4,11 @@ use mathlib.Core.Bool.{true≢false}
 use Rattle.std.specs.Prelude.{if◌then◌else◌}
 use Rattle.std.specs.Cmp.Lexicographic.{bytes_decides}
 use Rattle.std.specs.Str.{bytes_eq}
-use denote.Ref.{Bor}
 use Rattle.go_base.proofs.Lists.{drop_past}
 use Rattle.go_base.specs.Keys.{first_with}
 use Rattle.go_base.specs.Lists.{Ascending, Before, Each, Has}
 use Rattle.go_declared.specs.NameTables.{texts_of}
+use Rattle.go_declared.specs.declared.names.ListedName.{ListedName}
 use Rattle.go_model.specs.declared.types.package.Defined.{Defined}
 use Rattle.go_model.specs.worlds.Worlds.{name_of}
 use Rattle.go_typings.specs.TypedPackages.{AreOrdered, IsOrdered}
@@ -26,16 +26,16 @@ module _ (own : List ℕ → Option Defined) where
   next_name all rest n old new (Some had) e (d, s, a) before more k =
       subst (AreDefined own all) (sym (ap (λ ds. ds ++ more) a ∙ append_assoc old (d ∷ []) more)) (before (d ∷ more) (defined_more e s k))
 
-  pub defined_next : (listed : List (Bor (List ℕ))) (at : ℕ) (d : Bor (List ℕ)) (old new : List Defined) → at < length listed → Adds (own (get_or listed at d).now) old new
+  pub defined_next : (listed : List ListedName) (at : ℕ) (d : ListedName) (old new : List Defined) → at < length listed → d ≡ get_or listed at d → Adds (own d.name.now) old new
       → Goes (texts_of listed) (texts_of (drop at listed)) old → Goes (texts_of listed) (texts_of (drop (at + 1) listed)) new
-  defined_next listed at d old new within a before =
+  defined_next listed at d old new within e a before =
       let x = get_or listed at d in
       let split : drop at listed ≡ x ∷ drop (at + 1) listed = drop-cons listed at d within ∙ ap (λ k. x ∷ drop k listed) (sym (add-one at)) in
-      next_name (texts_of listed) (texts_of (drop (at + 1) listed)) x.now old new (own x.now) refl a (subst (λ (xs : List (Bor (List ℕ))). Goes (texts_of listed) (texts_of xs) old) split before)
+      next_name (texts_of listed) (texts_of (drop (at + 1) listed)) x.name.now old new (own x.name.now) refl (subst (λ (z : ListedName). Adds (own z.name.now) old new) e a) (subst (λ (xs : List ListedName). Goes (texts_of listed) (texts_of xs) old) split before)
 
-  pub defined_whole : (listed : List (Bor (List ℕ))) (at : ℕ) (ds : List Defined) → length listed ≤ at → Goes (texts_of listed) (texts_of (drop at listed)) ds → AreDefined own (texts_of listed) ds
+  pub defined_whole : (listed : List ListedName) (at : ℕ) (ds : List Defined) → length listed ≤ at → Goes (texts_of listed) (texts_of (drop at listed)) ds → AreDefined own (texts_of listed) ds
   defined_whole listed at ds within before =
-      subst (AreDefined own (texts_of listed)) (append-nil ds) (before [] (subst (λ (xs : List (Bor (List ℕ))). AreDefined own (texts_of xs) []) (sym (drop_past at listed within)) defined_none))
+      subst (AreDefined own (texts_of listed)) (append-nil ds) (before [] (subst (λ (xs : List ListedName). AreDefined own (texts_of xs) []) (sym (drop_past at listed within)) defined_none))
 
 -- ---- all
 

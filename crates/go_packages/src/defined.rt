@@ -3,9 +3,10 @@ ghost use Rattle.std.specs.Prelude.{◌≡◌, IfOk, OnOk};
 ghost use Rattle.go_base.specs.Keys.{item_of};
 ghost use Rattle.go_declarations.specs.Listings.{declarations_of};
 ghost use Rattle.go_declared.specs.MethodTables.{AreMethods};
-ghost use Rattle.go_declared.specs.NameTables.{AreDeclared, texts_of};
+ghost use Rattle.go_declared.specs.NameTables.{texts_of};
 ghost use Rattle.go_had_entries.specs.HadEntries.{entries_at, found_entry};
 ghost use Rattle.go_packages.specs.inner.DefinedTypes.{Adds, AreDefined, IsSorted, underneath};
+ghost use Rattle.go_packages.specs.inner.FoundNames.{ArePlaced, IsPlaced};
 ghost use Rattle.go_packages.specs.inner.HadMethods.{had_methods};
 ghost use Rattle.go_sources.specs.UnitSources.{source_of};
 ghost use Rattle.go_typings.specs.Declarations.{declarations as all_declarations, declared};
@@ -19,7 +20,7 @@ use go_base::text::Text;
 use go_declarations::form::Form;
 use go_declarations::listing::Declaration;
 use go_declared::methods::DeclaredMethods;
-use go_declared::names::DeclaredNames;
+use go_declared::names::ListedName;
 use go_entries::entry::Entry;
 use go_had_entries::had::HadEntries;
 use go_model::types::package::Defined;
@@ -39,14 +40,13 @@ fn term_in(entry: Option<&Entry>) -> Option<&Term>
 // The type underneath the defined type of a name, where it is had.
 fn underneath<'h>(
     declarations: &[Declaration<'_>],
-    names: &DeclaredNames,
-    name: &[u8],
+    listed: ListedName<'_>,
     had: &'h HadEntries,
 ) -> Option<&'h Term>
-    requires { AreDeclared (declarations_of declarations.now) names.now }
-    ensures { item_of result ≡ underneath (entries_at had.now) (declared (declarations_of declarations.now) name.now) }
+    requires { IsPlaced (declarations_of declarations.now) listed }
+    ensures { item_of result ≡ underneath (entries_at had.now) (declared (declarations_of declarations.now) listed.entry.name.now) }
 {
-    match found(declarations, names, name) {
+    match found(declarations, listed) {
         None => None,
         Some(found) => match found.form {
             Form::Definition(_) => term_in(had.get(found.number)),
@@ -61,7 +61,7 @@ fn defined(
     unit: &Unit,
     declarations: &[Declaration<'_>],
     methods: &DeclaredMethods,
-    name: &[u8],
+    name: &Text,
     term: &Term,
     had: &HadEntries,
 ) -> Result<Defined, NoMemory>
@@ -70,7 +70,7 @@ fn defined(
     ensures { IfOk result (IsSorted (record { name = name.now; underlying = term.now; methods = had_methods (source_of unit.now) (entries_at had.now) name.now })) }
 {
     Ok(Defined {
-        name: Text::of(alloc, name)?,
+        name: Text::of(alloc, name.bytes())?,
         underlying: term.copy(alloc)?,
         methods: sorted_methods(alloc, unit, declarations, methods, name, had)?,
     })
@@ -82,20 +82,19 @@ fn push_defined(
     alloc: Global,
     unit: &Unit,
     declarations: &[Declaration<'_>],
-    names: &DeclaredNames,
     methods: &DeclaredMethods,
-    name: &[u8],
+    listed: ListedName<'_>,
     had: &HadEntries,
 ) -> Result<(), NoMemory>
     requires listed { declarations_of declarations.now ≡ all_declarations (source_of unit.now) }
-    requires names { AreDeclared (declarations_of declarations.now) names.now }
+    requires placed { IsPlaced (declarations_of declarations.now) listed }
     requires methods { AreMethods (declarations_of declarations.now) methods.now }
-    ensures { OnOk result (Adds (own_defined (source_of unit.now) (entries_at had.now) name.now) types.old types.new) }
+    ensures { OnOk result (Adds (own_defined (source_of unit.now) (entries_at had.now) listed.entry.name.now) types.old types.new) }
 {
-    match underneath(declarations, names, name, had) {
+    match underneath(declarations, listed, had) {
         None => Ok(()),
         Some(term) => {
-            let defined = defined(alloc, unit, declarations, methods, name, term, had)?;
+            let defined = defined(alloc, unit, declarations, methods, listed.name, term, had)?;
             types.push(defined)
         }
     }
@@ -106,28 +105,18 @@ pub(crate) fn defined_types(
     alloc: Global,
     unit: &Unit,
     declarations: &[Declaration<'_>],
-    names: &DeclaredNames,
     methods: &DeclaredMethods,
-    listed: &[&[u8]],
+    listed: &[ListedName<'_>],
     had: &HadEntries,
 ) -> Result<List<Defined>, NoMemory>
     requires listed { declarations_of declarations.now ≡ all_declarations (source_of unit.now) }
-    requires names { AreDeclared (declarations_of declarations.now) names.now }
+    requires placed { ArePlaced (declarations_of declarations.now) listed.now }
     requires methods { AreMethods (declarations_of declarations.now) methods.now }
     ensures { IfOk result (AreDefined (own_defined (source_of unit.now) (entries_at had.now)) (texts_of listed.now)) }
 {
     let mut types = List::new(alloc);
     for name in listed {
-        push_defined(
-            &mut types,
-            alloc,
-            unit,
-            declarations,
-            names,
-            methods,
-            name,
-            had,
-        )?;
+        push_defined(&mut types, alloc, unit, declarations, methods, *name, had)?;
     }
     Ok(types)
 }

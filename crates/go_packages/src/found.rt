@@ -1,14 +1,13 @@
 //! Where names are declared, with the forms of their declarations.
 ghost use Rattle.std.specs.Prelude.{◌≡◌};
 ghost use Rattle.go_declarations.specs.Listings.{declarations_of};
-ghost use Rattle.go_declared.specs.NameTables.{AreDeclared};
-ghost use Rattle.go_packages.specs.inner.FoundNames.{declared_of};
+ghost use Rattle.go_packages.specs.inner.FoundNames.{IsPlaced, declared_of};
 ghost use Rattle.go_typings.specs.Declarations.{declared};
 
 use go_declarations::form::Form;
 use go_declarations::listing::Declaration;
-use go_declared::bases::declared_form;
-use go_declared::names::DeclaredNames;
+use go_declared::bases::form_there;
+use go_declared::names::ListedName;
 
 /// Where a name is declared first: the number of the declaration, the place of the name among those that it declares, and
 /// its form.
@@ -19,24 +18,19 @@ pub(crate) struct FoundName<'a> {
     pub form: Form<'a>,
 }
 
-/// Where a name is declared; None where it isn't.
+/// Where a name is declared that is listed with its place.
 pub(crate) fn found<'a>(
     declarations: &[Declaration<'a>],
-    names: &DeclaredNames,
-    name: &[u8],
+    listed: ListedName<'_>,
 ) -> Option<FoundName<'a>>
-    requires { AreDeclared (declarations_of declarations.now) names.now }
-    ensures { declared_of result ≡ declared (declarations_of declarations.now) name.now }
+    requires { IsPlaced (declarations_of declarations.now) listed }
+    ensures { declared_of result ≡ declared (declarations_of declarations.now) listed.entry.name.now }
 {
-    let place = match names.get(name) {
-        None => return None,
-        Some(place) => place,
-    };
-    match declared_form(declarations, names, name) {
+    match form_there(declarations, listed.place) {
         None => None,
         Some(form) => Some(FoundName {
-            number: place.number,
-            place: place.place,
+            number: listed.place.number,
+            place: listed.place.place,
             form,
         }),
     }

@@ -132,7 +132,7 @@ fn methods_of(
     unit: &Unit,
     declarations: &[Declaration<'_>],
     methods: &DeclaredMethods,
-    name: &[u8],
+    name: &Text,
     had: &HadEntries,
 ) -> Result<List<MethodOf>, NoMemory>
     requires listed { declarations_of declarations.now ≡ all_declarations (source_of unit.now) }
@@ -158,7 +158,7 @@ pub(crate) fn sorted_methods(
     unit: &Unit,
     declarations: &[Declaration<'_>],
     methods: &DeclaredMethods,
-    name: &[u8],
+    name: &Text,
     had: &HadEntries,
 ) -> Result<List<MethodOf>, NoMemory>
     requires listed { declarations_of declarations.now ≡ all_declarations (source_of unit.now) }

@@ -3,8 +3,9 @@ ghost use Rattle.std.specs.Prelude.{◌≡◌, ◌++◌, IfOk, OnOk};
 ghost use Rattle.go_base.specs.Keys.{item_of};
 ghost use Rattle.go_declarations.specs.Forms.{form_of};
 ghost use Rattle.go_declarations.specs.Listings.{declarations_of};
-ghost use Rattle.go_declared.specs.NameTables.{AreDeclared, texts_of};
+ghost use Rattle.go_declared.specs.NameTables.{texts_of};
 ghost use Rattle.go_had_entries.specs.HadEntries.{entries_at, found_entry};
+ghost use Rattle.go_packages.specs.inner.FoundNames.{ArePlaced, IsPlaced};
 ghost use Rattle.go_packages.specs.inner.NamedObjects.{denoted, object_named, objects_named};
 ghost use Rattle.go_typings.specs.PackageEnvironments.{entity_by, object_of, own_type};
 
@@ -14,7 +15,7 @@ use go_base::memory::NoMemory;
 use go_base::text::Text;
 use go_declarations::form::Form;
 use go_declarations::listing::Declaration;
-use go_declared::names::DeclaredNames;
+use go_declared::names::ListedName;
 use go_entries::entry::Entry;
 use go_had_entries::had::HadEntries;
 use go_model::types::names::TypeName;
@@ -77,14 +78,13 @@ fn entity(
     alloc: Global,
     path: &Text,
     declarations: &[Declaration<'_>],
-    names: &DeclaredNames,
-    name: &[u8],
+    listed: ListedName<'_>,
     had: &HadEntries,
 ) -> Result<Option<Entity>, NoMemory>
-    requires { AreDeclared (declarations_of declarations.now) names.now }
-    ensures { IfOk result (λ entity. entity ≡ denoted path.now (entries_at had.now) (declarations_of declarations.now) name.now) }
+    requires { IsPlaced (declarations_of declarations.now) listed }
+    ensures { IfOk result (λ entity. entity ≡ denoted path.now (entries_at had.now) (declarations_of declarations.now) listed.entry.name.now) }
 {
-    match found(declarations, names, name) {
+    match found(declarations, listed) {
         None => Ok(None),
         Some(found) => entity_by(alloc, path, found, had),
     }
@@ -94,7 +94,7 @@ fn entity(
 fn push_object(
     objects: &mut List<Object>,
     alloc: Global,
-    name: &[u8],
+    name: &Text,
     entity: Option<Entity>,
 ) -> Result<(), NoMemory>
     ensures { OnOk result (objects.new ≡ objects.old ++ object_named name.now entity) }
@@ -102,7 +102,7 @@ fn push_object(
     match entity {
         None => Ok(()),
         Some(entity) => objects.push(Object {
-            name: Text::of(alloc, name)?,
+            name: Text::of(alloc, name.bytes())?,
             entity,
         }),
     }
@@ -113,17 +113,16 @@ pub(crate) fn objects(
     alloc: Global,
     path: &Text,
     declarations: &[Declaration<'_>],
-    names: &DeclaredNames,
-    listed: &[&[u8]],
+    listed: &[ListedName<'_>],
     had: &HadEntries,
 ) -> Result<List<Object>, NoMemory>
-    requires { AreDeclared (declarations_of declarations.now) names.now }
+    requires { ArePlaced (declarations_of declarations.now) listed.now }
     ensures { IfOk result (λ objects. objects ≡ objects_named (denoted path.now (entries_at had.now) (declarations_of declarations.now)) (texts_of listed.now)) }
 {
     let mut objects = List::new(alloc);
     for name in listed {
-        let entity = entity(alloc, path, declarations, names, name, had)?;
-        push_object(&mut objects, alloc, name, entity)?;
+        let entity = entity(alloc, path, declarations, *name, had)?;
+        push_object(&mut objects, alloc, name.name, entity)?;
     }
     Ok(objects)
 }

@@ -39,16 +39,8 @@ pub fn package(
     ensures { (s : Setting) → IsTyping s (source_of unit.now) (entries_at had.now) → IfOk result (IsPackageOf (source_of unit.now) (entries_at had.now)) }
 {
     let listed = names.in_order(alloc)?;
-    let objects = objects(alloc, &unit.path, declarations, names, listed.items(), had)?;
-    let defined = defined_types(
-        alloc,
-        unit,
-        declarations,
-        names,
-        methods,
-        listed.items(),
-        had,
-    )?;
+    let objects = objects(alloc, &unit.path, declarations, listed.items(), had)?;
+    let defined = defined_types(alloc, unit, declarations, methods, listed.items(), had)?;
     Ok(Package {
         path: Text::of(alloc, unit.path.bytes())?,
         name: Text::of(alloc, unit.name.bytes())?,

@@ -7,6 +7,10 @@ use Rattle.go_syntax.specs.declared.name.Name.{Name}
 use Rattle.go_typings.specs.Declarations.{Declaration, is_init, names_of}
 use Rattle.go_declared.specs.declared.names.NamePlace.{NamePlace}
 
+-- the name is at the place, unless it is somewhere already
+abbrev pub with_new : Named NamePlace → List ℕ → NamePlace → Named NamePlace
+with_new t name place = if is_some (value_at t name) then t else with_value t name place
+
 -- the name is at the place, unless it is left out or is somewhere already
 abbrev pub with_first : Named NamePlace → List ℕ → NamePlace → Named NamePlace
 with_first t name place = if is_blank name || is_init name || is_some (value_at t name) then t else with_value t name place

@@ -1,8 +1,10 @@
 use Rattle.std.proofs.Common.{ℕ, List, ap, ◌∙◌, subst}
 use Rattle.go_declarations.specs.Listings.{declarations_of}
-use Rattle.go_declared.specs.NameTables.{AreDeclared, texts_of}
+use Rattle.go_declared.proofs.NamesInOrder.{names_listed}
+use Rattle.go_declared.specs.NameTables.{AreDeclared, entries_of, names_in, texts_of}
 use Rattle.go_had_entries.specs.HadEntries.{entries_at}
 use Rattle.go_packages.proofs.Packages.{package_of}
+use Rattle.go_packages.proofs.PlacedNames.{placed}
 use Rattle.go_packages.specs.inner.DefinedTypes.{AreDefined}
 use Rattle.go_packages.specs.inner.NamedObjects.{denoted, objects_named}
 use Rattle.go_sources.specs.UnitSources.{source_of}
@@ -14,11 +16,19 @@ pub returns : goal.returns
 returns c = λ s t.
     let u = source_of c.args.unit.now in
     let a = entries_at c.args.had.now in
-    let ds = declarations_of c.args.declarations.now in
+    let names = names_listed c.in_ok-listed.listed ∙ ap names_in c.in_ok-listed.ensures.entries in
     package_of s u a t c.args.names.now (subst (λ (xs : List Declaration). AreDeclared xs c.args.names.now) c.requires.listed c.requires.names) c.in_ok-listed.ensures.ordered
     c.in_ok-of.field-0 c.in_ok-of-2.field-0 c.in_ok-objects.objects c.in_ok-defined.defined
     (c.in_ok-of.ensures ∙ c.bytes.ensures) (c.in_ok-of-2.ensures ∙ c.bytes-2.ensures)
     (c.in_ok-objects.ensures
     ∙ ap (λ (xs : List Declaration). objects_named (denoted u.path a xs) (texts_of c.items.result.now)) c.requires.listed
-    ∙ ap (objects_named (denoted u.path a (declarations u))) (ap texts_of c.items.ensures ∙ c.in_ok-listed.ensures.names))
-    (subst (λ (ns : List (List ℕ)). AreDefined (own_defined u a) ns c.in_ok-defined.defined) (ap texts_of c.items-2.ensures ∙ c.in_ok-listed.ensures.names) c.in_ok-defined.ensures)
+    ∙ ap (objects_named (denoted u.path a (declarations u))) (ap texts_of c.items.ensures ∙ names))
+    (subst (λ (ns : List (List ℕ)). AreDefined (own_defined u a) ns c.in_ok-defined.defined) (ap texts_of c.items-2.ensures ∙ names) c.in_ok-defined.ensures)
+
+pub objects-requires : goal.objects-requires
+objects-requires c =
+    placed (declarations_of c.args.declarations.now) c.args.names.now c.requires.names c.items.result.now c.in_ok-listed.ensures.ordered (ap entries_of c.items.ensures ∙ c.in_ok-listed.ensures.entries)
+
+pub defined_types-requires-clause-placed : goal.defined_types-requires-clause-placed
+defined_types-requires-clause-placed c =
+    placed (declarations_of c.args.declarations.now) c.args.names.now c.requires.names c.items-2.result.now c.in_ok-listed.ensures.ordered (ap entries_of c.items-2.ensures ∙ c.in_ok-listed.ensures.entries)

@@ -1,5 +1,5 @@
-use Rattle.std.proofs.Common.{ap, arith, get_or}
-use Rattle.go_declared.proofs.Declared.{names_next, names_whole}
+use Rattle.std.proofs.Common.{ap, get_or}
+use Rattle.go_declared.proofs.Declared.{names_next}
 use Rattle.go_declared.proofs.names.DeclaredNames.add_names.Goals as goal
 
 pub loop-place-preserved : goal.loop-place-preserved
