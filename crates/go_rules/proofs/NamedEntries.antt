@@ -1,13 +1,11 @@
 -- Tables of names, as an ordered map holds them.
 use Rattle.std.proofs.Common.{◌≡◌, nat_eq, ℕ, List, [], ◌∷◌, refl, sym, ap, ◌∙◌, subst, Bool, true, false, cond, Option, Some, None}
 use mathlib.Core.Bool.{true≢false}
-use Rattle.std.proofs.lemmas.Cmp.{nat_cmp_total, nat_list_cmp_total}
-use Rattle.std.proofs.lemmas.Map.Steps.{set_value_same}
+use Rattle.std.proofs.lemmas.Cmp.{nat_cmp_total}
 use Rattle.std.proofs.lemmas.Map.Text.{is_eq-slice_cmp}
 use Rattle.std.specs.BTreeMap.{insert_entry, is_at}
 use Rattle.std.specs.Cmp.{IsTotalOrder, unsigned_ties}
 use Rattle.std.specs.Cmp.Lexicographic.{slice_cmp, bytes_decides}
-use Rattle.std.specs.Global.{Vec}
 use Rattle.std.specs.List.{AllByRecursion}
 use Rattle.std.specs.List.Sorted.{IsStrictlySortedBy}
 use Rattle.std.specs.Map.{lookup, keys_of, set_value}
@@ -18,49 +16,12 @@ use Rattle.std.specs.declared.cmp.Ordering.{Ordering}
 use Rattle.std.specs.declared.cmp.Ordering.TheVariants.{Less, Equal, Greater}
 use Rattle.go_base.specs.Keys.{item_of}
 use Rattle.go_rules.specs.Names.{Named, value_at, with_value}
-use Rattle.go_rules.specs.inner.Entries.{by_text}
 use denote.Ref.{Bor}
 
 module _ {A : Type 0} where
   pub item_copied : (r : Option (Bor A)) → item_of r ≡ option_copied r
   item_copied None = refl
   item_copied (Some x) = refl
-
-  pub value_by_text : (name : List ℕ) (es : List (Vec ℕ × A)) → lookup (is_at (λ (k : Vec ℕ). slice_cmp nat_cmp name k.items)) es ≡ value_at (by_text es) name
-  value_by_text name [] = refl
-  value_by_text name (e ∷ es) =
-      ap (λ b. cond b (Some e.1) (lookup (is_at (λ (k : Vec ℕ). slice_cmp nat_cmp name k.items)) es)) (is_eq-slice_cmp name e.0.items)
-      ∙ ap (λ r. cond (bytes_eq name e.0.items) (Some e.1) r) (value_by_text name es)
-
-  pub put_by_text : (k : Vec ℕ) (v : A) (es : List (Vec ℕ × A)) → by_text (insert_entry (λ (a b : Vec ℕ). slice_cmp nat_cmp a.items b.items) es k v) ≡ with_value (by_text es) k.items v
-  put_by_text k v [] = refl
-  put_by_text k v (e ∷ es) =
-      elim (slice_cmp nat_cmp k.items e.0.items) as (λ o. by_text (match_ordering o ((k, v) ∷ e ∷ es) ((e.0, v) ∷ es) (e ∷ insert_entry (λ (a b : Vec ℕ). slice_cmp nat_cmp a.items b.items) es k v)) ≡ match_ordering o ((k.items, v) ∷ by_text (e ∷ es)) ((e.0.items, v) ∷ by_text es) ((e.0.items, e.1) ∷ with_value (by_text es) k.items v)) [
-        | Less ↦ refl
-        | Equal ↦ refl
-        | Greater ↦ ap (λ r. (e.0.items, e.1) ∷ r) (put_by_text k v es)
-      ]
-
-  pub set_by_text : (name : List ℕ) (w : A) (es : List (Vec ℕ × A)) → by_text (set_value (is_at (λ (k : Vec ℕ). slice_cmp nat_cmp name k.items)) es w) ≡ set_value (is_at (slice_cmp nat_cmp name)) (by_text es) w
-  set_by_text name w [] = refl
-  set_by_text name w (e ∷ es) =
-      elim (is_eq (slice_cmp nat_cmp name e.0.items)) as (λ b. by_text (cond b ((e.0, w) ∷ es) (e ∷ set_value (is_at (λ (k : Vec ℕ). slice_cmp nat_cmp name k.items)) es w)) ≡ cond b ((e.0.items, w) ∷ by_text es) ((e.0.items, e.1) ∷ set_value (is_at (slice_cmp nat_cmp name)) (by_text es) w)) [
-        | true ↦ refl
-        | false ↦ ap (λ r. (e.0.items, e.1) ∷ r) (set_by_text name w es)
-      ]
-
-  pub found_by_text : (name : List ℕ) (es : List (Vec ℕ × A)) → lookup (is_at (λ (k : Vec ℕ). slice_cmp nat_cmp name k.items)) es ≡ lookup (is_at (slice_cmp nat_cmp name)) (by_text es)
-  found_by_text name [] = refl
-  found_by_text name (e ∷ es) = ap (λ r. cond (is_eq (slice_cmp nat_cmp name e.0.items)) (Some e.1) r) (found_by_text name es)
-
-  all_by_text : (P : List ℕ → Type 0) (es : List (Vec ℕ × A)) → AllByRecursion (λ (k : Vec ℕ). P k.items) (keys_of es) → AllByRecursion P (keys_of (by_text es))
-  all_by_text P [] h = h
-  all_by_text P (e ∷ es) h = (h.0, all_by_text P es h.1)
-
-  pub sorted_by_text : (es : List (Vec ℕ × A)) → IsStrictlySortedBy (λ (a b : Vec ℕ). slice_cmp nat_cmp a.items b.items) (keys_of es) → IsStrictlySortedBy (slice_cmp nat_cmp) (keys_of (by_text es))
-  unfolding IsStrictlySortedBy
-  sorted_by_text [] s = s
-  sorted_by_text (e ∷ es) s = (all_by_text (λ y. slice_cmp nat_cmp e.0.items y ≡ Less) es s.0, sorted_by_text es s.1)
 
 module _ {K X : Type 0} {cmp : K → K → Ordering} (total : IsTotalOrder cmp) (k : K) where
   above : (l : K) (es : List (K × X)) → cmp k l ≡ Less → AllByRecursion (λ y. cmp l y ≡ Less) (keys_of es) → lookup (is_at (cmp k)) es ≡ None
@@ -84,25 +45,6 @@ module _ {K X : Type 0} {cmp : K → K → Ordering} (total : IsTotalOrder cmp) 
     unfolding IsStrictlySortedBy
     set_is_insert [] s l = absurd (none_some l)
     set_is_insert (e ∷ es) s l = set_first (cmp k e.0) e es refl s.0 l (set_is_insert es s.1)
-
-module _ {A : Type 0} (es : List (Vec ℕ × A)) (bytes name : List ℕ) (now : Named A) (is : by_text es ≡ now) (same : bytes ≡ name) where
-  -- a value that is written to a name which is there
-  pub written : (w x : A) → IsStrictlySortedBy (λ (a b : Vec ℕ). slice_cmp nat_cmp a.items b.items) (keys_of es) → Some x ≡ lookup (is_at (λ (k : Vec ℕ). slice_cmp nat_cmp bytes k.items)) es
-      → by_text (set_value (is_at (λ (k : Vec ℕ). slice_cmp nat_cmp bytes k.items)) es w) ≡ with_value now name w
-  written w x s there =
-      set_by_text bytes w es
-      ∙ set_is_insert nat_list_cmp_total bytes w x (by_text es) (sorted_by_text es s) (sym (found_by_text bytes es) ∙ sym there)
-      ∙ ap (λ k. with_value (by_text es) k w) same ∙ ap (λ m. with_value m name w) is
-
-  pub found_there : (x : Option A) → x ≡ lookup (is_at (λ (k : Vec ℕ). slice_cmp nat_cmp bytes k.items)) es → x ≡ value_at now name
-  found_there x there = there ∙ value_by_text bytes es ∙ ap (λ k. value_at (by_text es) k) same ∙ ap (λ m. value_at m name) is
-
-  -- what is written back changes nothing
-  pub unwritten : (w x : A) → w ≡ x → Some x ≡ lookup (is_at (λ (k : Vec ℕ). slice_cmp nat_cmp bytes k.items)) es
-      → by_text (set_value (is_at (λ (k : Vec ℕ). slice_cmp nat_cmp bytes k.items)) es w) ≡ now
-  unwritten w x kept there =
-      ap by_text (ap (set_value (is_at (λ (k : Vec ℕ). slice_cmp nat_cmp bytes k.items)) es) kept ∙ set_value_same (is_at (λ (k : Vec ℕ). slice_cmp nat_cmp bytes k.items)) es x (sym there))
-      ∙ is
 
 module _ {A : Type 0} where
   pub found_by_number : (n : ℕ) (es : List (ℕ × A)) → lookup (is_at (nat_cmp n)) es ≡ lookup (nat_eq n) es
