@@ -7,5 +7,4 @@ pub mod ToldMethods
 pub mod BaseTypes
 pub mod ToldNamesakes
 pub mod NumberTables
-pub mod TextEntries
 pub mod NewNames

@@ -124,7 +124,7 @@ fn add_row(
     env: &mut Env<'_>,
     alloc: Global,
     grown: Grown<'_>,
-    type_name: &[u8],
+    type_name: &Text,
     name: &[u8],
     row: MethodRow,
 ) -> Result<(), NoMemory>
@@ -135,7 +135,7 @@ fn add_row(
         None => Ok(()),
         Some(signature) => {
             let method = method_of(env, alloc, name, row.pointer, signature)?;
-            env.add_method(&Text::of(alloc, type_name)?, method)
+            env.add_method(type_name, method)
         }
     }
 }
@@ -145,7 +145,7 @@ fn add_rows(
     env: &mut Env<'_>,
     alloc: Global,
     grown: Grown<'_>,
-    type_name: &[u8],
+    type_name: &Text,
     name: &[u8],
     rows: &[MethodRow],
 ) -> Result<(), NoMemory>
@@ -177,7 +177,7 @@ fn add_shown(
     if !are_had(grown, rows) {
         return Ok(());
     }
-    add_rows(env, alloc, grown, type_name.bytes(), name.bytes(), rows)
+    add_rows(env, alloc, grown, type_name, name.bytes(), rows)
 }
 
 /// Adds to the type that a method is declared for the methods of its name, where the name isn't blank and each of them is had.

@@ -1,7 +1,7 @@
 use Rattle.std.proofs.Common.{◌∷◌, [], ◌++◌, ap, ◌∙◌}
 use Rattle.std.proofs.lemmas.Result.{on_ok_weaker}
 use Rattle.std.specs.Option.{unwrap_or}
-use Rattle.go_declared.proofs.TextEntries.{value_there, written}
+use Rattle.go_rules.proofs.TextEntries.{value_there, written}
 use Rattle.go_rules.specs.Names.{with_value}
 use Rattle.go_declaration_graph.proofs.method_index.MethodNumbers.push.Goals as goal
 

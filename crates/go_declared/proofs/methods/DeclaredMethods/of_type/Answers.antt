@@ -1,6 +1,6 @@
 use Rattle.std.proofs.Common.{[], ap, ◌∙◌, None, Some}
 use Rattle.std.specs.Option.{unwrap_or}
-use Rattle.go_declared.proofs.TextEntries.{value_there}
+use Rattle.go_rules.proofs.TextEntries.{value_there}
 use Rattle.go_declared.proofs.methods.DeclaredMethods.of_type.Goals as goal
 
 pub returns-in-None : goal.returns-in-None

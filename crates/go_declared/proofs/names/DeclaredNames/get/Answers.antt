@@ -1,6 +1,6 @@
 use Rattle.std.proofs.Common.{ap, ◌∙◌}
 use Rattle.go_rules.specs.Names.{value_at}
-use Rattle.go_declared.proofs.TextEntries.{value_is}
+use Rattle.go_rules.proofs.TextEntries.{value_is}
 use Rattle.go_declared.proofs.names.DeclaredNames.get.Goals as goal
 
 pub returns : goal.returns

@@ -7,7 +7,7 @@ use Rattle.std.specs.Option.{IsSome}
 use Rattle.std.specs.Ordering.{nat_cmp}
 use Rattle.go_rules.specs.Names.{with_value}
 use Rattle.go_declared.proofs.NewNames.{put_new, put_there}
-use Rattle.go_declared.proofs.TextEntries.{kept, value_there}
+use Rattle.go_rules.proofs.TextEntries.{kept, value_there}
 use Rattle.go_declared.proofs.names.DeclaredNames.put.Goals as goal
 
 pub returns-in-Ok-Vacant : goal.returns-in-Ok-Vacant

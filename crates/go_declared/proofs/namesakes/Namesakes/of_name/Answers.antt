@@ -1,7 +1,7 @@
 use Rattle.std.proofs.Common.{[], ap, ◌∙◌, None, Some}
 use Rattle.std.specs.Option.{unwrap_or}
 use Rattle.go_rules.specs.Names.{items_at}
-use Rattle.go_declared.proofs.TextEntries.{value_there}
+use Rattle.go_rules.proofs.TextEntries.{value_there}
 use Rattle.go_declared.proofs.namesakes.Namesakes.of_name.Goals as goal
 
 pub returns-in-None : goal.returns-in-None
