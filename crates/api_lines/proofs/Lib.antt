@@ -1,3 +1,4 @@
+pub mod AddedLines
 pub mod CopiedItems
 pub mod Growing
 pub mod Joins

@@ -1,3 +1,4 @@
+pub mod AddedLines
 pub mod Joins
 pub mod MergedLines
 pub mod Shares

@@ -1,20 +1,34 @@
 //! Copies of lines.
 ghost use Rattle.std.specs.Prelude.{◌≡◌, IfOk};
+ghost use Rattle.api_lines.specs.Lines.{in_context};
 
 use crate::line::Line;
 use go_base::list::List;
 use go_base::memory::NoMemory;
 use go_base::text::Text;
+use go_model::files::platform::Platform;
 use std::alloc::Global;
+
+/// A copy of the line in this context, or in none.
+pub(crate) fn line_in(
+    alloc: Global,
+    context: Option<Platform>,
+    line: &Line,
+) -> Result<Line, NoMemory>
+    ensures { IfOk result (λ copy. copy ≡ in_context context line.now) }
+{
+    Ok(Line {
+        path: Text::of(alloc, line.path.bytes())?,
+        context,
+        rest: Text::of(alloc, line.rest.bytes())?,
+    })
+}
 
 fn line_copied(alloc: Global, line: &Line) -> Result<Line, NoMemory>
     ensures { IfOk result (λ copy. copy ≡ line.now) }
 {
-    Ok(Line {
-        path: Text::of(alloc, line.path.bytes())?,
-        context: line.context,
-        rest: Text::of(alloc, line.rest.bytes())?,
-    })
+    let copy = line_in(alloc, line.context, line)?;
+    Ok(copy)
 }
 
 /// The same lines.

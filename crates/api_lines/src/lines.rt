@@ -79,7 +79,8 @@ fn are_in_order(lines: &[Line]) -> bool
     true
 }
 
-fn listed(alloc: Global, mut all: Vec<Line>) -> Result<List<Line>, NoMemory>
+/// The lines, each text once, in the order of the texts.
+pub(crate) fn listed(alloc: Global, mut all: Vec<Line>) -> Result<List<Line>, NoMemory>
     ensures { IfOk result (IsListing (Has all.items)) }
 {
     sort_packages(&mut all);

@@ -1,119 +1,159 @@
-//! One list of lines for several platforms.
-ghost use Rattle.std.specs.Prelude.{◌≡◌, ◌<◌, ◌∷◌, length, IfOk, OnOk, slice_index_or};
+//! One list of lines for several platforms, of lists in any order.
+ghost use Rattle.std.specs.Prelude.{◌≡◌, ◌<◌, [], length, Decides, IfOk, OnOk};
 ghost use Rattle.std.specs.List.{zip};
 ghost use Rattle.go_base.specs.Lists.{Has, Each};
 ghost use Rattle.go_base.specs.Growing.{Grows};
-ghost use Rattle.api_lines.specs.Lines.{printed, AreInOrder, IsListing};
+ghost use Rattle.api_lines.specs.Lines.{HasText, IsListing};
 ghost use Rattle.api_lines.specs.Merging.{HasNoContext, IsMerged};
-ghost use Rattle.api_lines.specs.inner.MergedLines.{IsOwn, IsOwnOfSome, IsTextOnAll, AreExactly};
+ghost use Rattle.api_lines.specs.inner.AddedLines.{AreTexts, Fits, IsAdded, IsAddedFrom, IsAddedFromSome};
+ghost use Rattle.api_lines.specs.inner.MergedLines.{IsTextOnAll};
 
+use crate::copies::{line_in, lines_copied};
 use crate::line::Line;
-use crate::lines::Lines;
-use crate::part::part;
+use crate::lines::{Lines, listed};
+use crate::ordered::platform_at;
+use crate::texts::Texts;
 use go_base::list::List;
 use go_base::memory::NoMemory;
+use go_base::text::Text;
 use go_model::files::platform::Platform;
 use std::alloc::Global;
 
-// The lines of the first list whose texts all others have. Its other ones are added on its platform.
-fn common_lines(
-    alloc: Global,
-    first: List<Line>,
-    others: &[List<Line>],
-    platform: Platform,
-    merged: &mut Lines,
-) -> Result<List<Line>, NoMemory>
-    requires first { AreInOrder first }
-    requires others { Each AreInOrder others.now }
-    ensures common { IfOk result (AreExactly (λ l. Has first l × IsTextOnAll others.now (printed l))) }
-    ensures own { OnOk result (Grows (IsOwn (IsTextOnAll others.now) platform first) merged.old merged.new) }
+fn texts_of_each(alloc: Global, lists: &[List<Line>]) -> Result<Vec<Texts>, NoMemory>
+    ensures { IfOk result (λ all. AreTexts lists.now all.items) }
 {
-    let mut common = first;
-    for lines in others {
-        common = part(alloc, common, lines.items(), platform, merged)?;
+    let mut all = Vec::with_capacity(alloc, lists.len())?;
+    for lines in lists {
+        all.push(Texts::of_lines(alloc, lines.items())?)?;
+    }
+    Ok(all)
+}
+
+fn is_in_all(all: &[Texts], text: &Text) -> bool
+    ensures { Decides result (Each (λ texts. Has texts text.now) all.now) }
+{
+    for texts in all {
+        if !texts.has(text) {
+            return false;
+        }
+    }
+    true
+}
+
+// Adds the text, where all these sets have it.
+fn add_common(all: &[Texts], text: Text, common: &mut Texts) -> Result<(), NoMemory>
+    ensures { OnOk result (Grows (λ member. Each (λ texts. Has texts text) all.now × (text ≡ member)) common.old common.new) }
+{
+    if !is_in_all(all, &text) {
+        return Ok(());
+    }
+    common.add(text)?;
+    Ok(())
+}
+
+// The texts that all lists have, of which the first is given apart.
+fn common_texts(alloc: Global, first: &[Line], others: &[List<Line>]) -> Result<Texts, NoMemory>
+    ensures { IfOk result (λ common. Grows (λ text. HasText first.now text × IsTextOnAll others.now text) [] common) }
+{
+    let all = texts_of_each(alloc, others)?;
+    let mut common = Texts::new(alloc);
+    for line in first {
+        add_common(&all, line.printed(alloc)?, &mut common)?;
     }
     Ok(common)
 }
 
-fn platform_at(platforms: &[Platform], at: usize) -> Platform
-    requires { at < length platforms.now }
-    ensures { result ≡ slice_index_or platforms.now at result }
+// A copy of a line of each text.
+fn each_text_once(alloc: Global, lines: &[Line]) -> Result<List<Line>, NoMemory>
+    ensures { IfOk result (IsListing (Has lines.now)) }
 {
-    platforms[at]
+    let copies = lines_copied(alloc, lines)?;
+    let once = listed(alloc, copies.into_vec())?;
+    Ok(once)
+}
+
+// Whether a text goes without context, for which it has to be common, or in one, for which it mustn't.
+fn fits(common: &Texts, context: Option<Platform>, text: &Text) -> bool
+    ensures { Decides result (Fits common.now context text.now) }
+{
+    let is_common = common.has(text);
+    match context {
+        None => is_common,
+        Some(_) => !is_common,
+    }
+}
+
+// Adds the line in a context, where its text isn't common, or without one, where it is.
+fn add_line(
+    alloc: Global,
+    common: &Texts,
+    context: Option<Platform>,
+    line: &Line,
+    merged: &mut Lines,
+) -> Result<(), NoMemory>
+    ensures { OnOk result (Grows (IsAdded common.now context line.now) merged.old merged.new) }
+{
+    let text = line.printed(alloc)?;
+    if !fits(common, context, &text) {
+        return Ok(());
+    }
+    merged.add(alloc, line_in(alloc, context, line)?)?;
+    Ok(())
+}
+
+fn add_lines(
+    alloc: Global,
+    common: &Texts,
+    context: Option<Platform>,
+    lines: &[Line],
+    merged: &mut Lines,
+) -> Result<(), NoMemory>
+    ensures { OnOk result (Grows (IsAddedFrom common.now context lines.now) merged.old merged.new) }
+{
+    for line in lines {
+        add_line(alloc, common, context, line, merged)?;
+    }
+    Ok(())
 }
 
 // Adds the lines of each list that aren't common, on the list's platform.
-fn add_own(
+fn add_own_of_each(
     alloc: Global,
-    lists: List<List<Line>>,
+    common: &Texts,
+    lists: &[List<Line>],
     platforms: &[Platform],
-    common: &[Line],
     merged: &mut Lines,
 ) -> Result<(), NoMemory>
-    requires same { length lists ≡ length platforms.now }
-    requires lists { Each AreInOrder lists }
-    requires common { AreInOrder common.now }
-    ensures { OnOk result (Grows (IsOwnOfSome common.now (zip lists platforms.now)) merged.old merged.new) }
+    requires { length lists.now ≡ length platforms.now }
+    ensures { OnOk result (Grows (IsAddedFromSome common.now (zip lists.now platforms.now)) merged.old merged.new) }
 {
-    let mut i = 0;
-    for lines in lists.into_vec() {
+    for i in 0..lists.len() {
+        let lines = &lists[i];
         let platform = platform_at(platforms, i);
-        let _common = part(alloc, lines, common, platform, merged)?;
-        i += 1;
+        add_lines(alloc, common, Some(platform), lines.items(), merged)?;
     }
     Ok(())
-}
-
-fn add_all(alloc: Global, lines: List<Line>, merged: &mut Lines) -> Result<(), NoMemory>
-    ensures { OnOk result (Grows (Has lines) merged.old merged.new) }
-{
-    for line in lines.into_vec() {
-        merged.add(alloc, line)?;
-    }
-    Ok(())
-}
-
-// The merged lines of a first list and of others.
-fn merge_several(
-    alloc: Global,
-    first: List<Line>,
-    others: List<List<Line>>,
-    platform: Platform,
-    platforms: &[Platform],
-) -> Result<List<Line>, NoMemory>
-    requires same { length others ≡ length platforms.now }
-    requires plain { Each (Each HasNoContext) (first ∷ others) }
-    requires order { Each AreInOrder (first ∷ others) }
-    ensures { IfOk result (IsListing (IsMerged (first ∷ others) (platform ∷ platforms.now))) }
-{
-    let mut merged = Lines::new(alloc);
-    let common = common_lines(alloc, first, others.items(), platform, &mut merged)?;
-    add_own(alloc, others, platforms, common.items(), &mut merged)?;
-    add_all(alloc, common, &mut merged)?;
-    let merged = merged.into_list(alloc)?;
-    Ok(merged)
 }
 
 /// One list for several platforms, each of which has its list of lines, in the order of the platforms: a line
 /// whose text is in all lists stands once, without context, and every other one in the context of each platform
-/// whose list has it. Each text stands once, in the order of bytes. A single list is given back as it is.
-pub(crate) fn merge(
+/// whose list has it. Each text stands once, in the order of bytes. The lists may be in any order, and have lines twice.
+pub fn merge(
     alloc: Global,
-    lists: List<List<Line>>,
+    lists: &[List<Line>],
     platforms: &[Platform],
 ) -> Result<List<Line>, NoMemory>
-    requires some { 0 < length lists }
-    requires same { length lists ≡ length platforms.now }
-    requires plain { Each (Each HasNoContext) lists }
-    requires order { Each AreInOrder lists }
-    ensures { IfOk result (IsListing (IsMerged lists platforms.now)) }
+    requires some { 0 < length lists.now }
+    requires same { length lists.now ≡ length platforms.now }
+    requires plain { Each (Each HasNoContext) lists.now }
+    ensures { IfOk result (IsListing (IsMerged lists.now platforms.now)) }
 {
-    let mut others = lists.into_vec();
-    let first = others.remove(0);
-    if others.is_empty() {
-        return Ok(first);
-    }
-    let others = List::from_vec(others);
-    let platform = platform_at(platforms, 0);
-    merge_several(alloc, first, others, platform, &platforms[1..])
+    let first = lists[0].items();
+    let once = each_text_once(alloc, first)?;
+    let common = common_texts(alloc, once.items(), &lists[1..])?;
+    let mut merged = Lines::new(alloc);
+    add_lines(alloc, &common, None, first, &mut merged)?;
+    add_own_of_each(alloc, &common, lists, platforms, &mut merged)?;
+    let merged = merged.into_list(alloc)?;
+    Ok(merged)
 }

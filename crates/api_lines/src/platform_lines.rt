@@ -8,7 +8,7 @@ ghost use Rattle.api_lines.specs.inner.Shares.{AreJoined, AreShared, whole};
 use crate::copies::lines_copied;
 use crate::join::joined;
 use crate::line::Line;
-use crate::merge::merge;
+use crate::ordered::merge_ordered;
 use crate::split::split;
 use go_base::list::List;
 use go_base::memory::NoMemory;
@@ -140,7 +140,7 @@ impl PlatformLines {
         ensures { IfOk result (IsListing (IsMerged self platforms.now)) }
     {
         let PlatformLines { common, own } = self;
-        let apart = merge(alloc, own, platforms)?;
+        let apart = merge_ordered(alloc, own, platforms)?;
         joined(alloc, common, apart)
     }
 }

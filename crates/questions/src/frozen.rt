@@ -1,7 +1,6 @@
 //! Questions on feature lines.
-ghost use Rattle.std.specs.Prelude.{Decides, IfOk};
+ghost use Rattle.std.specs.Prelude.{Decides};
 ghost use Rattle.go_base.specs.Lists.{Each};
-ghost use Rattle.api_lines.specs.Lines.{AreInOrder};
 ghost use Rattle.api_lines.specs.Merging.{HasNoContext};
 
 use crate::refusal::Refusal;
@@ -11,10 +10,7 @@ use api_frozen::error::FrozenError;
 use api_frozen::file::read_frozen;
 use api_frozen::signed::Signed;
 use api_lines::line::Line;
-use api_lines::lines::Lines;
-use api_lines::platform_lines::PlatformLines;
-use go_base::list::List;
-use go_base::memory::NoMemory;
+use api_lines::merge::merge;
 use go_base::text::Text;
 use std::alloc::Global;
 
@@ -101,38 +97,26 @@ fn is_plain(lines: &[Line]) -> bool
     true
 }
 
-// The lines in the order of their texts, each text once.
-fn in_order(alloc: Global, lines: List<Line>) -> Result<List<Line>, NoMemory>
-    ensures { IfOk result (λ lines. AreInOrder lines) }
-{
-    let mut all = Lines::new(alloc);
-    for line in lines.into_vec() {
-        all.add(alloc, line)?;
-    }
-    let lines = all.into_list(alloc)?;
-    Ok(lines)
-}
-
 /// One list of the lines of platforms, each given as its name, a colon and its lines.
 pub fn merge_answer(alloc: Global, parts: &[&str]) -> Result<Vec<u8>, Refusal> {
     let mut platforms = Vec::new(alloc);
-    let mut lists = PlatformLines::new(alloc);
+    let mut lists = Vec::new(alloc);
     for part in parts {
         let Some((name, lines)) = part.split_once(':') else {
             return Err(Refusal::NotAQuestion);
         };
         platforms.push(words::platform(name)?)?;
-        let lines = in_order(alloc, words::lines(alloc, lines)?)?;
+        let lines = words::lines(alloc, lines)?;
         if !is_plain(lines.items()) {
             return Err(Refusal::NotAQuestion);
         }
-        lists.add(alloc, lines)?;
+        lists.push(lines)?;
     }
     let count = lists.len();
     if count == 0 || count != platforms.len() {
         return Err(Refusal::NotAQuestion);
     }
-    let merged = lists.into_list(alloc, &platforms)?;
+    let merged = merge(alloc, &lists, &platforms)?;
     let mut out = Vec::new(alloc);
     for line in merged.items() {
         out.extend_from_slice(line.printed(alloc)?.bytes())?;

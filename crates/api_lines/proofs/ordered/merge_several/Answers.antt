@@ -1,5 +1,5 @@
 use Rattle.api_lines.proofs.Merged.{merged_by}
-use Rattle.api_lines.proofs.merge.merge_several.Goals as goal
+use Rattle.api_lines.proofs.ordered.merge_several.Goals as goal
 
 pub returns : goal.returns
 returns c =

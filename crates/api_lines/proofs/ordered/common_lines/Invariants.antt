@@ -2,7 +2,7 @@ use Rattle.std.proofs.Common.{take}
 use Rattle.go_base.specs.Growing.{Grows}
 use Rattle.api_lines.specs.inner.MergedLines.{AreExactly, IsOwn, IsTextOnAll}
 use Rattle.api_lines.proofs.Parts.{IsOfAll}
-use Rattle.api_lines.proofs.merge.common_lines.Given as goal
+use Rattle.api_lines.proofs.ordered.common_lines.Given as goal
 
 abbrev pub invariant-loop-lines : goal.invariant-loop-lines
 invariant-loop-lines l =

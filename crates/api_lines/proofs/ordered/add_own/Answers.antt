@@ -1,7 +1,7 @@
 use Rattle.std.proofs.Common.{◌≡◌, ◌+◌, [], ◌∷◌, ◌++◌, sym, ap, ◌∙◌, append_assoc}
 use Rattle.std.specs.Vec.Iter.{into_iter_items}
 use Rattle.api_lines.proofs.Merged.{length_back, owns_next}
-use Rattle.api_lines.proofs.merge.add_own.Goals as goal
+use Rattle.api_lines.proofs.ordered.add_own.Goals as goal
 
 pub loop-lines-preserved : goal.loop-lines-preserved
 loop-lines-preserved c =

@@ -1,5 +1,5 @@
 use Rattle.api_lines.proofs.Parts.{all_next}
-use Rattle.api_lines.proofs.merge.common_lines.Goals as goal
+use Rattle.api_lines.proofs.ordered.common_lines.Goals as goal
 
 pub loop-lines-preserved : goal.loop-lines-preserved
 loop-lines-preserved c =
