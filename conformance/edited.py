@@ -139,7 +139,8 @@ class Crate:
             while lines[at - 1].lstrip().startswith("#[") and at < len(lines):
                 at += 1
             return function_at(file, text, sum(len(it) + 1 for it in lines[:at])) == function
-        return "::%s::" % function in "::" + "::".join(file[len("proofs/"):].split("/"))
+        # a folder of functions that call one another has a plus before its name
+        return "::%s::" % function in "::" + "::".join(it.removeprefix("+") for it in file[len("proofs/"):].split("/"))
 
     def tried(self):
         """What came of each edit."""

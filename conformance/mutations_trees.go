@@ -3,6 +3,7 @@ package main
 
 import (
 	"bytes"
+	"errors"
 	"fmt"
 	"go/ast"
 	"go/parser"
@@ -192,6 +193,14 @@ func typed(t *tree, over *library) (*view, error) {
 	for _, p := range v.packs {
 		if _, err := v.from(p.path).Import(p.path); err != nil {
 			return nil, err
+		}
+	}
+	// the profile knows no values of these kinds, and an edit may put one in parentheses
+	for _, object := range v.info.Defs {
+		if constant, is := object.(*types.Const); is {
+			if basic, is := constant.Type().Underlying().(*types.Basic); is && basic.Info()&(types.IsFloat|types.IsComplex) != 0 {
+				return nil, errors.New(constant.Name() + " is a constant of a float or complex kind")
+			}
 		}
 	}
 	return v, nil
