@@ -5,7 +5,6 @@ ghost use Rattle.go_model.specs.types.Terms.{is_error, error_type};
 ghost use Rattle.go_model.specs.types.Underlying.{entry, under};
 ghost use Rattle.go_model.specs.declared.types.term.Term.{out-Term};
 
-use go_base::boxed::Box;
 use go_base::list::List;
 use go_base::memory::NoMemory;
 use go_base::text::Text;

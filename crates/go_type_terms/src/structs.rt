@@ -14,9 +14,9 @@ use crate::loud::either;
 use crate::part::{Answer, Part};
 use crate::type_names::type_named;
 use crate::typing::Typing;
-use go_base::boxed::Box;
 use go_base::list::List;
 use go_base::memory::NoMemory;
+use go_base::shared::Shared;
 use go_base::text::Text;
 use go_model::types::term::{Field, Term};
 use go_rules::env::Env;
@@ -40,7 +40,7 @@ fn starred(alloc: Global, star: bool, term: Term) -> Result<Term, NoMemory>
     ensures { IfOk result (λ t. t ≡ starred star term) }
 {
     if star {
-        Ok(Term::Pointer(Box::new(alloc, term)?))
+        Ok(Term::Pointer(Shared::new(alloc, term)?))
     } else {
         Ok(term)
     }

@@ -2,9 +2,9 @@
 ghost use Rattle.std.specs.Prelude.{◌≡◌, map, IfOk};
 ghost use Rattle.go_model.specs.types.Tags.{untagged, untagged_field, untagged_method, untagged_signature};
 
-use go_base::boxed::Box;
 use go_base::list::List;
 use go_base::memory::NoMemory;
+use go_base::shared::Shared;
 use go_base::text::Text;
 use go_model::types::term::{Field, Method, Signature, Term};
 use std::alloc::Global;
@@ -29,10 +29,10 @@ pub(crate) fn untagged(alloc: Global, term: &Term) -> Result<Term, NoMemory>
 }
 
 #[cycle(untagged)]
-fn boxed(alloc: Global, term: &Box<Term>) -> Result<Box<Term>, NoMemory>
+fn boxed(alloc: Global, term: &Shared<Term>) -> Result<Shared<Term>, NoMemory>
     ensures { IfOk result (λ bare. bare ≡ untagged term.now) }
 {
-    Box::new(alloc, untagged(alloc, term.value())?)
+    Shared::new(alloc, untagged(alloc, term.value())?)
 }
 
 #[cycle(untagged)]

@@ -1,8 +1,8 @@
 //! Terms in prefix notation, read from the last word to the first.
 use crate::basic::basic;
 use crate::refusal::Refusal;
-use go_base::boxed::Box;
 use go_base::list::List;
+use go_base::shared::Shared;
 use go_base::text::Text;
 use go_model::types::names::{Sel, TypeName};
 use go_model::types::package::MethodOf;
@@ -122,13 +122,13 @@ impl Stack {
     }
 
     /// The leftmost term, on the heap. A term by value is given up variant by variant.
-    pub fn boxed(&mut self, alloc: Global) -> Result<Box<Term>, Refusal> {
+    pub fn boxed(&mut self, alloc: Global) -> Result<Shared<Term>, Refusal> {
         let term = self.term()?;
-        Ok(Box::new(alloc, term)?)
+        Ok(Shared::new(alloc, term)?)
     }
 
     /// The one term that the words of a text are, on the heap.
-    pub fn one(&mut self, alloc: Global, words: &str) -> Result<Box<Term>, Refusal> {
+    pub fn one(&mut self, alloc: Global, words: &str) -> Result<Shared<Term>, Refusal> {
         self.read_all(alloc, words)?;
         let term = self.boxed(alloc)?;
         self.end()?;

@@ -4,7 +4,6 @@ ghost use Rattle.std.specs.Prelude.{◌≡◌, IfOk};
 use crate::types::names::{Sel, TypeName};
 use crate::types::package::{ConstTerm, Defined, Entity, MethodOf, Object, Package};
 use crate::types::term::{Field, Method, Signature, Term};
-use go_base::boxed::Box;
 use go_base::list::List;
 use go_base::memory::NoMemory;
 use go_base::text::Text;
@@ -47,27 +46,15 @@ fn copy_term(alloc: Global, term: &Term) -> Result<Term, NoMemory>
     match term {
         Term::Plain(basic) => Ok(Term::Plain(*basic)),
         Term::Named(name) => Ok(Term::Named(name.copy(alloc)?)),
-        Term::Pointer(base) => Ok(Term::Pointer(copy_boxed(alloc, base)?)),
-        Term::Slice(element) => Ok(Term::Slice(copy_boxed(alloc, element)?)),
-        Term::Array(length, element) => Ok(Term::Array(*length, copy_boxed(alloc, element)?)),
-        Term::Map(key, element) => Ok(Term::Map(
-            copy_boxed(alloc, key)?,
-            copy_boxed(alloc, element)?,
-        )),
-        Term::Chan(direction, element) => {
-            Ok(Term::Chan(*direction, copy_boxed(alloc, element)?))
-        }
+        Term::Pointer(base) => Ok(Term::Pointer(base.share()?)),
+        Term::Slice(element) => Ok(Term::Slice(element.share()?)),
+        Term::Array(length, element) => Ok(Term::Array(*length, element.share()?)),
+        Term::Map(key, element) => Ok(Term::Map(key.share()?, element.share()?)),
+        Term::Chan(direction, element) => { Ok(Term::Chan(*direction, element.share()?)) }
         Term::Func(signature) => Ok(Term::Func(copy_signature(alloc, signature)?)),
         Term::Struct(fields) => Ok(Term::Struct(copy_fields(alloc, fields.items())?)),
         Term::Interface(methods) => Ok(Term::Interface(copy_methods(alloc, methods.items())?)),
     }
-}
-
-#[cycle(copy)]
-fn copy_boxed(alloc: Global, term: &Box<Term>) -> Result<Box<Term>, NoMemory>
-    ensures { IfOk result (λ copied. copied ≡ term.now) }
-{
-    Box::new(alloc, copy_term(alloc, term.value())?)
 }
 
 #[cycle(copy)]
