@@ -1,6 +1,7 @@
 //! A value with several owners, that a contract sees as the value.
 ghost use Rattle.std.specs.Prelude.{◌≡◌, IfOk};
 
+use crate::list::List;
 use crate::memory::NoMemory;
 use std::alloc::Global;
 use std::marker::Model;
@@ -54,5 +55,14 @@ impl<T: Drop> Shared<T> {
         Ok(Shared {
             inner: Arc::new(alloc, value)?,
         })
+    }
+}
+
+impl<T> Shared<List<T>> {
+    /// The items of the list.
+    pub fn items(&self) -> &[T]
+        ensures { result.now ≡ self.now }
+    {
+        self.value().items()
     }
 }

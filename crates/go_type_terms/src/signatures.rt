@@ -161,9 +161,9 @@ impl<'a, F: Fn(&Context<'_>, Global, usize, Part<'_>) -> Result<Answer, ExprErro
         let (parameters, loud) = self.parameters(signature.parameters.items())?;
         let (results, louder) = self.results(&signature.result)?;
         let signed = Signed {
-            params: parameters.terms,
+            params: Shared::new(self.alloc, parameters.terms)?,
             variadic: parameters.variadic,
-            results,
+            results: Shared::new(self.alloc, results)?,
         };
         Ok((signed, either(loud, louder)))
     }

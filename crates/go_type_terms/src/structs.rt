@@ -168,6 +168,6 @@ impl<'a, F: Fn(&Context<'_>, Global, usize, Part<'_>) -> Result<Answer, ExprErro
         ensures { Types (env_in self.now.context.now) (OfForm (env_in self.now.context.now) (Typ-F.Struct decls.now)) (fields_parts decls.now) result }
     {
         let (fields, loud) = self.fields(decls)?;
-        Ok((Term::Struct(fields), loud))
+        Ok((Term::Struct(Shared::new(self.alloc, fields)?), loud))
     }
 }

@@ -38,7 +38,10 @@ pub(crate) fn channel(alloc: Global) -> Result<Shared<Term>, NoMemory> {
 
 /// `interface{}`.
 pub(crate) fn any(alloc: Global) -> Result<Shared<Term>, NoMemory> {
-    Shared::new(alloc, Term::Interface(List::new(alloc)))
+    Shared::new(
+        alloc,
+        Term::Interface(Shared::new(alloc, List::new(alloc))?),
+    )
 }
 
 /// `func(int)`.
@@ -46,9 +49,9 @@ pub(crate) fn taking_int(alloc: Global) -> Result<Signature, NoMemory> {
     let mut params = List::new(alloc);
     params.push(int(alloc)?.value().copy(alloc)?)?;
     Ok(Signature {
-        params,
+        params: Shared::new(alloc, params)?,
         variadic: false,
-        results: List::new(alloc),
+        results: Shared::new(alloc, List::new(alloc))?,
     })
 }
 
@@ -59,7 +62,7 @@ fn with_method(alloc: Global) -> Result<Shared<Term>, NoMemory> {
         sel: exported(alloc, b"M")?,
         signature: taking_int(alloc)?,
     })?;
-    Shared::new(alloc, Term::Interface(methods))
+    Shared::new(alloc, Term::Interface(Shared::new(alloc, methods)?))
 }
 
 /// `map[int]*[3][]chan int`.
@@ -80,7 +83,7 @@ fn holding(alloc: Global, held: Shared<Term>) -> Result<Shared<Term>, NoMemory> 
         term: held.value().copy(alloc)?,
         tag: Text::of(alloc, b"tag")?,
     })?;
-    Shared::new(alloc, Term::Struct(fields))
+    Shared::new(alloc, Term::Struct(Shared::new(alloc, fields)?))
 }
 
 /// `struct { X int "tag" }`.

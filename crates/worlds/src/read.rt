@@ -174,9 +174,9 @@ impl Stack {
         let params = take(alloc, &mut self.terms, number(params)?)?;
         let results = take(alloc, &mut self.terms, number(results)?)?;
         Ok(Signature {
-            params,
+            params: Shared::new(alloc, params)?,
             variadic,
-            results,
+            results: Shared::new(alloc, results)?,
         })
     }
 
@@ -245,8 +245,14 @@ impl Stack {
     fn counted(&mut self, alloc: Global, kind: &str, parts: &str) -> Result<Term, Refusal> {
         match kind {
             "array" => Ok(Term::Array(number(parts)?, self.boxed(alloc)?)),
-            "struct" => Ok(Term::Struct(take(alloc, &mut self.fields, number(parts)?)?)),
-            "interface" => Ok(Term::Interface(take(alloc, &mut self.methods, number(parts)?)?)),
+            "struct" => {
+                let fields = take(alloc, &mut self.fields, number(parts)?)?;
+                Ok(Term::Struct(Shared::new(alloc, fields)?))
+            }
+            "interface" => {
+                let methods = take(alloc, &mut self.methods, number(parts)?)?;
+                Ok(Term::Interface(Shared::new(alloc, methods)?))
+            }
             "func" => Ok(Term::Func(self.signature(alloc, false, parts)?)),
             "variadic" => Ok(Term::Func(self.signature(alloc, true, parts)?)),
             _ => Err(Refusal::WrongLine),

@@ -36,9 +36,9 @@ pub enum Term {
     Map(Shared<Term>, Shared<Term>),
     Chan(Direction, Shared<Term>),
     Func(Signature),
-    Struct(List<Field>),
+    Struct(Shared<List<Field>>),
     /// All methods, those of embedded interfaces among them, ordered by selector.
-    Interface(List<Method>),
+    Interface(Shared<List<Method>>),
 }
 
 impl Term {
@@ -121,9 +121,9 @@ impl Drop for Method {
 /// of its arguments.
 #[cycle(term)]
 pub struct Signature {
-    pub params: List<Term>,
+    pub params: Shared<List<Term>>,
     pub variadic: bool,
-    pub results: List<Term>,
+    pub results: Shared<List<Term>>,
 }
 
 impl Drop for Signature {
