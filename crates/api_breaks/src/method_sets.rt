@@ -13,9 +13,9 @@ use crate::broken::Lost;
 use crate::interfaces::{counts, is_std_sel};
 use crate::pairs::{are_of_module, are_structs, is_interface, under};
 use api_correspond::pair::TypePair;
-use go_base::boxed::Box;
 use go_base::list::List;
 use go_base::memory::NoMemory;
+use go_base::shared::Shared;
 use go_model::types::names::Sel;
 use go_model::types::package::Defined;
 use go_model::types::term::{Method, Term};
@@ -132,7 +132,7 @@ fn pointer_to(alloc: Global, term: &Term) -> Result<Term, NoMemory>
     ensures { IfOk result (λ pointer. pointer ≡ pointer_to term.now) }
 {
     let copied = term.copy(alloc)?;
-    Ok(Term::Pointer(Box::new(alloc, copied)?))
+    Ok(Term::Pointer(Shared::new(alloc, copied)?))
 }
 
 fn push_pointers(

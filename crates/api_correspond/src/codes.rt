@@ -3,8 +3,8 @@ ghost use Rattle.std.specs.Prelude.{◌≡◌, ◌++◌, ◌∷◌, [], IfOk, On
 ghost use Rattle.api_correspond.specs.Codes.{code, code_of_text, code_of_list, code_of_number, code_of_flag, code_of_direction, code_of_basic, code_of_sel, code_of_field, code_of_method, code_of_signature, code_of_pair};
 
 use crate::pair::TypePair;
-use go_base::boxed::Box;
 use go_base::memory::NoMemory;
+use go_base::shared::Shared;
 use go_base::text::Text;
 use go_model::constants::value::Basic;
 use go_model::types::names::{Sel, TypeName};
@@ -159,7 +159,7 @@ fn put_term(out: &mut Vec<u8>, term: &Term) -> Result<(), NoMemory>
 }
 
 #[cycle(codes)]
-fn put_boxed(out: &mut Vec<u8>, term: &Box<Term>) -> Result<(), NoMemory>
+fn put_boxed(out: &mut Vec<u8>, term: &Shared<Term>) -> Result<(), NoMemory>
     ensures { OnOk result (out.new.items ≡ out.old.items ++ code term.now) }
 {
     put_term(out, term.value())

@@ -12,7 +12,6 @@ ghost use Rattle.api_correspond.specs.inner.Leading.{HoldDeepFields};
 ghost use Rattle.api_correspond.specs.inner.Spreading.{SeesTerm, Pushes, PushesOne, PushesEmbedded, IsSelOf, IsFieldSel, SpotAt};
 
 use crate::spot::Spot;
-use go_base::boxed::Box;
 use go_base::memory::NoMemory;
 use go_model::types::names::Sel;
 use go_model::types::package::Defined;

@@ -18,6 +18,7 @@ use crate::pair::TypePair;
 use go_base::boxed::Box;
 use go_base::list::List;
 use go_base::memory::NoMemory;
+use go_base::shared::Shared;
 use go_model::types::found::Found;
 use go_model::types::names::Sel;
 use go_model::types::package::Defined;
@@ -238,7 +239,7 @@ fn receiver<'a>(
     let copied = term.copy(alloc)?;
     match Lookup::new(world, error).under(term) {
         Term::Interface(_) => Ok(copied),
-        _ => Ok(Term::Pointer(Box::new(alloc, copied)?)),
+        _ => Ok(Term::Pointer(Shared::new(alloc, copied)?)),
     }
 }
 

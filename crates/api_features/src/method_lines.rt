@@ -13,8 +13,8 @@ use crate::subject::{Subject, add, begun};
 use crate::types::push_signature;
 use api_lines::lines::Lines;
 use api_lines::texts::Texts;
-use go_base::boxed::Box;
 use go_base::memory::NoMemory;
+use go_base::shared::Shared;
 use go_base::text::Text;
 use go_model::types::term::{Method, Term};
 use go_selectors::method_sets::method_set;
@@ -96,7 +96,7 @@ fn exported_names(alloc: Global, methods: &[Method]) -> Result<Texts, NoMemory>
 fn pointer_of(alloc: Global, term: &Term) -> Result<Term, NoMemory>
     ensures { IfOk result (λ pointer. pointer ≡ pointer_to term.now) }
 {
-    let base = Box::new(alloc, term.copy(alloc)?)?;
+    let base = Shared::new(alloc, term.copy(alloc)?)?;
     Ok(Term::Pointer(base))
 }
 

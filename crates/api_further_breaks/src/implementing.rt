@@ -15,9 +15,9 @@ use crate::sealed::methods_of;
 use api_breaks::broken::Lost;
 use api_correspond::by_sel::places_at;
 use api_correspond::pair::TypePair;
-use go_base::boxed::Box;
 use go_base::list::List;
 use go_base::memory::NoMemory;
+use go_base::shared::Shared;
 use go_model::types::names::Sel;
 use go_model::types::package::Defined;
 use go_model::types::term::{Method, Term};
@@ -232,7 +232,7 @@ fn pointer_to(alloc: Global, term: &Term) -> Result<Term, NoMemory>
     ensures { IfOk result (λ pointer. pointer ≡ pointer_to term.now) }
 {
     let copied = term.copy(alloc)?;
-    Ok(Term::Pointer(Box::new(alloc, copied)?))
+    Ok(Term::Pointer(Shared::new(alloc, copied)?))
 }
 
 fn push_pointers(

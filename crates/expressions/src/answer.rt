@@ -138,7 +138,7 @@ fn local(
 {
     let (name, rest) = split(words)?;
     let term = stack.one(alloc, rest)?;
-    declare_local(alloc, env, name, Seen::Local(term.into_value()))
+    declare_local(alloc, env, name, Seen::Local(term.value().copy(alloc)?))
 }
 
 fn local_const(

@@ -9,5 +9,6 @@ pub mod list;
 pub mod memory;
 pub mod operator;
 pub mod order;
+pub mod shared;
 pub mod steps;
 pub mod text;

@@ -1,5 +1,5 @@
 //! A list that a contract sees as its items alone, so that a tree of lists is plain data.
-ghost use Rattle.std.specs.Prelude.{◌≡◌, ◌++◌, ◌∷◌, [], OnOk, OnErr};
+ghost use Rattle.std.specs.Prelude.{◌≡◌, ◌++◌, ◌∷◌, [], IfOk, OnOk, OnErr};
 
 use crate::memory::NoMemory;
 use std::alloc::Global;
@@ -36,6 +36,15 @@ impl<T> List<T> {
         List {
             items: Vec::new(alloc),
         }
+    }
+
+    /// No item, with room for so many.
+    pub fn with_room(alloc: Global, room: usize) -> Result<List<T>, NoMemory>
+        ensures { IfOk result (λ list. list ≡ []) }
+    {
+        Ok(List {
+            items: Vec::with_capacity(alloc, room)?,
+        })
     }
 
     /// The items of this vector, which are moved.

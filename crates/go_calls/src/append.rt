@@ -10,8 +10,8 @@ ghost use Rattle.go_calls.specs.Builtins.{Appends, Copies};
 ghost use Rattle.go_calls.specs.inner.Appended.{IsBytesFrom, MayAppend, MayAppendAll, MayCopy};
 
 use crate::arguments::{sole, usable_all};
-use go_base::boxed::Box;
 use go_base::memory::NoMemory;
+use go_base::shared::Shared;
 use go_elements::strings::string_length;
 use go_model::constants::value::Basic;
 use go_model::types::term::Term;
@@ -27,7 +27,7 @@ use std::alloc::Global;
 fn slice_of(alloc: Global, element: &Term) -> Result<Term, NoMemory>
     ensures { IfOk result (λ slice. slice ≡ slice_of element.now) }
 {
-    Ok(Term::Slice(Box::new(alloc, element.copy(alloc)?)?))
+    Ok(Term::Slice(Shared::new(alloc, element.copy(alloc)?)?))
 }
 
 fn is_byte(element: &Term) -> bool

@@ -16,6 +16,7 @@ use crate::lengths::measure;
 use crate::makes::{make, new};
 use go_base::list::List;
 use go_base::memory::NoMemory;
+use go_base::shared::Shared;
 use go_model::constants::value::Value;
 use go_model::types::package::ConstTerm;
 use go_model::types::term::{Direction, Term};
@@ -68,10 +69,10 @@ fn delete(
     }
 }
 
-fn any(alloc: Global) -> Term
-    ensures { result ≡ any_term }
+fn any(alloc: Global) -> Result<Term, NoMemory>
+    ensures { IfOk result (λ term. term ≡ any_term) }
 {
-    Term::Interface(List::new(alloc))
+    Ok(Term::Interface(Shared::new(alloc, List::new(alloc))?))
 }
 
 fn panic(
@@ -81,7 +82,7 @@ fn panic(
 ) -> Result<Option<Operand>, NoMemory>
     ensures { IfOk result (Gives (Panics (env_of context.now.env.now) operand.now)) }
 {
-    let any = any(alloc);
+    let any = any(alloc)?;
     let may = is_usable(context, alloc, operand, &any)?;
     Ok(nothing_where(may))
 }
@@ -252,13 +253,17 @@ fn call_print(context: &Context<'_>, operands: &[Operand], dots: bool) -> Option
     print(context, operands)
 }
 
-fn call_recover(alloc: Global, operands: &[Operand], dots: bool) -> Option<Operand>
-    ensures { Gives (OfNone (λ r. r ≡ plain any_term) operands.now dots) result }
+fn call_recover(
+    alloc: Global,
+    operands: &[Operand],
+    dots: bool,
+) -> Result<Option<Operand>, NoMemory>
+    ensures { IfOk result (Gives (OfNone (λ r. r ≡ plain any_term) operands.now dots)) }
 {
     if is_none(operands, dots) {
-        Some(plain(any(alloc)))
+        Ok(Some(plain(any(alloc)?)))
     } else {
-        None
+        Ok(None)
     }
 }
 
@@ -288,7 +293,7 @@ pub fn call_builtin(
         Predeclared::Panic => call_panic(context, alloc, operands, dots),
         Predeclared::Print => Ok(call_print(context, operands, dots)),
         Predeclared::Println => Ok(call_print(context, operands, dots)),
-        Predeclared::Recover => Ok(call_recover(alloc, operands, dots)),
+        Predeclared::Recover => call_recover(alloc, operands, dots),
         _ => Ok(None),
     }
 }

@@ -12,6 +12,7 @@ ghost use Rattle.go_elements.specs.inner.Selected.{SelectsFunction, SelectsIn, S
 use crate::elements::reached;
 use go_base::list::List;
 use go_base::memory::NoMemory;
+use go_base::shared::Shared;
 use go_model::types::found::{FieldFound, Found};
 use go_model::types::names::Sel;
 use go_model::types::term::{Signature, Term};
@@ -26,16 +27,6 @@ fn is_blank(name: &[u8]) -> bool
     ensures { result ≡ is_blank name.now }
 {
     name == b"_".as_slice()
-}
-
-fn copy_terms(alloc: Global, terms: &[Term]) -> Result<List<Term>, NoMemory>
-    ensures { IfOk result (λ copied. copied ≡ terms.now) }
-{
-    let mut copied = List::new(alloc);
-    for term in terms {
-        copied.push(term.copy(alloc)?)?;
-    }
-    Ok(copied)
 }
 
 // A type, and others after it.
@@ -55,11 +46,10 @@ fn with_receiver(alloc: Global, term: &Term, signature: &Signature) -> Result<Si
     ensures { IfOk result (λ received. received ≡ with_receiver term.now signature.now) }
 {
     let params = before(alloc, term, signature.params.items())?;
-    let results = copy_terms(alloc, signature.results.items())?;
     Ok(Signature {
-        params,
+        params: Shared::new(alloc, params)?,
         variadic: signature.variadic,
-        results,
+        results: signature.results.share()?,
     })
 }
 

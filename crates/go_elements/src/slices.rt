@@ -12,8 +12,8 @@ ghost use Rattle.go_elements.specs.inner.Sliced.{IsUntypedText, SlicesAt, Slices
 
 use crate::indices::{index_of, optional_index};
 use crate::strings::string_length;
-use go_base::boxed::Box;
 use go_base::memory::NoMemory;
+use go_base::shared::Shared;
 use go_model::constants::value::{Basic, Value};
 use go_model::types::package::ConstTerm;
 use go_model::types::term::Term;
@@ -27,7 +27,7 @@ use std::alloc::Global;
 fn slice_of(alloc: Global, element: &Term) -> Result<Term, NoMemory>
     ensures { IfOk result (λ slice. slice ≡ slice_of element.now) }
 {
-    Ok(Term::Slice(Box::new(alloc, element.copy(alloc)?)?))
+    Ok(Term::Slice(Shared::new(alloc, element.copy(alloc)?)?))
 }
 
 // The length of a constant's text, where it has no type.

@@ -7,6 +7,7 @@ ghost use Rattle.go_operations.specs.inner.Predeclared.{value_operand};
 use crate::constants::untyped;
 use go_base::list::List;
 use go_base::memory::NoMemory;
+use go_base::shared::Shared;
 use go_base::text::Text;
 use go_model::constants::value::{Basic, Untyped, Value};
 use go_model::types::names::TypeName;
@@ -21,7 +22,10 @@ fn predeclared_type(alloc: Global, name: Predeclared) -> Result<Option<Term>, No
     ensures { IfOk result (λ term. term ≡ predeclared_type name) }
 {
     let basic = match name {
-        Predeclared::Any => return Ok(Some(Term::Interface(List::new(alloc)))),
+        Predeclared::Any => {
+            let methods = Shared::new(alloc, List::new(alloc))?;
+            return Ok(Some(Term::Interface(methods)));
+        }
         Predeclared::Error => {
             return Ok(Some(Term::Named(TypeName {
                 path: Text::of(alloc, b"")?,

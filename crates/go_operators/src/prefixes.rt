@@ -15,9 +15,9 @@ use crate::operands::{
     computed_where, constant_like, plain, plain_where, type_name, variable_like,
 };
 use crate::values::{constant_of, is_constant, is_variable, kind_of, term_of, type_in, type_of};
-use go_base::boxed::Box;
 use go_base::memory::NoMemory;
 use go_base::operator::PrefixOperator;
+use go_base::shared::Shared;
 use go_const::operation::unary;
 use go_model::constants::value::{UnaryOp, Value};
 use go_model::types::package::ConstTerm;
@@ -89,7 +89,7 @@ fn change(
 pub fn pointer_to(alloc: Global, term: &Term) -> Result<Term, NoMemory>
     ensures { IfOk result (λ pointer. pointer ≡ pointer_to term.now) }
 {
-    Ok(Term::Pointer(Box::new(alloc, term.copy(alloc)?)?))
+    Ok(Term::Pointer(Shared::new(alloc, term.copy(alloc)?)?))
 }
 
 fn dereference(

@@ -1,7 +1,7 @@
 //! Type identity.
 ghost use Rattle.std.specs.Prelude.{◌≡◌, ◌↔◌, IsTrue};
 
-use go_base::boxed::Box;
+use go_base::shared::Shared;
 use go_base::text::Text;
 use go_model::types::names::{Sel, TypeName};
 use go_model::types::term::{Field, Method, Signature, Term};
@@ -47,7 +47,7 @@ pub fn identical(left: &Term, right: &Term) -> bool
 }
 
 #[cycle(identical)]
-fn same_boxed(left: &Box<Term>, right: &Box<Term>) -> bool
+fn same_boxed(left: &Shared<Term>, right: &Shared<Term>) -> bool
     ensures { IsTrue result ↔ (left.now ≡ right.now) }
 {
     identical(left.value(), right.value())

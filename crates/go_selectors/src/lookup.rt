@@ -5,9 +5,9 @@ ghost use Rattle.go_model.specs.types.Terms.{is_error, error_type};
 ghost use Rattle.go_model.specs.types.Underlying.{entry, under};
 ghost use Rattle.go_model.specs.declared.types.term.Term.{out-Term};
 
-use go_base::boxed::Box;
 use go_base::list::List;
 use go_base::memory::NoMemory;
+use go_base::shared::Shared;
 use go_base::text::Text;
 use go_model::constants::value::Basic;
 use go_model::types::names::{Sel, TypeName};
@@ -35,14 +35,14 @@ pub fn error_type(alloc: Global) -> Result<Defined, NoMemory>
             package: Text::of(alloc, b"")?,
         },
         signature: Signature {
-            params: List::new(alloc),
+            params: Shared::new(alloc, List::new(alloc))?,
             variadic: false,
-            results,
+            results: Shared::new(alloc, results)?,
         },
     })?;
     Ok(Defined {
         name: Text::of(alloc, b"error")?,
-        underlying: Term::Interface(methods),
+        underlying: Term::Interface(Shared::new(alloc, methods)?),
         methods: List::new(alloc),
     })
 }

@@ -21,6 +21,7 @@ use crate::type_names::type_named;
 use crate::typing::Typing;
 use go_base::list::List;
 use go_base::memory::NoMemory;
+use go_base::shared::Shared;
 use go_model::types::term::{Method, Signature as Signed, Term};
 use go_rules::env::Env;
 use go_syntax::name::{Name, QualifiedName};
@@ -93,7 +94,7 @@ fn interface_of(alloc: Global, methods: &[Method]) -> Result<Term, ExprError>
     ensures { Tells (IsInterfaceOf methods.now) result }
 {
     match ordered(alloc, methods)? {
-        Some(each) => Ok(Term::Interface(each)),
+        Some(each) => Ok(Term::Interface(Shared::new(alloc, each)?)),
         None => Err(ExprError::Untyped),
     }
 }

@@ -16,9 +16,9 @@ use crate::lists::push_all;
 use crate::loud::either;
 use crate::part::{Answer, Part};
 use crate::typing::Typing;
-use go_base::boxed::Box;
 use go_base::list::List;
 use go_base::memory::NoMemory;
+use go_base::shared::Shared;
 use go_model::types::term::{Signature as Signed, Term};
 use go_syntax::name::Name;
 use go_syntax::types::{FuncResult, ParameterDecl, Signature, Type};
@@ -58,7 +58,7 @@ fn variadic_terms(alloc: Global, term: Term) -> Result<List<Term>, NoMemory>
     ensures { IfOk result (λ ts. ts ≡ slice_of term ∷ []) }
 {
     let mut terms = List::new(alloc);
-    terms.push(Term::Slice(Box::new(alloc, term)?))?;
+    terms.push(Term::Slice(Shared::new(alloc, term)?))?;
     Ok(terms)
 }
 
@@ -161,9 +161,9 @@ impl<'a, F: Fn(&Context<'_>, Global, usize, Part<'_>) -> Result<Answer, ExprErro
         let (parameters, loud) = self.parameters(signature.parameters.items())?;
         let (results, louder) = self.results(&signature.result)?;
         let signed = Signed {
-            params: parameters.terms,
+            params: Shared::new(self.alloc, parameters.terms)?,
             variadic: parameters.variadic,
-            results,
+            results: Shared::new(self.alloc, results)?,
         };
         Ok((signed, either(loud, louder)))
     }

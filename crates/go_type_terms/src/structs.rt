@@ -14,9 +14,9 @@ use crate::loud::either;
 use crate::part::{Answer, Part};
 use crate::type_names::type_named;
 use crate::typing::Typing;
-use go_base::boxed::Box;
 use go_base::list::List;
 use go_base::memory::NoMemory;
+use go_base::shared::Shared;
 use go_base::text::Text;
 use go_model::types::term::{Field, Term};
 use go_rules::env::Env;
@@ -40,7 +40,7 @@ fn starred(alloc: Global, star: bool, term: Term) -> Result<Term, NoMemory>
     ensures { IfOk result (λ t. t ≡ starred star term) }
 {
     if star {
-        Ok(Term::Pointer(Box::new(alloc, term)?))
+        Ok(Term::Pointer(Shared::new(alloc, term)?))
     } else {
         Ok(term)
     }
@@ -168,6 +168,6 @@ impl<'a, F: Fn(&Context<'_>, Global, usize, Part<'_>) -> Result<Answer, ExprErro
         ensures { Types (env_in self.now.context.now) (OfForm (env_in self.now.context.now) (Typ-F.Struct decls.now)) (fields_parts decls.now) result }
     {
         let (fields, loud) = self.fields(decls)?;
-        Ok((Term::Struct(fields), loud))
+        Ok((Term::Struct(Shared::new(self.alloc, fields)?), loud))
     }
 }

@@ -12,7 +12,7 @@ use crate::loud::either;
 use crate::part::{Answer, Part};
 use crate::type_names::type_named;
 use crate::typing::Typing;
-use go_base::boxed::Box;
+use go_base::shared::Shared;
 use go_model::types::bounds::is_within_bounds;
 use go_model::types::term::{Direction, Term};
 use go_syntax::expression::Expr;
@@ -24,12 +24,12 @@ use std::alloc::Global;
 impl<'a, F: Fn(&Context<'_>, Global, usize, Part<'_>) -> Result<Answer, ExprError>> Typing<'a, F> {
     /// The type that a type form below stands for, in a box, and the form's flag; `Untyped` exactly where it
     /// stands for none.
-    pub fn boxed_below(&self, form: &Type) -> Result<(Box<Term>, bool), ExprError>
+    pub fn boxed_below(&self, form: &Type) -> Result<(Shared<Term>, bool), ExprError>
         requires { TypesBelow self.now.context.now self.now.height (F.pre self.now.below) (F.post self.now.below) }
         ensures { Types (env_in self.now.context.now) (OfType (env_in self.now.context.now) form.now) (type_node form.now ∷ []) result }
     {
         let (term, loud) = self.type_below(form)?;
-        Ok((Box::new(self.alloc, term)?, loud))
+        Ok((Shared::new(self.alloc, term)?, loud))
     }
 
     fn named(&self, name: &QualifiedName) -> Result<(Term, bool), ExprError>

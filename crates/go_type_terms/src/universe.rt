@@ -4,6 +4,7 @@ ghost use Rattle.go_rules.specs.Universe.{predeclared_type};
 
 use go_base::list::List;
 use go_base::memory::NoMemory;
+use go_base::shared::Shared;
 use go_base::text::Text;
 use go_model::constants::value::Basic;
 use go_model::types::names::TypeName;
@@ -16,7 +17,10 @@ pub(crate) fn predeclared_type(alloc: Global, name: Predeclared) -> Result<Optio
     ensures { IfOk result (λ term. term ≡ predeclared_type name) }
 {
     let basic = match name {
-        Predeclared::Any => return Ok(Some(Term::Interface(List::new(alloc)))),
+        Predeclared::Any => {
+            let methods = Shared::new(alloc, List::new(alloc))?;
+            return Ok(Some(Term::Interface(methods)));
+        }
         Predeclared::Error => {
             return Ok(Some(Term::Named(TypeName {
                 path: Text::of(alloc, b"")?,

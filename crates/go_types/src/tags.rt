@@ -2,9 +2,9 @@
 ghost use Rattle.std.specs.Prelude.{◌≡◌, map, IfOk};
 ghost use Rattle.go_model.specs.types.Tags.{untagged, untagged_field, untagged_method, untagged_signature};
 
-use go_base::boxed::Box;
 use go_base::list::List;
 use go_base::memory::NoMemory;
+use go_base::shared::Shared;
 use go_base::text::Text;
 use go_model::types::term::{Field, Method, Signature, Term};
 use std::alloc::Global;
@@ -23,16 +23,22 @@ pub(crate) fn untagged(alloc: Global, term: &Term) -> Result<Term, NoMemory>
         Term::Map(key, element) => Ok(Term::Map(boxed(alloc, key)?, boxed(alloc, element)?)),
         Term::Chan(direction, element) => Ok(Term::Chan(*direction, boxed(alloc, element)?)),
         Term::Func(signature) => Ok(Term::Func(of_signature(alloc, signature)?)),
-        Term::Struct(fields) => Ok(Term::Struct(of_fields(alloc, fields.items())?)),
-        Term::Interface(methods) => Ok(Term::Interface(of_methods(alloc, methods.items())?)),
+        Term::Struct(fields) => Ok(Term::Struct(Shared::new(
+            alloc,
+            of_fields(alloc, fields.items())?,
+        )?)),
+        Term::Interface(methods) => Ok(Term::Interface(Shared::new(
+            alloc,
+            of_methods(alloc, methods.items())?,
+        )?)),
     }
 }
 
 #[cycle(untagged)]
-fn boxed(alloc: Global, term: &Box<Term>) -> Result<Box<Term>, NoMemory>
+fn boxed(alloc: Global, term: &Shared<Term>) -> Result<Shared<Term>, NoMemory>
     ensures { IfOk result (λ bare. bare ≡ untagged term.now) }
 {
-    Box::new(alloc, untagged(alloc, term.value())?)
+    Shared::new(alloc, untagged(alloc, term.value())?)
 }
 
 #[cycle(untagged)]
@@ -40,9 +46,9 @@ fn of_signature(alloc: Global, signature: &Signature) -> Result<Signature, NoMem
     ensures { IfOk result (λ bare. bare ≡ untagged_signature signature.now) }
 {
     Ok(Signature {
-        params: of_terms(alloc, signature.params.items())?,
+        params: Shared::new(alloc, of_terms(alloc, signature.params.items())?)?,
         variadic: signature.variadic,
-        results: of_terms(alloc, signature.results.items())?,
+        results: Shared::new(alloc, of_terms(alloc, signature.results.items())?)?,
     })
 }
 
@@ -50,7 +56,7 @@ fn of_signature(alloc: Global, signature: &Signature) -> Result<Signature, NoMem
 fn of_terms(alloc: Global, terms: &[Term]) -> Result<List<Term>, NoMemory>
     ensures { IfOk result (λ bare. bare ≡ map untagged terms.now) }
 {
-    let mut bare = List::new(alloc);
+    let mut bare = List::with_room(alloc, terms.len())?;
     for term in terms {
         bare.push(untagged(alloc, term)?)?;
     }
@@ -61,7 +67,7 @@ fn of_terms(alloc: Global, terms: &[Term]) -> Result<List<Term>, NoMemory>
 fn of_fields(alloc: Global, fields: &[Field]) -> Result<List<Field>, NoMemory>
     ensures { IfOk result (λ bare. bare ≡ map untagged_field fields.now) }
 {
-    let mut bare = List::new(alloc);
+    let mut bare = List::with_room(alloc, fields.len())?;
     for field in fields {
         bare.push(Field {
             sel: field.sel.copy(alloc)?,
@@ -77,7 +83,7 @@ fn of_fields(alloc: Global, fields: &[Field]) -> Result<List<Field>, NoMemory>
 fn of_methods(alloc: Global, methods: &[Method]) -> Result<List<Method>, NoMemory>
     ensures { IfOk result (λ bare. bare ≡ map untagged_method methods.now) }
 {
-    let mut bare = List::new(alloc);
+    let mut bare = List::with_room(alloc, methods.len())?;
     for method in methods {
         bare.push(Method {
             sel: method.sel.copy(alloc)?,

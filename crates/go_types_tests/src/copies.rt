@@ -19,7 +19,7 @@ fn add(
 }
 
 fn add_constants(alloc: Global, objects: &mut List<Object>) -> Result<(), NoMemory> {
-    let term = of_every_form(alloc)?.into_value();
+    let term = of_every_form(alloc)?.value().copy(alloc)?;
     let number = Entity::Const(ConstTerm::OfTerm(term), Value::Int(1));
     add(alloc, objects, b"A", number)?;
     let text = Value::Str(Text::of(alloc, b"text")?);
@@ -30,11 +30,11 @@ fn add_constants(alloc: Global, objects: &mut List<Object>) -> Result<(), NoMemo
 }
 
 fn add_others(alloc: Global, objects: &mut List<Object>) -> Result<(), NoMemory> {
-    let variable = Entity::Var(of_every_form(alloc)?.into_value());
+    let variable = Entity::Var(of_every_form(alloc)?.value().copy(alloc)?);
     add(alloc, objects, b"D", variable)?;
     let function = Entity::Function(taking_int(alloc)?);
     add(alloc, objects, b"E", function)?;
-    let alias = Entity::TypeOf(of_every_form(alloc)?.into_value());
+    let alias = Entity::TypeOf(of_every_form(alloc)?.value().copy(alloc)?);
     add(alloc, objects, b"F", alias)
 }
 
@@ -47,7 +47,7 @@ fn with_method(alloc: Global) -> Result<Defined, NoMemory> {
     })?;
     Ok(Defined {
         name: Text::of(alloc, b"G")?,
-        underlying: of_every_form(alloc)?.into_value(),
+        underlying: of_every_form(alloc)?.value().copy(alloc)?,
         methods,
     })
 }

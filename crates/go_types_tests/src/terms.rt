@@ -1,7 +1,7 @@
 //! Types, each in a box, where giving it up is a call.
-use go_base::boxed::Box;
 use go_base::list::List;
 use go_base::memory::NoMemory;
+use go_base::shared::Shared;
 use go_base::text::Text;
 use go_model::constants::value::Basic;
 use go_model::types::names::{Sel, TypeName};
@@ -17,82 +17,85 @@ pub(crate) fn exported(alloc: Global, name: &[u8]) -> Result<Sel, NoMemory> {
 }
 
 /// `int`.
-pub(crate) fn int(alloc: Global) -> Result<Box<Term>, NoMemory> {
-    Box::new(alloc, Term::Plain(Basic::Int))
+pub(crate) fn int(alloc: Global) -> Result<Shared<Term>, NoMemory> {
+    Shared::new(alloc, Term::Plain(Basic::Int))
 }
 
 /// The type of this name of `m/p`.
-pub(crate) fn named(alloc: Global, name: &[u8]) -> Result<Box<Term>, NoMemory> {
+pub(crate) fn named(alloc: Global, name: &[u8]) -> Result<Shared<Term>, NoMemory> {
     let name = TypeName {
         path: Text::of(alloc, b"m/p")?,
         name: Text::of(alloc, name)?,
     };
-    Box::new(alloc, Term::Named(name))
+    Shared::new(alloc, Term::Named(name))
 }
 
 /// `chan int`.
-pub(crate) fn channel(alloc: Global) -> Result<Box<Term>, NoMemory> {
+pub(crate) fn channel(alloc: Global) -> Result<Shared<Term>, NoMemory> {
     let element = int(alloc)?;
-    Box::new(alloc, Term::Chan(Direction::Both, element))
+    Shared::new(alloc, Term::Chan(Direction::Both, element))
 }
 
 /// `interface{}`.
-pub(crate) fn any(alloc: Global) -> Result<Box<Term>, NoMemory> {
-    Box::new(alloc, Term::Interface(List::new(alloc)))
+pub(crate) fn any(alloc: Global) -> Result<Shared<Term>, NoMemory> {
+    Shared::new(
+        alloc,
+        Term::Interface(Shared::new(alloc, List::new(alloc))?),
+    )
 }
 
 /// `func(int)`.
 pub(crate) fn taking_int(alloc: Global) -> Result<Signature, NoMemory> {
     let mut params = List::new(alloc);
-    params.push(int(alloc)?.into_value())?;
+    params.push(int(alloc)?.value().copy(alloc)?)?;
     Ok(Signature {
-        params,
+        params: Shared::new(alloc, params)?,
         variadic: false,
-        results: List::new(alloc),
+        results: Shared::new(alloc, List::new(alloc))?,
     })
 }
 
 /// `interface{ M(int) }`.
-fn with_method(alloc: Global) -> Result<Box<Term>, NoMemory> {
+fn with_method(alloc: Global) -> Result<Shared<Term>, NoMemory> {
     let mut methods = List::new(alloc);
     methods.push(Method {
         sel: exported(alloc, b"M")?,
         signature: taking_int(alloc)?,
     })?;
-    Box::new(alloc, Term::Interface(methods))
+    Shared::new(alloc, Term::Interface(Shared::new(alloc, methods)?))
 }
 
 /// `map[int]*[3][]chan int`.
-fn nested(alloc: Global) -> Result<Box<Term>, NoMemory> {
-    let slice = Box::new(alloc, Term::Slice(channel(alloc)?))?;
-    let array = Box::new(alloc, Term::Array(3, slice))?;
-    let pointer = Box::new(alloc, Term::Pointer(array))?;
+fn nested(alloc: Global) -> Result<Shared<Term>, NoMemory> {
+    let slice = Shared::new(alloc, Term::Slice(channel(alloc)?))?;
+    let array = Shared::new(alloc, Term::Array(3, slice))?;
+    let pointer = Shared::new(alloc, Term::Pointer(array))?;
     let key = int(alloc)?;
-    Box::new(alloc, Term::Map(key, pointer))
+    Shared::new(alloc, Term::Map(key, pointer))
 }
 
 /// A struct type with one field `X` of this type.
-fn holding(alloc: Global, held: Box<Term>) -> Result<Box<Term>, NoMemory> {
+fn holding(alloc: Global, held: Shared<Term>) -> Result<Shared<Term>, NoMemory> {
     let mut fields = List::new(alloc);
     fields.push(Field {
         sel: exported(alloc, b"X")?,
         embedded: false,
-        term: held.into_value(),
+        term: held.value().copy(alloc)?,
         tag: Text::of(alloc, b"tag")?,
     })?;
-    Box::new(alloc, Term::Struct(fields))
+    Shared::new(alloc, Term::Struct(Shared::new(alloc, fields)?))
 }
 
 /// `struct { X int "tag" }`.
-pub(crate) fn with_field(alloc: Global) -> Result<Box<Term>, NoMemory> {
+pub(crate) fn with_field(alloc: Global) -> Result<Shared<Term>, NoMemory> {
     holding(alloc, int(alloc)?)
 }
 
 /// A type in which every form of a type stands.
-pub(crate) fn of_every_form(alloc: Global) -> Result<Box<Term>, NoMemory> {
-    let func = Box::new(alloc, Term::Func(taking_int(alloc)?))?;
-    let values = Box::new(alloc, Term::Map(named(alloc, b"D")?, func))?;
-    let methods = Box::new(alloc, Term::Map(values, with_method(alloc)?))?;
-    let whole = Box::new(alloc, Term::Map(nested(alloc)?, methods))?;
+pub(crate) fn of_every_form(alloc: Global) -> Result<Shared<Term>, NoMemory> {
+    let func = Shared::new(alloc, Term::Func(taking_int(alloc)?))?;
+    let values = Shared::new(alloc, Term::Map(named(alloc, b"D")?, func))?;
+    let methods = Shared::new(alloc, Term::Map(values, with_method(alloc)?))?;
+    let whole = Shared::new(alloc, Term::Map(nested(alloc)?, methods))?;
     holding(alloc, whole)
 }

@@ -5,9 +5,9 @@ ghost use Rattle.go_model.specs.worlds.Worlds.{IsWorld, type_object};
 ghost use Rattle.go_types_tests.specs.Examples.{channels, package_of, two_packages, type_of, world_of};
 
 use crate::terms::{any, channel, exported, named, with_field};
-use go_base::boxed::Box;
 use go_base::list::List;
 use go_base::memory::NoMemory;
+use go_base::shared::Shared;
 use go_base::text::Text;
 use go_model::constants::value::Basic;
 use go_model::types::found::Found;
@@ -85,7 +85,7 @@ fn world_of(alloc: Global, package: Package) -> Result<World, NoMemory>
 fn channels(alloc: Global) -> Result<Package, NoMemory>
     ensures { IfOk result (λ made. made ≡ channels) }
 {
-    let element = Box::new(alloc, Term::Plain(Basic::Int))?;
+    let element = Shared::new(alloc, Term::Plain(Basic::Int))?;
     let channel = Term::Chan(Direction::ReceiveOnly, element);
     let types = one(alloc, plain_type(alloc, b"D", channel)?)?;
     package_of(alloc, b"m/p", types)

@@ -11,8 +11,8 @@ ghost use Rattle.go_usability.specs.inner.Alternatives.{are_pointers, ConvertsBe
 use crate::assignability::{assignable, is_interface};
 use crate::context::Context;
 use crate::table;
-use go_base::boxed::Box;
 use go_base::memory::NoMemory;
+use go_base::shared::Shared;
 use go_model::types::term::Term;
 use std::alloc::Global;
 
@@ -40,7 +40,7 @@ fn bases_entered(context: &Context<'_>, from: &Term, to: &Term) -> bool
 fn pointer_to(alloc: Global, base: &Term) -> Result<Term, NoMemory>
     ensures { IfOk result (λ term. term ≡ pointer_to base.now) }
 {
-    Ok(Term::Pointer(Box::new(alloc, base.copy(alloc)?)?))
+    Ok(Term::Pointer(Shared::new(alloc, base.copy(alloc)?)?))
 }
 
 // Whether a value of one type is convertible to another, whatever each is borrowed from.

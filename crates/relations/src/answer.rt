@@ -1,6 +1,6 @@
 //! The answer to a line.
 use crate::table::Table;
-use go_base::boxed::Box;
+use go_base::shared::Shared;
 use go_model::types::found::{FieldFound, Found, MethodFound};
 use go_model::types::names::TypeName;
 use go_model::types::term::Term;
@@ -17,7 +17,11 @@ use worlds::read::{Stack, sel, split, type_name};
 use worlds::refusal::Refusal;
 use worlds::show::{push_name, push_number, push_set, push_signature, push_term};
 
-fn two(alloc: Global, stack: &mut Stack, text: &str) -> Result<(Box<Term>, Box<Term>), Refusal> {
+fn two(
+    alloc: Global,
+    stack: &mut Stack,
+    text: &str,
+) -> Result<(Shared<Term>, Shared<Term>), Refusal> {
     stack.read_all(alloc, text)?;
     let first = stack.boxed(alloc)?;
     let second = stack.boxed(alloc)?;

@@ -11,7 +11,7 @@ ghost use Rattle.go_model.specs.worlds.Worlds.{IsOwned, IsWorld, bars_methods, n
 ghost use Rattle.worlds.specs.inner.Admission.{DeclaredKept, DefinedKept, FieldKept, IsAdmitted, IsShaped, IsThere, MethodKept, ObjectKept, SignatureKept, TermKept, TypesKept, joint_paths};
 
 use crate::order::{are_distinct, are_ordered, ascend, names_none};
-use go_base::boxed::Box;
+use go_base::shared::Shared;
 use go_base::text::Text;
 use go_model::types::names::{Sel, TypeName};
 use go_model::types::package::{ConstTerm, Defined, Entity, MethodOf, Object, Package};
@@ -138,7 +138,7 @@ impl Admission<'_> {
     }
 
     #[cycle(kept)]
-    fn boxed(&self, term: &Box<Term>) -> bool
+    fn boxed(&self, term: &Shared<Term>) -> bool
         ensures { result ≡ true → TermKept self.now.world.now self.now.added.now term.now }
     {
         self.term(term.value())

@@ -33,7 +33,7 @@ pub fn const_term(alloc: Global, stack: &mut Stack, words: &str) -> Result<Const
         return Ok(ConstTerm::OfKind(kind));
     }
     let term = stack.one(alloc, words)?;
-    Ok(ConstTerm::OfTerm(term.into_value()))
+    Ok(ConstTerm::OfTerm(term.value().copy(alloc)?))
 }
 
 /// The value that a word is.

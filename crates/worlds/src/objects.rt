@@ -16,7 +16,7 @@ fn constant(alloc: Global, stack: &mut Stack, words: &str) -> Result<Entity, Ref
 
 fn function(alloc: Global, stack: &mut Stack, words: &str) -> Result<Entity, Refusal> {
     let term = stack.one(alloc, words)?;
-    match term.into_value().into_signature() {
+    match term.value().copy(alloc)?.into_signature() {
         Some(signature) => Ok(Entity::Function(signature)),
         None => Err(Refusal::WrongLine),
     }
@@ -31,9 +31,9 @@ pub fn entity(
 ) -> Result<Entity, Refusal> {
     match kind {
         "const" => constant(alloc, stack, words),
-        "var" => Ok(Entity::Var(stack.one(alloc, words)?.into_value())),
+        "var" => Ok(Entity::Var(stack.one(alloc, words)?.value().copy(alloc)?)),
         "func" => function(alloc, stack, words),
-        "alias" => Ok(Entity::TypeOf(stack.one(alloc, words)?.into_value())),
+        "alias" => Ok(Entity::TypeOf(stack.one(alloc, words)?.value().copy(alloc)?)),
         _ => Err(Refusal::WrongLine),
     }
 }
@@ -61,7 +61,7 @@ pub fn defined(
     stack.end()?;
     Ok(Defined {
         name: text(alloc, name)?,
-        underlying: underlying.into_value(),
+        underlying: underlying.value().copy(alloc)?,
         methods,
     })
 }

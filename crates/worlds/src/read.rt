@@ -1,8 +1,8 @@
 //! Terms in prefix notation, read from the last word to the first.
 use crate::basic::basic;
 use crate::refusal::Refusal;
-use go_base::boxed::Box;
 use go_base::list::List;
+use go_base::shared::Shared;
 use go_base::text::Text;
 use go_model::types::names::{Sel, TypeName};
 use go_model::types::package::MethodOf;
@@ -122,13 +122,13 @@ impl Stack {
     }
 
     /// The leftmost term, on the heap. A term by value is given up variant by variant.
-    pub fn boxed(&mut self, alloc: Global) -> Result<Box<Term>, Refusal> {
+    pub fn boxed(&mut self, alloc: Global) -> Result<Shared<Term>, Refusal> {
         let term = self.term()?;
-        Ok(Box::new(alloc, term)?)
+        Ok(Shared::new(alloc, term)?)
     }
 
     /// The one term that the words of a text are, on the heap.
-    pub fn one(&mut self, alloc: Global, words: &str) -> Result<Box<Term>, Refusal> {
+    pub fn one(&mut self, alloc: Global, words: &str) -> Result<Shared<Term>, Refusal> {
         self.read_all(alloc, words)?;
         let term = self.boxed(alloc)?;
         self.end()?;
@@ -174,9 +174,9 @@ impl Stack {
         let params = take(alloc, &mut self.terms, number(params)?)?;
         let results = take(alloc, &mut self.terms, number(results)?)?;
         Ok(Signature {
-            params,
+            params: Shared::new(alloc, params)?,
             variadic,
-            results,
+            results: Shared::new(alloc, results)?,
         })
     }
 
@@ -245,8 +245,14 @@ impl Stack {
     fn counted(&mut self, alloc: Global, kind: &str, parts: &str) -> Result<Term, Refusal> {
         match kind {
             "array" => Ok(Term::Array(number(parts)?, self.boxed(alloc)?)),
-            "struct" => Ok(Term::Struct(take(alloc, &mut self.fields, number(parts)?)?)),
-            "interface" => Ok(Term::Interface(take(alloc, &mut self.methods, number(parts)?)?)),
+            "struct" => {
+                let fields = take(alloc, &mut self.fields, number(parts)?)?;
+                Ok(Term::Struct(Shared::new(alloc, fields)?))
+            }
+            "interface" => {
+                let methods = take(alloc, &mut self.methods, number(parts)?)?;
+                Ok(Term::Interface(Shared::new(alloc, methods)?))
+            }
             "func" => Ok(Term::Func(self.signature(alloc, false, parts)?)),
             "variadic" => Ok(Term::Func(self.signature(alloc, true, parts)?)),
             _ => Err(Refusal::WrongLine),

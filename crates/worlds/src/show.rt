@@ -1,6 +1,6 @@
 //! Terms and methods, written as they are read.
 use crate::basic;
-use go_base::boxed::Box;
+use go_base::shared::Shared;
 use go_model::types::names::{Sel, TypeName};
 use go_model::types::term::{Direction, Field, Method, Signature, Term};
 use std::alloc::{AllocError, Global};
@@ -82,7 +82,7 @@ fn push_boxed(
     alloc: Global,
     out: &mut Vec<u8>,
     word: &str,
-    term: &Box<Term>,
+    term: &Shared<Term>,
 ) -> Result<(), AllocError> {
     push(out, word)?;
     push_term(alloc, out, term.value())

@@ -3,8 +3,7 @@ ghost use Rattle.std.specs.Prelude.{◌≡◌, IfOk};
 
 use crate::types::names::{Sel, TypeName};
 use crate::types::package::{ConstTerm, Defined, Entity, MethodOf, Object, Package};
-use crate::types::term::{Field, Method, Signature, Term};
-use go_base::boxed::Box;
+use crate::types::term::{Signature, Term};
 use go_base::list::List;
 use go_base::memory::NoMemory;
 use go_base::text::Text;
@@ -40,103 +39,36 @@ impl Sel {
     }
 }
 
-#[cycle(copy)]
-fn copy_term(alloc: Global, term: &Term) -> Result<Term, NoMemory>
-    ensures { IfOk result (λ copied. copied ≡ term.now) }
-{
-    match term {
-        Term::Plain(basic) => Ok(Term::Plain(*basic)),
-        Term::Named(name) => Ok(Term::Named(name.copy(alloc)?)),
-        Term::Pointer(base) => Ok(Term::Pointer(copy_boxed(alloc, base)?)),
-        Term::Slice(element) => Ok(Term::Slice(copy_boxed(alloc, element)?)),
-        Term::Array(length, element) => Ok(Term::Array(*length, copy_boxed(alloc, element)?)),
-        Term::Map(key, element) => Ok(Term::Map(
-            copy_boxed(alloc, key)?,
-            copy_boxed(alloc, element)?,
-        )),
-        Term::Chan(direction, element) => {
-            Ok(Term::Chan(*direction, copy_boxed(alloc, element)?))
-        }
-        Term::Func(signature) => Ok(Term::Func(copy_signature(alloc, signature)?)),
-        Term::Struct(fields) => Ok(Term::Struct(copy_fields(alloc, fields.items())?)),
-        Term::Interface(methods) => Ok(Term::Interface(copy_methods(alloc, methods.items())?)),
-    }
-}
-
-#[cycle(copy)]
-fn copy_boxed(alloc: Global, term: &Box<Term>) -> Result<Box<Term>, NoMemory>
-    ensures { IfOk result (λ copied. copied ≡ term.now) }
-{
-    Box::new(alloc, copy_term(alloc, term.value())?)
-}
-
-#[cycle(copy)]
-fn copy_signature(alloc: Global, signature: &Signature) -> Result<Signature, NoMemory>
-    ensures { IfOk result (λ copied. copied ≡ signature.now) }
-{
-    Ok(Signature {
-        params: copy_terms(alloc, signature.params.items())?,
-        variadic: signature.variadic,
-        results: copy_terms(alloc, signature.results.items())?,
-    })
-}
-
-#[cycle(copy)]
-fn copy_terms(alloc: Global, terms: &[Term]) -> Result<List<Term>, NoMemory>
-    ensures { IfOk result (λ copied. copied ≡ terms.now) }
-{
-    let mut copied = List::new(alloc);
-    for term in terms {
-        copied.push(copy_term(alloc, term)?)?;
-    }
-    Ok(copied)
-}
-
-#[cycle(copy)]
-fn copy_fields(alloc: Global, fields: &[Field]) -> Result<List<Field>, NoMemory>
-    ensures { IfOk result (λ copied. copied ≡ fields.now) }
-{
-    let mut copied = List::new(alloc);
-    for field in fields {
-        copied.push(Field {
-            sel: field.sel.copy(alloc)?,
-            embedded: field.embedded,
-            term: copy_term(alloc, &field.term)?,
-            tag: copy_text(alloc, &field.tag)?,
-        })?;
-    }
-    Ok(copied)
-}
-
-#[cycle(copy)]
-fn copy_methods(alloc: Global, methods: &[Method]) -> Result<List<Method>, NoMemory>
-    ensures { IfOk result (λ copied. copied ≡ methods.now) }
-{
-    let mut copied = List::new(alloc);
-    for method in methods {
-        copied.push(Method {
-            sel: method.sel.copy(alloc)?,
-            signature: copy_signature(alloc, &method.signature)?,
-        })?;
-    }
-    Ok(copied)
-}
-
 impl Term {
-    /// An identical type.
+    /// An identical type. What it is made of is shared.
     pub fn copy(&self, alloc: Global) -> Result<Term, NoMemory>
         ensures { IfOk result (λ copied. copied ≡ self.now) }
     {
-        copy_term(alloc, self)
+        match self {
+            Term::Plain(basic) => Ok(Term::Plain(*basic)),
+            Term::Named(name) => Ok(Term::Named(name.copy(alloc)?)),
+            Term::Pointer(base) => Ok(Term::Pointer(base.share()?)),
+            Term::Slice(element) => Ok(Term::Slice(element.share()?)),
+            Term::Array(length, element) => Ok(Term::Array(*length, element.share()?)),
+            Term::Map(key, element) => Ok(Term::Map(key.share()?, element.share()?)),
+            Term::Chan(direction, element) => Ok(Term::Chan(*direction, element.share()?)),
+            Term::Func(signature) => Ok(Term::Func(signature.copy(alloc)?)),
+            Term::Struct(fields) => Ok(Term::Struct(fields.share()?)),
+            Term::Interface(methods) => Ok(Term::Interface(methods.share()?)),
+        }
     }
 }
 
 impl Signature {
-    /// An identical signature.
-    pub fn copy(&self, alloc: Global) -> Result<Signature, NoMemory>
+    /// An identical signature, of the same types.
+    pub fn copy(&self, _alloc: Global) -> Result<Signature, NoMemory>
         ensures { IfOk result (λ copied. copied ≡ self.now) }
     {
-        copy_signature(alloc, self)
+        Ok(Signature {
+            params: self.params.share()?,
+            variadic: self.variadic,
+            results: self.results.share()?,
+        })
     }
 }
 
@@ -171,7 +103,7 @@ impl Entity {
 fn copy_objects(alloc: Global, objects: &[Object]) -> Result<List<Object>, NoMemory>
     ensures { IfOk result (λ copied. copied ≡ objects.now) }
 {
-    let mut copied = List::new(alloc);
+    let mut copied = List::with_room(alloc, objects.len())?;
     for object in objects {
         copied.push(Object {
             name: copy_text(alloc, &object.name)?,
@@ -184,7 +116,7 @@ fn copy_objects(alloc: Global, objects: &[Object]) -> Result<List<Object>, NoMem
 fn copy_declared(alloc: Global, methods: &[MethodOf]) -> Result<List<MethodOf>, NoMemory>
     ensures { IfOk result (λ copied. copied ≡ methods.now) }
 {
-    let mut copied = List::new(alloc);
+    let mut copied = List::with_room(alloc, methods.len())?;
     for method in methods {
         copied.push(MethodOf {
             sel: method.sel.copy(alloc)?,
@@ -211,7 +143,7 @@ impl Defined {
 fn copy_defined(alloc: Global, defined: &[Defined]) -> Result<List<Defined>, NoMemory>
     ensures { IfOk result (λ copied. copied ≡ defined.now) }
 {
-    let mut copied = List::new(alloc);
+    let mut copied = List::with_room(alloc, defined.len())?;
     for one in defined {
         copied.push(one.copy(alloc)?)?;
     }

@@ -6,8 +6,8 @@ ghost use Rattle.go_model.specs.types.Terms.{signature_of};
 
 use crate::constants::value::Basic;
 use crate::types::names::{Sel, TypeName};
-use go_base::boxed::Box;
 use go_base::list::List;
+use go_base::shared::Shared;
 use go_base::text::Text;
 
 /// The direction of a channel type.
@@ -29,16 +29,16 @@ pub enum Term {
     Plain(Basic),
     /// A defined type, or the predeclared `error`.
     Named(TypeName),
-    Pointer(Box<Term>),
-    Slice(Box<Term>),
-    Array(u64, Box<Term>),
+    Pointer(Shared<Term>),
+    Slice(Shared<Term>),
+    Array(u64, Shared<Term>),
     /// Key and element.
-    Map(Box<Term>, Box<Term>),
-    Chan(Direction, Box<Term>),
+    Map(Shared<Term>, Shared<Term>),
+    Chan(Direction, Shared<Term>),
     Func(Signature),
-    Struct(List<Field>),
+    Struct(Shared<List<Field>>),
     /// All methods, those of embedded interfaces among them, ordered by selector.
-    Interface(List<Method>),
+    Interface(Shared<List<Method>>),
 }
 
 impl Term {
@@ -121,9 +121,9 @@ impl Drop for Method {
 /// of its arguments.
 #[cycle(term)]
 pub struct Signature {
-    pub params: List<Term>,
+    pub params: Shared<List<Term>>,
     pub variadic: bool,
-    pub results: List<Term>,
+    pub results: Shared<List<Term>>,
 }
 
 impl Drop for Signature {
