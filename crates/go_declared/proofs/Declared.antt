@@ -1,7 +1,7 @@
--- A table to which the names of declarations were added in turn tells where each is declared.
+-- Entries to which the names of declarations were added in turn tell where each is declared first.
 use Rattle.std.proofs.Common.{◌≡◌, ◌+◌, ◌<◌, ◌≤◌, ℕ, suc, Bool, true, false, ◌||◌, cond, List, [], ◌∷◌, ◌++◌, length, take, get_or, Option, None, Some, refl, sym, ap, ◌∙◌, arith}
 use mathlib.Core.Bool.{true≢false}
-use Rattle.std.specs.Prelude.{if◌then◌else◌, is_some}
+use Rattle.std.specs.Prelude.{if◌then◌else◌}
 use Rattle.std.specs.Option.{option_or}
 use Rattle.std.specs.Str.{bytes_eq}
 use Rattle.std.specs.Cmp.Lexicographic.{bytes_decides}
@@ -12,13 +12,12 @@ use Rattle.go_declarations.specs.Listings.{declaration_of, declarations_of}
 use Rattle.go_declarations.specs.declared.listing.Declaration.{Declaration as Borrowed}
 use Rattle.go_rules.specs.Asks.{texts}
 use Rattle.go_rules.specs.Expressions.{is_blank}
-use Rattle.go_rules.specs.Names.{Named, value_at, with_value}
-use Rattle.go_rules.proofs.NamedEntries.{put_is}
+use Rattle.go_rules.specs.Names.{Named, value_at}
 use Rattle.go_syntax.specs.declared.name.Name.{Name}
 use Rattle.go_typings.specs.Declarations.{declared_by, declared_from, Declaration, Declared, Form, is_init, names_of, place_from}
 use Rattle.go_declared.specs.NameTables.{AreDeclared, place_of}
 use Rattle.go_declared.specs.declared.names.NamePlace.{NamePlace}
-use Rattle.go_declared.specs.inner.Adding.{with_declarations, with_first, with_names}
+use Rattle.go_declared.specs.inner.Adding.{with_declarations, with_name, with_names}
 
 abbrev is_left_out : List ℕ → Bool
 is_left_out name = is_blank name || is_init name
@@ -34,41 +33,33 @@ or_none (Some x) = refl
 same_left_out : (a b : List ℕ) → bytes_eq a b ≡ true → is_left_out b ≡ is_left_out a
 same_left_out a b e = ap is_left_out (sym ((bytes_decides a b).0 e))
 
-module _ (q : List ℕ) (counts : is_left_out q ≡ false) where
-  -- one name more
-  added : (t : Named NamePlace) (n : List ℕ) (v : NamePlace) (l e p : Bool) → is_left_out n ≡ l → bytes_eq n q ≡ e → is_some (value_at t n) ≡ p
-      → value_at (if l || p then t else with_value t n v) q ≡ option_or (value_at t q) (if e then Some v else None)
-  added t n v true true p hl he hp = absurd (true≢false (sym hl ∙ sym (same_left_out n q he) ∙ counts))
-  added t n v true false p hl he hp = or_none (value_at t q)
-  added t n v false true true hl he hp = there (value_at t q) (sym (ap (λ k. is_some (value_at t k)) ((bytes_decides n q).0 he)) ∙ hp)
+module _ (q : List ℕ) where
+  value_append : (t : Named NamePlace) (n : List ℕ) (v : NamePlace) (e : Bool) → bytes_eq q n ≡ e → value_at (t ++ (n, v) ∷ []) q ≡ option_or (value_at t q) (if e then Some v else None)
+  value_append [] n v e h = ap (λ b. cond b (Some v) None) h
+  value_append (x ∷ t) n v e h = ap (cond (bytes_eq q x.0) (Some x.1)) (value_append t n v e h) ∙ past (bytes_eq q x.0)
     where
-      there : (o : Option NamePlace) → is_some o ≡ true → o ≡ option_or o (Some v)
-      there None h = absurd (true≢false (sym h))
-      there (Some x) h = refl
-  added t n v false true false hl he hp =
-      put_is q n v t ∙ ap (λ b. cond b (Some v) (value_at t q)) (turned he) ∙ absent (value_at t q) (sym (ap (λ k. is_some (value_at t k)) ((bytes_decides n q).0 he)) ∙ hp)
-    where
-      turned : bytes_eq n q ≡ true → bytes_eq q n ≡ true
-      turned h = (bytes_decides q n).1 (sym ((bytes_decides n q).0 h))
+      past : (b : Bool) → cond b (Some x.1) (option_or (value_at t q) (if e then Some v else None)) ≡ option_or (cond b (Some x.1) (value_at t q)) (if e then Some v else None)
+      past true = refl
+      past false = refl
 
-      absent : (o : Option NamePlace) → is_some o ≡ false → Some v ≡ option_or o (Some v)
-      absent None h = refl
-      absent (Some x) h = absurd (true≢false h)
-  added t n v false false true hl he hp = or_none (value_at t q)
-  added t n v false false false hl he hp = put_is q n v t ∙ ap (λ b. cond b (Some v) (value_at t q)) (other (bytes_eq q n) refl) ∙ or_none (value_at t q)
+  turned : (n : List ℕ) (e : Bool) → bytes_eq n q ≡ e → bytes_eq q n ≡ e
+  turned n true h = (bytes_decides q n).1 (sym ((bytes_decides n q).0 h))
+  turned n false h = other (bytes_eq q n) refl
     where
       other : (b : Bool) → bytes_eq q n ≡ b → b ≡ false
-      other true h = absurd (true≢false (sym ((bytes_decides n q).1 (sym ((bytes_decides q n).0 h))) ∙ he))
-      other false h = refl
+      other true f = absurd (true≢false (sym ((bytes_decides n q).1 (sym ((bytes_decides q n).0 f))) ∙ h))
+      other false f = refl
 
-  first_added : (t : Named NamePlace) (n : List ℕ) (v : NamePlace) → value_at (with_first t n v) q ≡ option_or (value_at t q) (if bytes_eq n q then Some v else None)
-  first_added t n v =
-      ap (λ b. value_at (if b then t else with_value t n v) q) (assoc (is_blank n) (is_init n) (is_some (value_at t n)))
-      ∙ added t n v (is_left_out n) (bytes_eq n q) (is_some (value_at t n)) refl refl refl
-    where
-      assoc : (a b c : Bool) → (a || b || c) ≡ ((a || b) || c)
-      assoc true b c = refl
-      assoc false b c = refl
+module _ (q : List ℕ) (counts : is_left_out q ≡ false) where
+  -- one name more
+  added : (t : Named NamePlace) (n : List ℕ) (v : NamePlace) (l e : Bool) → is_left_out n ≡ l → bytes_eq n q ≡ e
+      → value_at (if l then t else t ++ (n, v) ∷ []) q ≡ option_or (value_at t q) (if e then Some v else None)
+  added t n v true true hl he = absurd (true≢false (sym hl ∙ sym (same_left_out n q he) ∙ counts))
+  added t n v true false hl he = or_none (value_at t q)
+  added t n v false e hl he = value_append q t n v e (turned q n e he)
+
+  name_added : (t : Named NamePlace) (n : List ℕ) (v : NamePlace) → value_at (with_name t n v) q ≡ option_or (value_at t q) (if bytes_eq n q then Some v else None)
+  name_added t n v = added t n v (is_left_out n) (bytes_eq n q) refl refl
 
   or_or : (a b c : Option NamePlace) → option_or (option_or a b) c ≡ option_or a (option_or b c)
   or_or None b c = refl
@@ -82,8 +73,8 @@ module _ (q : List ℕ) (counts : is_left_out q ≡ false) where
   names_added : (t : Named NamePlace) (number place : ℕ) (ns : List Name) → value_at (with_names t number place ns) q ≡ option_or (value_at t q) (at number (place_from place (texts ns) q))
   names_added t number place [] = or_none (value_at t q)
   names_added t number place (n ∷ ns) =
-      names_added (with_first t n.text (record { number = number; place = place })) number (suc place) ns
-      ∙ ap (λ o. option_or o (at number (place_from (suc place) (texts ns) q))) (first_added t n.text (record { number = number; place = place }))
+      names_added (with_name t n.text (record { number = number; place = place })) number (suc place) ns
+      ∙ ap (λ o. option_or o (at number (place_from (suc place) (texts ns) q))) (name_added t n.text (record { number = number; place = place }))
       ∙ or_or (value_at t q) (if bytes_eq n.text q then Some (record { number = number; place = place }) else None) (at number (place_from (suc place) (texts ns) q))
       ∙ ap (option_or (value_at t q)) (here_or_on number place n.text (texts ns) (bytes_eq n.text q) refl)
 
@@ -101,24 +92,17 @@ module _ (q : List ℕ) (counts : is_left_out q ≡ false) where
 
 module _ (q : List ℕ) (left : is_left_out q ≡ true) where
   -- a name that is left out stands nowhere
-  passed : (t : Named NamePlace) (n : List ℕ) (v : NamePlace) (l e : Bool) (p : Bool) → is_left_out n ≡ l → bytes_eq q n ≡ e → value_at (if l || p then t else with_value t n v) q ≡ value_at t q
-  passed t n v true e p hl he = refl
-  passed t n v false e true hl he = refl
-  passed t n v false true false hl he = absurd (true≢false (sym left ∙ sym (same_left_out q n he) ∙ hl))
-  passed t n v false false false hl he = put_is q n v t ∙ ap (λ b. cond b (Some v) (value_at t q)) he
+  passed : (t : Named NamePlace) (n : List ℕ) (v : NamePlace) (l e : Bool) → is_left_out n ≡ l → bytes_eq q n ≡ e → value_at (if l then t else t ++ (n, v) ∷ []) q ≡ value_at t q
+  passed t n v true e hl he = refl
+  passed t n v false true hl he = absurd (true≢false (sym left ∙ sym (same_left_out q n he) ∙ hl))
+  passed t n v false false hl he = value_append q t n v false he ∙ sym (or_none (value_at t q))
 
-  first_passed : (t : Named NamePlace) (n : List ℕ) (v : NamePlace) → value_at (with_first t n v) q ≡ value_at t q
-  first_passed t n v =
-      ap (λ b. value_at (if b then t else with_value t n v) q) (assoc (is_blank n) (is_init n) (is_some (value_at t n)))
-      ∙ passed t n v (is_left_out n) (bytes_eq q n) (is_some (value_at t n)) refl refl
-    where
-      assoc : (a b c : Bool) → (a || b || c) ≡ ((a || b) || c)
-      assoc true b c = refl
-      assoc false b c = refl
+  name_passed : (t : Named NamePlace) (n : List ℕ) (v : NamePlace) → value_at (with_name t n v) q ≡ value_at t q
+  name_passed t n v = passed t n v (is_left_out n) (bytes_eq q n) refl refl
 
   names_passed : (t : Named NamePlace) (number place : ℕ) (ns : List Name) → value_at (with_names t number place ns) q ≡ value_at t q
   names_passed t number place [] = refl
-  names_passed t number place (n ∷ ns) = names_passed (with_first t n.text (record { number = number; place = place })) number (suc place) ns ∙ first_passed t n.text (record { number = number; place = place })
+  names_passed t number place (n ∷ ns) = names_passed (with_name t n.text (record { number = number; place = place })) number (suc place) ns ∙ name_passed t n.text (record { number = number; place = place })
 
   all_passed : (t : Named NamePlace) (number : ℕ) (ds : List Declaration) → value_at (with_declarations t number ds) q ≡ value_at t q
   all_passed t number [] = refl
@@ -138,7 +122,7 @@ names_split t number place [] ys = ap (λ (k : ℕ). with_names t number k ys) (
   where
     none : (k : ℕ) → k ≡ k + 0
     none k = omega arith
-names_split t number place (x ∷ xs) ys = names_split (with_first t x.text (record { number = number; place = place })) number (suc place) xs ys ∙ ap (λ (k : ℕ). with_names (with_names t number place (x ∷ xs)) number k ys) (one place (length xs))
+names_split t number place (x ∷ xs) ys = names_split (with_name t x.text (record { number = number; place = place })) number (suc place) xs ys ∙ ap (λ (k : ℕ). with_names (with_names t number place (x ∷ xs)) number k ys) (one place (length xs))
   where
     one : (k m : ℕ) → suc k + m ≡ k + suc m
     one k m = omega arith
@@ -153,10 +137,10 @@ all_split t number (x ∷ xs) ys = all_split (with_names t number 0 (names_of x.
     one : (k m : ℕ) → suc k + m ≡ k + suc m
     one k m = omega arith
 
-pub names_next : (t u v : Named NamePlace) (number i : ℕ) (x : Name) (xs : List Name) → i < length xs → x ≡ get_or xs i x → u ≡ with_names t number 0 (take i xs) → v ≡ with_first u x.text (record { number = number; place = i }) → v ≡ with_names t number 0 (take (i + 1) xs)
+pub names_next : (t u v : Named NamePlace) (number i : ℕ) (x : Name) (xs : List Name) → i < length xs → x ≡ get_or xs i x → u ≡ with_names t number 0 (take i xs) → v ≡ with_name u x.text (record { number = number; place = i }) → v ≡ with_names t number 0 (take (i + 1) xs)
 names_next t u v number i x xs h e f g =
-    g ∙ ap (λ (w : Named NamePlace). with_first w x.text (record { number = number; place = i })) f
-    ∙ ap (λ (k : ℕ). with_first (with_names t number 0 (take i xs)) x.text (record { number = number; place = k })) (sym (length_take i xs (omega (arith, h))) ∙ none (length (take i xs)))
+    g ∙ ap (λ (w : Named NamePlace). with_name w x.text (record { number = number; place = i })) f
+    ∙ ap (λ (k : ℕ). with_name (with_names t number 0 (take i xs)) x.text (record { number = number; place = k })) (sym (length_take i xs (omega (arith, h))) ∙ none (length (take i xs)))
     ∙ sym (names_split t number 0 (take i xs) (x ∷ [])) ∙ ap (with_names t number 0) (sym (take_more xs i x h ∙ ap (λ (z : Name). take i xs ++ z ∷ []) (sym e)))
   where
     none : (k : ℕ) → k ≡ 0 + k

@@ -1,10 +1,11 @@
 pub mod AliasWalks
 pub mod AliasSteps
 pub mod Declared
+pub mod EntryOrder
+pub mod Heads
 pub mod NamesInOrder
 pub mod Stands
 pub mod ToldMethods
 pub mod BaseTypes
 pub mod ToldNamesakes
 pub mod NumberTables
-pub mod NewNames

@@ -3,6 +3,7 @@
 
 pub mod aliases;
 pub mod bases;
+mod headed;
 pub mod methods;
 pub mod names;
 pub mod namesakes;

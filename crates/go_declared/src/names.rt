@@ -1,5 +1,5 @@
 //! Where names are declared.
-ghost use Rattle.std.specs.Prelude.{◌≡◌, ◌||◌, [], IfOk, OnOk};
+ghost use Rattle.std.specs.Prelude.{◌≡◌, ◌≤◌, ◌||◌, length, IfOk, OnOk};
 ghost use Rattle.go_base.specs.Lists.{Ascending};
 ghost use Rattle.go_declarations.specs.Forms.{form_of};
 ghost use Rattle.go_declarations.specs.Listings.{declarations_of};
@@ -7,8 +7,10 @@ ghost use Rattle.go_rules.specs.Names.{value_at};
 ghost use Rattle.go_typings.specs.Declarations.{is_init, names_of};
 ghost use Rattle.go_rules.specs.Expressions.{is_blank};
 ghost use Rattle.go_declared.specs.NameTables.{AreDeclared, entries_of, is_first, names_in};
-ghost use Rattle.go_declared.specs.inner.Adding.{with_first, with_names, with_new};
+ghost use Rattle.go_declared.specs.inner.Adding.{with_name, with_names};
+ghost use Rattle.go_declared.specs.inner.EntryOrder.{AreSorted, IsFirstFrom, Rise, TellSame};
 
+use crate::headed::{Headed, HeadedText};
 use go_base::list::List;
 use go_base::memory::NoMemory;
 use go_base::text::Text;
@@ -16,8 +18,6 @@ use go_declarations::form::Form;
 use go_declarations::listing::Declaration;
 use go_syntax::name::Name;
 use std::alloc::Global;
-use std::collections::BTreeMap;
-use std::collections::btree_map::Entry;
 use std::marker::Model;
 
 /// Where a name is declared: the number of the declaration, and the place of the name among those that it declares,
@@ -38,7 +38,7 @@ pub struct ListedName<'a> {
 /// The names that a package declares, but for blank ones and `init`, in the order of bytes, each with where it is
 /// declared first.
 pub struct DeclaredNames {
-    entries: BTreeMap<Text, NamePlace>,
+    entries: Vec<(HeadedText, NamePlace)>,
 }
 
 impl Drop for DeclaredNames {
@@ -52,12 +52,15 @@ impl Model for DeclaredNames {
     ghost use Rattle.go_rules.specs.Names.{Named};
     ghost use Rattle.go_declared.specs.declared.names.NamePlace as place;
     ghost use Rattle.go_declared.specs.contracts.names.NamePlace as p;
+    ghost use Rattle.go_declared.specs.inner.EntryOrder.{Rise};
 
     ghost Value = { Named place.NamePlace };
 
     ghost coded = { coded_list (coded× (coded_list coded_ℕ) p.the_row.coded) };
 
-    ghost view = { λ n. n.entries.entries };
+    ghost view = { λ n. n.entries.items };
+
+    ghost invariant = { λ n. Rise n.entries.items };
 }
 
 fn is_left_out(name: &[u8]) -> bool
@@ -66,38 +69,149 @@ fn is_left_out(name: &[u8]) -> bool
     name == b"_".as_slice() || name == b"init".as_slice()
 }
 
-// The entries of an ordered map.
+fn add(
+    entries: &mut Vec<(HeadedText, NamePlace)>,
+    alloc: Global,
+    name: &Text,
+    place: NamePlace,
+) -> Result<(), NoMemory>
+    ensures { OnOk result (entries.new.items ≡ with_name entries.old.items name.now place) }
+{
+    if is_left_out(name.bytes()) {
+        return Ok(());
+    }
+    entries.push((HeadedText::of(alloc, name)?, place))?;
+    Ok(())
+}
+
+fn add_names(
+    entries: &mut Vec<(HeadedText, NamePlace)>,
+    alloc: Global,
+    number: usize,
+    names: &[Name],
+) -> Result<(), NoMemory>
+    ensures { OnOk result (entries.new.items ≡ with_names entries.old.items number 0 names.now) }
+{
+    for place in 0..names.len() {
+        add(
+            entries,
+            alloc,
+            &names[place].text,
+            NamePlace { number, place },
+        )?;
+    }
+    Ok(())
+}
+
+fn add_name(
+    entries: &mut Vec<(HeadedText, NamePlace)>,
+    alloc: Global,
+    number: usize,
+    name: &Name,
+) -> Result<(), NoMemory>
+    ensures { OnOk result (entries.new.items ≡ with_name entries.old.items name.now.text (record { number = number; place = 0 })) }
+{
+    add(entries, alloc, &name.text, NamePlace { number, place: 0 })
+}
+
+fn add_form(
+    entries: &mut Vec<(HeadedText, NamePlace)>,
+    alloc: Global,
+    number: usize,
+    form: &Form<'_>,
+) -> Result<(), NoMemory>
+    ensures { OnOk result (entries.new.items ≡ with_names entries.old.items number 0 (names_of (form_of form.now))) }
+{
+    match form {
+        Form::Constants(constants) => add_names(entries, alloc, number, constants.names),
+        Form::Variables(spec) => add_names(entries, alloc, number, spec.names.items()),
+        Form::Alias(spec) => add_name(entries, alloc, number, &spec.name),
+        Form::Definition(spec) => add_name(entries, alloc, number, &spec.name),
+        Form::Function(func) => add_name(entries, alloc, number, &func.name),
+        Form::Method(_, _) => Ok(()),
+    }
+}
+
+// The names in the order of their declarations, each as often as it is declared.
+fn collected(
+    alloc: Global,
+    declarations: &[Declaration<'_>],
+) -> Result<Vec<(HeadedText, NamePlace)>, NoMemory>
+    ensures { IfOk result (λ entries. AreDeclared (declarations_of declarations.now) entries.items) }
+{
+    let mut entries = Vec::new(alloc);
+    for number in 0..declarations.len() {
+        add_form(&mut entries, alloc, number, &declarations[number].form)?;
+    }
+    Ok(entries)
+}
+
+// The entries in the order of their names; of one name the first stays first.
+fn sort(entries: &mut Vec<(HeadedText, NamePlace)>) -> Result<(), NoMemory>
+    ensures same { OnOk result (TellSame entries.old.items entries.new.items) }
+    ensures sorted { OnOk result (AreSorted entries.new.items) }
+{
+    entries.sort_by(|left, right| left.0.headed().order(&right.0.headed()))?;
+    Ok(())
+}
+
+// Drops the entries that follow one of the same name.
+fn keep_firsts(entries: &mut Vec<(HeadedText, NamePlace)>)
+    requires { AreSorted entries.old.items }
+    ensures same { TellSame entries.old.items entries.new.items }
+    ensures rise { Rise entries.new.items }
+{
+    entries.dedup_by(|later, first| later.0.headed().order(&first.0.headed()).is_eq());
+}
+
+// The place of the first entry whose name isn't before another.
+fn first_from(entries: &[(HeadedText, NamePlace)], name: &Headed<'_>) -> usize
+    requires { Rise entries.now }
+    ensures fits { result ≤ length entries.now }
+    ensures point { IsFirstFrom entries.now name.now result }
+{
+    entries.partition_point(|entry| entry.0.headed().order(name).is_lt())
+}
+
+fn found(entries: &[(HeadedText, NamePlace)], name: &Text) -> Option<NamePlace>
+    requires { Rise entries.now }
+    ensures { result ≡ value_at entries.now name.now }
+{
+    let headed = Headed::of(name);
+    let at = first_from(entries, &headed);
+    if at >= entries.len() {
+        return None;
+    }
+    let entry = &entries[at];
+    if entry.0.headed().order(&headed).is_eq() {
+        return Some(entry.1);
+    }
+    None
+}
+
+// The entries with their names borrowed.
 fn listed(
     alloc: Global,
-    entries: &BTreeMap<Text, NamePlace>,
+    entries: &[(HeadedText, NamePlace)],
 ) -> Result<List<ListedName<'_>>, NoMemory>
-    ensures entries { IfOk result (λ names. entries_of names ≡ entries.now.entries) }
-    ensures ordered { OnOk result (Ascending (names_in entries.now.entries)) }
+    ensures { IfOk result (λ names. entries_of names ≡ entries.now) }
 {
     let mut names = List::new(alloc);
-    for entry in entries.iter() {
+    for entry in entries {
         names.push(ListedName {
-            name: entry.0,
-            place: *entry.1,
+            name: entry.0.text(),
+            place: entry.1,
         })?;
     }
     Ok(names)
 }
 
 impl DeclaredNames {
-    fn new(alloc: Global) -> DeclaredNames
-        ensures { result ≡ [] }
-    {
-        DeclaredNames {
-            entries: BTreeMap::new(alloc),
-        }
-    }
-
     /// Where a name is declared; None where it isn't.
     pub fn get(&self, name: &Text) -> Option<NamePlace>
         ensures { result ≡ value_at self.now name.now }
     {
-        self.entries.get(name).copied()
+        found(&self.entries, name)
     }
 
     /// Whether the declaration of this number is the first that declares a name.
@@ -118,69 +232,13 @@ impl DeclaredNames {
         listed(alloc, &self.entries)
     }
 
-    // Gives a name a place, unless it has one.
-    fn put(&mut self, name: Text, place: NamePlace) -> Result<(), NoMemory>
-        ensures { OnOk result (self.new ≡ with_new self.old name place) }
-    {
-        match self.entries.entry(name) {
-            Ok(Entry::Vacant(there)) => {
-                there.insert(place);
-                return Ok(());
-            }
-            Ok(Entry::Occupied(there)) => {
-                // Gives the map back, for the proof.
-                let _same = there.into_mut();
-                return Ok(());
-            }
-            Err(_) => return Err(NoMemory),
-        }
-    }
-
-    fn add(&mut self, alloc: Global, name: &Text, place: NamePlace) -> Result<(), NoMemory>
-        ensures { OnOk result (self.new ≡ with_first self.old name.now place) }
-    {
-        if is_left_out(name.bytes()) {
-            return Ok(());
-        }
-        self.put(Text::of(alloc, name.bytes())?, place)
-    }
-
-    fn add_names(&mut self, alloc: Global, number: usize, names: &[Name]) -> Result<(), NoMemory>
-        ensures { OnOk result (self.new ≡ with_names self.old number 0 names.now) }
-    {
-        for place in 0..names.len() {
-            self.add(alloc, &names[place].text, NamePlace { number, place })?;
-        }
-        Ok(())
-    }
-
-    fn add_name(&mut self, alloc: Global, number: usize, name: &Name) -> Result<(), NoMemory>
-        ensures { OnOk result (self.new ≡ with_first self.old name.now.text (record { number = number; place = 0 })) }
-    {
-        self.add(alloc, &name.text, NamePlace { number, place: 0 })
-    }
-
-    fn add_form(&mut self, alloc: Global, number: usize, form: &Form<'_>) -> Result<(), NoMemory>
-        ensures { OnOk result (self.new ≡ with_names self.old number 0 (names_of (form_of form.now))) }
-    {
-        match form {
-            Form::Constants(constants) => self.add_names(alloc, number, constants.names),
-            Form::Variables(spec) => self.add_names(alloc, number, spec.names.items()),
-            Form::Alias(spec) => self.add_name(alloc, number, &spec.name),
-            Form::Definition(spec) => self.add_name(alloc, number, &spec.name),
-            Form::Function(func) => self.add_name(alloc, number, &func.name),
-            Form::Method(_, _) => Ok(()),
-        }
-    }
-
     /// The names that these declarations declare.
     pub fn of(alloc: Global, declarations: &[Declaration<'_>]) -> Result<DeclaredNames, NoMemory>
         ensures { IfOk result (AreDeclared (declarations_of declarations.now)) }
     {
-        let mut names = DeclaredNames::new(alloc);
-        for number in 0..declarations.len() {
-            names.add_form(alloc, number, &declarations[number].form)?;
-        }
-        Ok(names)
+        let mut entries = collected(alloc, declarations)?;
+        sort(&mut entries)?;
+        keep_firsts(&mut entries);
+        Ok(DeclaredNames { entries })
     }
 }

@@ -1,6 +1,0 @@
-use Rattle.std.proofs.Common.{◌≡◌, take}
-use Rattle.go_declared.specs.inner.Adding.{with_names}
-use Rattle.go_declared.proofs.names.DeclaredNames.add_names.Given as goal
-
-abbrev pub invariant-loop-place : goal.invariant-loop-place
-invariant-loop-place l = l.self ≡ with_names l.fn.self l.number 0 (take l.place l.names)
