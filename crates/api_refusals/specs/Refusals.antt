@@ -71,13 +71,21 @@ module _ (tree std_tree : Tree) where
   file_place from_std None offset = []
   file_place from_std (Some f) offset = place_in from_std f.path offset
 
-  abbrev pub unit_place : Option PackageUnit → Place → List ℕ
-  unit_place None place = []
-  unit_place (Some u) place = file_place u.from_std (slice_get u.files place.file) place.offset
+  abbrev pub unit_place : PackageUnit → Place → List ℕ
+  unit_place u place = file_place u.from_std (slice_get u.files place.file) place.offset
+
+  -- why a package is refused
+  abbrev pub refused_text : PackageUnit → Refusal → List ℕ
+  refused_text u r = unit_place u (place_of r) ++ cause_text r
+
+  -- that of a package that may be lacking: the cause alone, where it is
+  abbrev pub text_of_some : Option PackageUnit → Refusal → List ℕ
+  text_of_some None r = cause_text r
+  text_of_some (Some u) r = refused_text u r
 
   -- why the package of a number is refused
   abbrev pub package_text : List PackageUnit → ℕ → Refusal → List ℕ
-  package_text units n r = unit_place (slice_get units n) (place_of r) ++ cause_text r
+  package_text units n r = text_of_some (slice_get units n) r
 
 -- ---- lines
 

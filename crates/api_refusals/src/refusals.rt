@@ -4,8 +4,8 @@ ghost use Rattle.std.specs.List.{starts_with};
 ghost use Rattle.go_model.specs.files.Platforms.{name_of};
 ghost use Rattle.api_texts.specs.FaultLines.{side_name};
 ghost use Rattle.api_refusals.specs.PackageFaults.{refusal_of};
-ghost use Rattle.api_refusals.specs.Refusals.{cause_text, file_name, file_place, file_text, is_outside, package_text, place_in, place_of, refusal_line, tree_of, unit_place, unit_text};
-ghost use Rattle.api_refusals.specs.inner.Files.{copied_file, copied_unit};
+ghost use Rattle.api_refusals.specs.Refusals.{cause_text, file_name, file_place, file_text, is_outside, place_in, place_of, refusal_line, refused_text, tree_of, unit_place, unit_text};
+ghost use Rattle.api_refusals.specs.inner.Files.{copied_file};
 
 use crate::places::{bytes_at, push_place};
 use api_texts::lines::{Side, fault_line};
@@ -237,32 +237,23 @@ fn file_at(files: &[UnitFile], number: usize) -> Option<&UnitFile>
     files.get(number)
 }
 
-fn unit_at(units: &[Unit], number: usize) -> Option<&Unit>
-    ensures { copied_unit result ≡ slice_get units.now number }
-{
-    units.get(number)
-}
-
 fn unit_place(
     alloc: Global,
     tree: &Tree,
     std_tree: &Tree,
-    unit: Option<&Unit>,
+    unit: &Unit,
     place: Place,
 ) -> Result<Vec<u8>, NoMemory>
-    ensures { IfOk result (λ text. text.items ≡ unit_place tree.now std_tree.now (copied_unit unit.entry) place) }
+    ensures { IfOk result (λ text. text.items ≡ unit_place tree.now std_tree.now unit.now place) }
 {
-    match unit {
-        None => Ok(Vec::new(alloc)),
-        Some(unit) => file_place(
-            alloc,
-            tree,
-            std_tree,
-            unit.from_std,
-            file_at(unit.files.items(), place.file as usize),
-            place.offset,
-        ),
-    }
+    file_place(
+        alloc,
+        tree,
+        std_tree,
+        unit.from_std,
+        file_at(unit.files.items(), place.file as usize),
+        place.offset,
+    )
 }
 
 fn cause_text(fault: PackageFault) -> &'static [u8]
@@ -285,20 +276,18 @@ fn place_of(fault: PackageFault) -> Place
     }
 }
 
-/// The fault line of the package of a number among units of two trees, which is refused on a platform.
+/// The fault line of a package of two trees that is refused on a platform.
 pub fn package_line(
     alloc: Global,
     side: Side,
     platform: Platform,
     tree: &Tree,
     std_tree: &Tree,
-    units: &[Unit],
-    number: u32,
+    unit: &Unit,
     fault: PackageFault,
 ) -> Result<Text, NoMemory>
-    ensures { IfOk result (λ line. line ≡ refusal_line side platform (package_text tree.now std_tree.now units.now number (refusal_of fault))) }
+    ensures { IfOk result (λ line. line ≡ refusal_line side platform (refused_text tree.now std_tree.now unit.now (refusal_of fault))) }
 {
-    let unit = unit_at(units, number as usize);
     let mut text = unit_place(alloc, tree, std_tree, unit, place_of(fault))?;
     text.extend_from_slice(cause_text(fault))?;
     refusal_line(alloc, side, platform, &text)

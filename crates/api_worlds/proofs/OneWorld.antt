@@ -1,7 +1,7 @@
 -- On a platform trees have one world or one refusal.
 use Rattle.std.proofs.Common.{◌≡◌, ◌≢◌, ℕ, zero, suc, Option, None, Some, List, [], ◌∷◌, ◌++◌, map, Ok, Err, refl, sym, ap, ◌∙◌, subst}
 use Rattle.std.specs.Prelude.{slice_get}
-use Rattle.api_refusals.specs.Refusals.{cause_text, file_place, package_text, place_of, refusal_line, unit_place, unit_text}
+use Rattle.api_refusals.specs.Refusals.{cause_text, file_place, package_text, place_of, refusal_line, unit_text}
 use Rattle.api_texts.specs.declared.lines.Side.{Side}
 use Rattle.api_worlds.specs.PlatformWorlds.{AreUnitsOn, IsRefusedOn, packages_refused, package_refused, IsWorldOn, sources_of}
 use Rattle.go_model.specs.declared.files.platform.Platform.{Platform}
@@ -10,7 +10,6 @@ use Rattle.go_model.specs.files.Platforms.{bits_of}
 use Rattle.go_model.specs.worlds.Worlds.{Packages}
 use Rattle.go_reading.specs.TreeUnits.{AreUnitsOfTrees}
 use Rattle.go_sources.specs.UnitSources.{file_of, source_of}
-use Rattle.go_syntax.specs.declared.name.Place.{Place}
 use Rattle.go_typings.specs.PackageWorlds.{IsFirstRefused, IsWorldOf}
 use Rattle.go_typings.specs.Refusals.{Refusal}
 use Rattle.go_typings.specs.Sources.{PackageSource}
@@ -34,19 +33,18 @@ pub same_sources : (us vs : List PackageUnit) → map written us ≡ map written
 same_sources us vs e = sources_by us ∙ ap (map source_by) e ∙ sym (sources_by vs)
 
 module _ (tree std_tree : Tree) where
-  place_by : Option Written → Place → List ℕ
-  place_by None place = []
-  place_by (Some w) place = file_place tree std_tree w.from_std (slice_get w.files place.file) place.offset
+  text_by : Option Written → Refusal → List ℕ
+  text_by None r = cause_text r
+  text_by (Some w) r = file_place tree std_tree w.from_std (slice_get w.files (place_of r).file) (place_of r).offset ++ cause_text r
 
-  unit_place_by : (us : List PackageUnit) (n : ℕ) (place : Place) → unit_place tree std_tree (slice_get us n) place ≡ place_by (slice_get (map written us) n) place
-  unfolding place_by
-  unit_place_by [] n place = refl
-  unit_place_by (u ∷ us) zero place = refl
-  unit_place_by (u ∷ us) (suc n) place = unit_place_by us n place
+  package_text_by : (us : List PackageUnit) (n : ℕ) (r : Refusal) → package_text tree std_tree us n r ≡ text_by (slice_get (map written us) n) r
+  unfolding text_by
+  package_text_by [] n r = refl
+  package_text_by (u ∷ us) zero r = refl
+  package_text_by (u ∷ us) (suc n) r = package_text_by us n r
 
   pub same_text : (us vs : List PackageUnit) (n : ℕ) (r : Refusal) → map written us ≡ map written vs → package_text tree std_tree us n r ≡ package_text tree std_tree vs n r
-  same_text us vs n r e =
-      ap (λ (w : List ℕ). w ++ cause_text r) (unit_place_by us n (place_of r) ∙ ap (λ (ws : List Written). place_by (slice_get ws n) (place_of r)) e ∙ sym (unit_place_by vs n (place_of r)))
+  same_text us vs n r e = package_text_by us n r ∙ ap (λ (ws : List Written). text_by (slice_get ws n) r) e ∙ sym (package_text_by vs n r)
 
 -- ---- worlds and refusals
 

@@ -62,17 +62,14 @@ fn refused_package(
     platform: Platform,
     tree: &Tree,
     std_tree: &Tree,
-    units: &[Unit],
-    number: u32,
+    unit: &Unit,
     error: CheckError,
 ) -> PlatformError
-    ensures { IsPackageRefusal tree.now std_tree.now side platform units.now number error result }
+    ensures { IsPackageRefusal tree.now std_tree.now side platform unit.now error result }
 {
     match fault_of(error) {
         None => PlatformError::NoMemory,
-        Some(fault) => match package_line(
-            alloc, side, platform, tree, std_tree, units, number, fault,
-        ) {
+        Some(fault) => match package_line(alloc, side, platform, tree, std_tree, unit, fault) {
             Ok(line) => PlatformError::Refused(line),
             Err(NoMemory) => PlatformError::NoMemory,
         },
@@ -85,26 +82,19 @@ fn world_of<G: Gate, L: Copy + Send>(
     platform: Platform,
     tree: &Tree,
     std_tree: &Tree,
-    units: &Units,
+    units: Units,
     gate: &G,
     steps: &mut Steps<L>,
 ) -> Result<World, PlatformError>
-    requires { AreOfPackages units.now.packages }
-    ensures answer { AnswersOfUnits tree.now std_tree.now side platform units.now result }
-    ensures steps { steps.new ≤ steps.old + length units.now.packages }
+    requires { AreOfPackages units.packages }
+    ensures answer { AnswersOfUnits tree.now std_tree.now side platform units result }
+    ensures steps { steps.new ≤ steps.old + length units.packages }
 {
     match world(alloc, units, platform.int_bits(), gate, steps) {
         Ok(world) => Ok(world),
         Err(WorkError::NoMemory) => Err(PlatformError::NoMemory),
-        Err(WorkError::Refused(number, error)) => Err(refused_package(
-            alloc,
-            side,
-            platform,
-            tree,
-            std_tree,
-            units.packages.items(),
-            number,
-            error,
+        Err(WorkError::Refused(_, unit, error)) => Err(refused_package(
+            alloc, side, platform, tree, std_tree, &unit, error,
         )),
     }
 }
@@ -132,6 +122,6 @@ pub fn world_on<G: Gate, L: Copy + Send>(
     unit_paths();
     match units(alloc, tree, std_tree, barred, platform) {
         Err(error) => Err(refused_units(alloc, side, platform, tree, std_tree, &error)),
-        Ok(units) => world_of(alloc, side, platform, tree, std_tree, &units, gate, steps),
+        Ok(units) => world_of(alloc, side, platform, tree, std_tree, units, gate, steps),
     }
 }

@@ -1,6 +1,5 @@
 -- What stands before a unit in canonical order: all that it needs, and none of its path.
-use Rattle.std.proofs.Common.{◌≡◌, ℕ, zero, suc, ◌+◌, ◌<◌, ◌≤◌, Bool, true, false, List, [], ◌∷◌, ◌++◌, length, map, take, get_or, None, slice_get, refl, sym, ap, ◌∙◌, subst, ◌⊎◌, inl, inr, arith, length-append}
-use Rattle.std.proofs.lemmas.List.{take_more}
+use Rattle.std.proofs.Common.{◌≡◌, ℕ, zero, suc, ◌≤◌, Bool, true, false, List, [], ◌∷◌, ◌++◌, length, map, take, None, slice_get, refl, sym, ap, ◌∙◌, subst, ◌⊎◌, inl, inr, arith, length-append}
 use Rattle.std.proofs.lemmas.Slice.Eq.{bytes_eq-Decides}
 use Rattle.std.specs.Str.{bytes_eq}
 use mathlib.Core.Bool.{true≢false}
@@ -51,6 +50,10 @@ take_none : (k : ℕ) → ◌≡◌ {A = List PackageUnit} (take k []) []
 take_none zero = refl
 take_none (suc k) = refl
 
+take_through : (front rest : List PackageUnit) (u : PackageUnit) → take (suc (length front)) (front ++ u ∷ rest) ≡ front ++ u ∷ []
+take_through [] rest u = refl
+take_through (x ∷ front) rest u = ap (λ ys. x ∷ ys) (take_through front rest u)
+
 module _ (among : PackageUnit → Type 0) where
   order_front : {xs : List PackageUnit} → InOrder among xs → (k : ℕ) → InOrder among (take k xs)
   order_front none k = subst (InOrder among) (sym (take_none k)) none
@@ -65,8 +68,8 @@ module _ (among : PackageUnit → Type 0) where
       let p = last_same t s v u e in
       subst (λ (q : List PackageUnit × PackageUnit). IsNextUnit among q.0 q.1) (λ j. (p.0 j, p.1 j)) i
 
-  next_at : (us : List PackageUnit) (at : ℕ) (u : PackageUnit) → InOrder among us → at < length us → u ≡ get_or us at u → IsNextUnit among (take at us) u
-  next_at us at u o h is = order_last (order_front o (at + 1)) (take at us) u (take_more us at u h ∙ ap (λ v. take at us ++ v ∷ []) (sym is))
+  next_at : (us front rest : List PackageUnit) (u : PackageUnit) → InOrder among us → us ≡ front ++ u ∷ rest → IsNextUnit among front u
+  next_at us front rest u o parts = order_last (order_front o (suc (length front))) front u (ap (take (suc (length front))) parts ∙ take_through front rest u)
 
 -- ---- what it says of paths
 
@@ -113,16 +116,16 @@ needs_import u file i h found =
     let j = file_has f.0.imports i f.2 in
     found_needed u.files i.path (f.0, f.1, (j.0, j.1, (ap (λ (x : Import). x.is_found) j.2 ∙ found, ap (λ (x : Import). x.path) j.2)))
 
-module _ (bits : ℕ) (us : List PackageUnit) (ordered : ∥ AreInOrder us ∥₁) (at : ℕ) (u : PackageUnit) (within : at < length us) (is : u ≡ get_or us at u) (w : Packages) (typed : IsWorldOf bits (sources (take at us)) w) where
+module _ (bits : ℕ) (us : List PackageUnit) (ordered : ∥ AreInOrder us ∥₁) (front rest : List PackageUnit) (u : PackageUnit) (parts : us ≡ front ++ u ∷ rest) (w : Packages) (typed : IsWorldOf bits (sources front) w) where
   -- what the unit imports is typed
   pub imports_typed : u.needs ≡ needed_by u.files → AreTyped w (source_of u)
-  imports_typed needed file i h found = elim (has_or (map written_path (sources (take at us))) i.path) [
-    | inl k ↦ world_paths bits (sources (take at us)) w typed i.path k
-    | inr none_there ↦ absurd (∥∥₁_elim ordered never (λ o. none_there (standing_has (take at us) i.path ((next_at (Has us) us at u o within is).met i.path (subst (λ ps. Has ps i.path) (sym needed) (needs_import u file i h found))))))
+  imports_typed needed file i h found = elim (has_or (map written_path (sources front)) i.path) [
+    | inl k ↦ world_paths bits (sources front) w typed i.path k
+    | inr none_there ↦ absurd (∥∥₁_elim ordered never (λ o. none_there (standing_has front i.path ((next_at (Has us) us front rest u o parts).met i.path (subst (λ ps. Has ps i.path) (sym needed) (needs_import u file i h found))))))
   ]
 
   not_there : Has (map path_of w.packages) u.path → ⊥
-  not_there h = ∥∥₁_elim ordered never (λ o. (next_at (Has us) us at u o within is).fresh (has_standing (take at us) u.path (world_paths_back bits (sources (take at us)) w typed u.path h)))
+  not_there h = ∥∥₁_elim ordered never (λ o. (next_at (Has us) us front rest u o parts).fresh (has_standing front u.path (world_paths_back bits (sources front) w typed u.path h)))
 
   named : (ps : List Package) (x : Package) → Has ps x → Has (map path_of ps) x.path
   named [] x h = absurd h

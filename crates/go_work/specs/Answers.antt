@@ -1,9 +1,8 @@
 -- What the work on a tree's packages answers.
 -- Own: words of the contracts.
-use Rattle.std.specs.Prelude.{◌≡◌, ℕ, List, map, Some, Result, Ok, Err}
+use Rattle.std.specs.Prelude.{◌≡◌, ℕ, List, map, Some, Result, Ok, Err, slice_get}
 use Rattle.go_check.specs.Answers.{refusal_of}
 use Rattle.go_check.specs.declared.error.CheckError.{CheckError}
-use Rattle.go_check.specs.declared.error.CheckError.TheVariants as check
 use Rattle.go_model.specs.worlds.Worlds.{Packages}
 use Rattle.go_sources.specs.UnitSources.{source_of}
 use Rattle.go_typings.specs.PackageWorlds.{IsFirstRefused, IsWorldOf}
@@ -22,7 +21,7 @@ abbrev pub IsRefusedFirst : ℕ → List PackageSource → ℕ → CheckError �
 IsRefusedFirst bits us n e = (r : Refusal) × (refusal_of e ≡ Some r) × IsFirstRefused bits us n r
 
 abbrev pub Refuses : ℕ → List PackageSource → WorkError → Type 0
-Refuses bits us (error.Refused n e) = IsRefusedFirst bits us n e
+Refuses bits us (error.Refused n u e) = IsRefusedFirst bits us n e
 Refuses bits us error.NoMemory = Unit {0}
 
 -- their world, or which one is refused first and why; want of memory may come at any time
@@ -30,7 +29,7 @@ abbrev pub Answers : ℕ → List PackageSource → Result Packages WorkError �
 Answers bits us (Ok w) = IsWorldOf bits us w
 Answers bits us (Err e) = Refuses bits us e
 
--- the error of a package of this number
-abbrev pub error_at : ℕ → CheckError → WorkError
-error_at n check.NoMemory = error.NoMemory
-error_at n e = error.Refused n e
+-- the refused unit that is handed back is the one of its number
+abbrev pub HandsBack : List PackageUnit → WorkError → Type 0
+HandsBack us (error.Refused n u e) = slice_get us n ≡ Some u
+HandsBack us error.NoMemory = Unit {0}

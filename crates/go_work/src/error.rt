@@ -1,13 +1,11 @@
 //! Why packages have no world.
 use go_check::error::CheckError;
-use thiserror::Error;
+use go_units::unit::Unit;
 
 /// The first package that is refused.
-#[derive(Clone, Copy, Debug, PartialEq, Eq, Error)]
+#[derive(Drop)]
 pub enum WorkError {
-    /// The number of the package in canonical order, from 0, and why it is refused.
-    #[error("a package is refused")]
-    Refused(u32, CheckError),
-    #[error("out of memory")]
+    /// The number of the package in canonical order, from 0, the package itself, and why it is refused.
+    Refused(u32, Unit, CheckError),
     NoMemory,
 }

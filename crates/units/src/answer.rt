@@ -63,7 +63,7 @@ fn of_trees(
         Err(error) => refused(alloc, &error),
         Ok(units) => match question {
             Question::Units => listed(alloc, &units),
-            Question::Features => features(alloc, platform, &units),
+            Question::Features => features(alloc, platform, units),
         },
     }
 }

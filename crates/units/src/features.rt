@@ -61,25 +61,22 @@ fn of_refused(alloc: Global, unit: &Unit, error: CheckError) -> Result<Vec<u8>, 
     }
 }
 
-fn of_error(alloc: Global, units: &Units, error: WorkError) -> Result<Vec<u8>, AllocError> {
+fn of_error(alloc: Global, error: WorkError) -> Result<Vec<u8>, AllocError> {
     match error {
         WorkError::NoMemory => Err(AllocError),
-        WorkError::Refused(number, error) => match units.packages.items().get(number as usize) {
-            Some(unit) => of_refused(alloc, unit, error),
-            None => Err(AllocError),
-        },
+        WorkError::Refused(_, unit, error) => of_refused(alloc, &unit, error),
     }
 }
 
 /// The features of the public packages among these units, or the first refusal.
-pub fn features(alloc: Global, platform: Platform, units: &Units) -> Result<Vec<u8>, AllocError>
-    requires { AreOfPackages units.now.packages }
+pub fn features(alloc: Global, platform: Platform, units: Units) -> Result<Vec<u8>, AllocError>
+    requires { AreOfPackages units.packages }
 {
     let mut steps = Steps::new(());
     let answer = world(alloc, units, platform.int_bits(), &OpenGate, &mut steps);
     let _counted = steps.end();
     match answer {
         Ok(world) => of_world(alloc, &world),
-        Err(error) => of_error(alloc, units, error),
+        Err(error) => of_error(alloc, error),
     }
 }

@@ -1,7 +1,7 @@
 -- What the steps to the world of a platform answer.
-use Rattle.std.specs.Prelude.{◌≡◌, ◌≢◌, ℕ, Option, Some, List, Result, Ok, Err, option_map}
+use Rattle.std.specs.Prelude.{◌≡◌, ◌≢◌, ℕ, Option, Some, Result, Ok, Err, option_map}
 use Rattle.api_refusals.specs.PackageFaults.{refusal_of}
-use Rattle.api_refusals.specs.Refusals.{package_text, refusal_line, unit_text}
+use Rattle.api_refusals.specs.Refusals.{package_text, refusal_line, refused_text, unit_text}
 use Rattle.api_refusals.specs.declared.refusals.PackageFault.{PackageFault}
 use Rattle.api_texts.specs.declared.lines.Side.{Side}
 use Rattle.api_worlds.specs.PlatformWorlds.{sources_of}
@@ -30,10 +30,10 @@ module _ (tree std_tree : Tree) (s : Side) (p : Platform) where
   IsUnitRefusal e (error.Refused line) = (e ≢ unit.NoMemory) × (line ≡ refusal_line s p (unit_text tree std_tree e))
   IsUnitRefusal e error.NoMemory = Unit {0}
 
-  -- the package of a number is refused for this error
-  abbrev pub IsPackageRefusal : List PackageUnit → ℕ → CheckError → PlatformError → Type 0
-  IsPackageRefusal units n e (error.Refused line) = (r : Refusal) × (told_by e ≡ Some r) × (line ≡ refusal_line s p (package_text tree std_tree units n r))
-  IsPackageRefusal units n e error.NoMemory = Unit {0}
+  -- the package is refused for this error
+  abbrev pub IsPackageRefusal : PackageUnit → CheckError → PlatformError → Type 0
+  IsPackageRefusal u e (error.Refused line) = (r : Refusal) × (told_by e ≡ Some r) × (line ≡ refusal_line s p (refused_text tree std_tree u r))
+  IsPackageRefusal u e error.NoMemory = Unit {0}
 
   -- the world of these units, or the fault line of the first package that is refused
   abbrev pub AnswersOfUnits : Units → Result Packages PlatformError → Type 0
