@@ -7,24 +7,21 @@ use Rattle.go_base.specs.Growing.{Grows}
 use Rattle.go_base.specs.Lists.{Has, Each}
 use Rattle.go_base.proofs.Members.{each_has}
 use Rattle.go_model.specs.declared.constants.value.Value.{Value}
-use Rattle.go_model.specs.declared.types.names.Sel.{Sel}
 use Rattle.go_model.specs.declared.types.package.ConstTerm.{ConstTerm}
 use Rattle.go_model.specs.declared.types.package.Entity.TheVariants as entity
 use Rattle.go_model.specs.declared.types.package.Package.{Package}
 use Rattle.go_model.specs.declared.types.term.Term.{Term, Term-F, out-Term, roll-Term, roll-out-Term}
 use Rattle.go_model.specs.declared.types.term.Field.{Field, out-Field}
-use Rattle.go_model.specs.declared.types.term.Method.{Method, out-Method, roll-Method}
+use Rattle.go_model.specs.declared.types.term.Method.{Method, out-Method}
 use Rattle.go_model.specs.declared.types.term.Signature.{Signature}
-use Rattle.go_model.specs.types.MethodSets.{InSet, IsMethodSet}
-use Rattle.go_model.specs.types.Tables.{Table}
-use Rattle.go_model.specs.types.Terms.{Layer, pointer_to}
+use Rattle.go_model.specs.types.Terms.{Layer}
 use Rattle.go_model.specs.types.Underlying.{under}
 use Rattle.go_model.specs.worlds.Worlds.{table_of}
 use Rattle.api_lines.specs.declared.line.Line.{Line}
 use Rattle.api_features.specs.TypeTexts.{commas, constant_type, name_of_method, signature_text, type_text}
 use Rattle.api_features.specs.Features
 use Rattle.api_features.specs.Features.{defined_term, is_interface, is_plain, IsUnexported, IsMethodRest, IsExported, IsRest, IsTypeRest}
-use Rattle.api_features.specs.inner.FeatureLines.{in_set, end_unexported, end_empty, end_exported, feature_line, IsMethodSetRest, IsEndRest, IsFieldRest, IsLineIn, IsLineOfSome, IsExportedMethod, IsExportedName, IsInterfaceMethodRest, IsValueRest, named_field, embedded_field, exported_method}
+use Rattle.api_features.specs.inner.FeatureLines.{end_unexported, end_empty, end_exported, feature_line, IsEndRest, IsFieldRest, IsLineIn, IsLineOfSome, IsExportedMethod, IsInterfaceMethodRest, IsValueRest, named_field, embedded_field, exported_method}
 use Rattle.api_lines.proofs.Growing.{grows_as, grows_nothing, grows_then}
 use Rattle.api_features.proofs.ValueTexts.{value_once}
 
@@ -214,52 +211,3 @@ module _ (packages : List Package) (path name : List ℕ) where
   plain_line t rest old new i e =
       let same : rest ≡ codes "type " ++ name ++ codes " " ++ type_text packages path (roll-Term (out-Term t)) = e ∙ ap (λ (w : Term). codes "type " ++ name ++ codes " " ++ type_text packages path w) (sym (roll-out-Term t)) in
       one_line (IsTypeRest packages path name (out-Term t)) path rest old new (subst (IsTypeRest packages path name (out-Term t)) (sym same) (Features.plain_type i)) (λ r p. only_plain i p ∙ sym same)
-
-  -- ---- methods
-
-  in_set_is : {word : List ℕ} {barred : List (List ℕ)} {m : Method} {rest : List ℕ} → IsMethodSetRest packages path name word barred m rest → IsExported (out-Method m).sel × (Has barred (out-Method m).sel.name → ⊥) × (rest ≡ word ++ name ++ codes ") " ++ (out-Method m).sel.name ++ signature_text packages path (out-Method m).signature)
-  in_set_is (in_set o b) = (o, b, refl)
-
-  pub not_in_set : (word : List ℕ) (barred : List (List ℕ)) (m : Method) (old : List Line) → (IsExported (out-Method m).sel → (Has barred (out-Method m).sel.name → ⊥) → ⊥) → Grows (IsLineIn (IsMethodSetRest packages path name word barred m) path) old old
-  not_in_set word barred m old n = no_line (IsMethodSetRest packages path name word barred m) path old (λ r p. let k = in_set_is p in n k.0 k.1)
-
-  pub in_set_line : (word : List ℕ) (barred : List (List ℕ)) (m : Method) (rest : List ℕ) (old new : List Line) → IsExported (out-Method m).sel → (Has barred (out-Method m).sel.name → ⊥) → rest ≡ word ++ name ++ codes ") " ++ (out-Method m).sel.name ++ signature_text packages path (out-Method m).signature → Grows (λ l. feature_line path rest ≡ l) old new → Grows (IsLineIn (IsMethodSetRest packages path name word barred m) path) old new
-  in_set_line word barred m rest old new o b e = one_line (IsMethodSetRest packages path name word barred m) path rest old new (subst (IsMethodSetRest packages path name word barred m) (sym e) (in_set o b)) (λ r p. (in_set_is p).2 ∙ sym e)
-
-  -- the same methods and barred names, said another way
-  pub set_lines : (word : List ℕ) (names barred : List (List ℕ)) (these methods : List Method) (old new : List Line) → names ≡ barred → these ≡ methods → Grows (IsLineOfSome (IsMethodSetRest packages path name word names) these path) old new → Grows (IsLineOfSome (IsMethodSetRest packages path name word barred) methods path) old new
-  set_lines word names barred these methods old new e f = subst (λ (p : List (List ℕ) × List Method). Grows (IsLineOfSome (IsMethodSetRest packages path name word p.0) p.1 path) old new) (λ i. (e i, f i))
-
-  abbrev method_of : Sel → Signature → Method
-  method_of s g = roll-Method (record { sel = s; signature = g })
-
-  same_sel_of : (a b : Sel) → IsExported a → IsExported b → a.name ≡ b.name → a ≡ b
-  same_sel_of a b o q e = λ i. record { name = e i; «package» = (o ∙ sym q) i }
-
-  module _ (T : Table) (t : Term) (values others : List Method) (names : List (List ℕ)) (v : IsMethodSet T t values) (w : IsMethodSet T (pointer_to t) others) (n : Grows (IsExportedName values) [] names) where
-    name_of : (text : List ℕ) → Has names text → IsExportedName values text
-    name_of text h = elim (n.sound text h) [ inl x ↦ absurd x | inr p ↦ p ]
-
-    -- an exported method that the type doesn't have isn't among the names
-    unnamed : (s : Sel) → IsExported s → ((h : Signature) → InSet T t s h → ⊥) → Has names s.name → ⊥
-    unnamed s o none h =
-        let k = name_of s.name h in
-        none (out-Method k.0).signature (subst (λ (x : Sel). InSet T t x (out-Method k.0).signature) (same_sel_of (out-Method k.0).sel s k.2.0 o k.2.1) (v.sound k.0 k.1))
-
-    named : (m : Method) → IsExported (out-Method m).sel → (Has names (out-Method m).sel.name → ⊥) → (h : Signature) → InSet T t (out-Method m).sel h → ⊥
-    named m o none h i = none (n.complete (out-Method m).sel.name (method_of (out-Method m).sel h, v.complete (method_of (out-Method m).sel h) i, (o, refl)))
-
-    from_value : (m : Method) {rest : List ℕ} → Has values m → IsMethodSetRest packages path name (codes "method (") [] m rest → IsMethodRest packages path name T t rest
-    from_value m h (in_set o b) = Features.method_of_type o (v.sound m h)
-
-    from_pointer : (m : Method) {rest : List ℕ} → Has others m → IsMethodSetRest packages path name (codes "method (*") names m rest → IsMethodRest packages path name T t rest
-    from_pointer m h (in_set o b) = Features.method_of_pointer o (w.sound m h) (named m o b)
-
-    of_method : {rest : List ℕ} → IsMethodRest packages path name T t rest → ((m : Method) × Has values m × IsMethodSetRest packages path name (codes "method (") [] m rest) ⊎ ((m : Method) × Has others m × IsMethodSetRest packages path name (codes "method (*") names m rest)
-    of_method (Features.method_of_type {s = s} {g = g} o i) = inl (method_of s g, v.complete (method_of s g) i, in_set o (λ x. x))
-    of_method (Features.method_of_pointer {s = s} {g = g} o i none) = inr (method_of s g, w.complete (method_of s g) i, in_set o (unnamed s o none))
-
-    pub method_lines : (old mid new : List Line) → Grows (IsLineOfSome (IsMethodSetRest packages path name (codes "method (") []) values path) old mid → Grows (IsLineOfSome (IsMethodSetRest packages path name (codes "method (*") names) others path) mid new → Grows (IsLineIn (IsMethodRest packages path name T t) path) old new
-    method_lines old mid new = both (IsLineOfSome (IsMethodSetRest packages path name (codes "method (") []) values path) (IsLineOfSome (IsMethodSetRest packages path name (codes "method (*") names) others path) (IsLineIn (IsMethodRest packages path name T t) path) old mid new
-        (λ l p. (p.2.0, from_value p.0 p.1 p.2.1, p.2.2)) (λ l p. (p.2.0, from_pointer p.0 p.1 p.2.1, p.2.2))
-        (λ l p. elim (of_method p.1) [ inl q ↦ inl (q.0, q.1, (p.0, q.2, p.2)) | inr q ↦ inr (q.0, q.1, (p.0, q.2, p.2)) ])

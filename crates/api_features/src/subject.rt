@@ -1,12 +1,15 @@
 //! What a line of features speaks of.
-ghost use Rattle.std.specs.Prelude.{◌≡◌, ◌++◌, IfOk, OnOk};
+ghost use Rattle.std.specs.Prelude.{◌≡◌, ◌++◌, IfOk, IfSome, OnOk};
 ghost use Rattle.go_base.specs.Growing.{Grows};
-ghost use Rattle.api_features.specs.inner.FeatureLines.{feature_line};
+ghost use Rattle.go_base.specs.Keys.{item_of};
+ghost use Rattle.go_model.specs.worlds.Worlds.{table_of};
+ghost use Rattle.api_features.specs.inner.FeatureLines.{IsHeld, feature_line};
 
 use api_lines::line::Line;
 use api_lines::lines::Lines;
 use go_base::memory::NoMemory;
 use go_base::text::Text;
+use go_model::types::package::Defined;
 use go_model::types::world::World;
 use std::alloc::Global;
 
@@ -25,6 +28,17 @@ impl<'a> Subject<'a> {
         ensures name { result.name.now ≡ name.now }
     {
         Subject { world, path, name }
+    }
+
+    /// The defined type of this name, as the package holds it.
+    pub(crate) fn defined(&self) -> Option<&'a Defined>
+        ensures found { item_of result ≡ table_of self.now.world.now.packages (record { path = self.now.path.now; name = self.now.name.now }) }
+        ensures held { IfSome result (λ defined. IsHeld self.now.world.now.packages self.now.path.now self.now.name.now defined.now) }
+    {
+        match self.world.package(self.path) {
+            Some(found) => found.defined_type(self.name),
+            None => None,
+        }
     }
 }
 

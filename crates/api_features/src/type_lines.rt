@@ -7,15 +7,16 @@ ghost use Rattle.go_model.specs.types.Underlying.{under};
 ghost use Rattle.go_model.specs.worlds.Worlds.{table_of};
 ghost use Rattle.api_features.specs.Features.{defined_term, is_interface, is_plain, IsRest, IsTypeRest};
 ghost use Rattle.api_features.specs.TypeTexts.{type_text};
-ghost use Rattle.api_features.specs.inner.FeatureLines.{IsLineIn};
+ghost use Rattle.api_features.specs.inner.FeatureLines.{IsHeld, IsLineIn};
 
 use crate::interface_lines::add_interface;
-use crate::method_lines::add_methods;
+use crate::method_lines::{add_methods, add_own_methods, promotes_none};
 use crate::struct_lines::add_struct;
 use crate::subject::{Subject, add, begun};
 use crate::types::push_type;
 use api_lines::lines::Lines;
 use go_base::memory::NoMemory;
+use go_model::types::package::Defined;
 use go_model::types::term::Term;
 use go_selectors::lookup::{Lookup, error_type};
 use std::alloc::Global;
@@ -91,8 +92,29 @@ fn add_all(
     Ok(())
 }
 
-/// Adds the lines of a type that the subject names.
-pub(crate) fn add_defined(
+// The lines of a type that the subject names, as its package holds it.
+fn add_held(
+    alloc: Global,
+    lines: &mut Lines,
+    of: &Subject<'_>,
+    term: &Term,
+    defined: &Defined,
+) -> Result<(), NoMemory>
+    requires named { term.now ≡ defined_term of.now.path.now of.now.name.now }
+    requires held { IsHeld of.now.world.now.packages of.now.path.now of.now.name.now defined.now }
+    ensures { OnOk result (Grows (IsLineIn (IsRest of.now.world.now.packages of.now.path.now of.now.name.now (entity.TypeOf term.now)) of.now.path.now) lines.old lines.new) }
+{
+    if promotes_none(&defined.underlying) {
+        add_underlying(alloc, lines, of, &defined.underlying)?;
+        add_own_methods(alloc, lines, of, defined)?;
+        return Ok(());
+    }
+    add_all(alloc, lines, of, term, &defined.underlying)?;
+    Ok(())
+}
+
+// The lines of a type that the subject names, also where no package holds it.
+fn add_sought(
     alloc: Global,
     lines: &mut Lines,
     of: &Subject<'_>,
@@ -104,4 +126,20 @@ pub(crate) fn add_defined(
     let error = error_type(alloc)?;
     let lookup = Lookup::new(of.world, &error);
     add_all(alloc, lines, of, term, lookup.under(term))
+}
+
+/// Adds the lines of a type that the subject names.
+pub(crate) fn add_defined(
+    alloc: Global,
+    lines: &mut Lines,
+    of: &Subject<'_>,
+    term: &Term,
+) -> Result<(), NoMemory>
+    requires { term.now ≡ defined_term of.now.path.now of.now.name.now }
+    ensures { OnOk result (Grows (IsLineIn (IsRest of.now.world.now.packages of.now.path.now of.now.name.now (entity.TypeOf term.now)) of.now.path.now) lines.old lines.new) }
+{
+    match of.defined() {
+        Some(defined) => add_held(alloc, lines, of, term, defined),
+        None => add_sought(alloc, lines, of, term),
+    }
 }

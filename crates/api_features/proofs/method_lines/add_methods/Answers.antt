@@ -1,18 +1,14 @@
-use Rattle.std.proofs.Common.{List, [], refl, subst, codes}
-use Rattle.go_base.specs.Growing.{Grows}
-use Rattle.go_model.specs.declared.types.term.Method.{Method}
+use Rattle.std.proofs.Common.{subst}
 use Rattle.go_model.specs.declared.types.term.Term.{Term}
-use Rattle.go_model.specs.types.MethodSets.{IsMethodSet}
-use Rattle.go_model.specs.worlds.Worlds.{table_of}
-use Rattle.api_features.specs.inner.FeatureLines.{IsExportedName}
-use Rattle.api_features.proofs.FeatureRests.{method_lines, set_lines}
+use Rattle.go_model.specs.types.Terms.{pointer_to}
+use Rattle.go_model.specs.worlds.Worlds.{Packages, table_of}
+use Rattle.go_selectors.specs.Candidates.{HoldMethodSet}
+use Rattle.api_features.proofs.MethodRests.{method_lines}
 use Rattle.api_features.proofs.method_lines.add_methods.Goals as goal
 
 pub returns : goal.returns
 returns c =
-    method_lines c.args.of.now.world.now.packages c.args.of.now.path.now c.args.of.now.name.now (table_of c.args.of.now.world.now.packages) c.args.term.now c.in_ok-methods.methods c.in_ok-others.others c.in_ok-names.names c.in_ok-methods.ensures
-    (subst (λ (t : Term). IsMethodSet (table_of c.args.of.now.world.now.packages) t c.in_ok-others.others) c.in_ok-pointer.ensures c.in_ok-others.ensures)
-    (subst (λ (ms : List Method). Grows (IsExportedName ms) [] c.in_ok-names.names) c.items-2.ensures c.in_ok-names.ensures)
-    c.args.lines.now c.add_method_set.new.lines c.add_method_set-2.new.lines
-    (set_lines c.args.of.now.world.now.packages c.args.of.now.path.now c.args.of.now.name.now (codes "method (") c.new-none.result [] c.items.result.now c.in_ok-methods.methods c.args.lines.now c.add_method_set.new.lines c.new-none.ensures c.items.ensures c.in_ok-add_method_set.ensures)
-    (set_lines c.args.of.now.world.now.packages c.args.of.now.path.now c.args.of.now.name.now (codes "method (*") c.in_ok-names.names c.in_ok-names.names c.items-3.result.now c.in_ok-others.others c.add_method_set.new.lines c.add_method_set-2.new.lines refl c.items-3.ensures c.in_ok-add_method_set-2.ensures)
+    method_lines c.args.of.now.world.now.packages c.args.of.now.path.now c.args.of.now.name.now (table_of c.args.of.now.world.now.packages) c.args.term.now c.new-none.result c.in_ok-values.values c.in_ok-others.others c.new-none.ensures.empty
+    (subst (λ (w : Packages). HoldMethodSet (table_of w.packages) c.args.term.now c.in_ok-values.values) c.new-lookup.ensures c.in_ok-values.ensures)
+    (subst (λ (w : Packages). HoldMethodSet (table_of w.packages) (pointer_to c.args.term.now) c.in_ok-others.others) c.new-lookup.ensures (subst (λ (t : Term). HoldMethodSet (table_of c.new-lookup.result.table.now.packages) t c.in_ok-others.others) c.in_ok-pointer.ensures c.in_ok-others.ensures))
+    c.args.lines.now c.add_each_called.new.lines c.add_each_called-2.new.lines c.in_ok-add_each_called.ensures c.in_ok-add_each_called-2.ensures
