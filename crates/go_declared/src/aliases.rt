@@ -43,7 +43,7 @@ fn aliased_names<'a>(
 ) -> Result<Vec<Option<&'a QualifiedName>>, NoMemory>
     ensures { IfOk result (λ names. AreNames (length declarations.now) (aliased_at (declarations_of declarations.now)) names.items) }
 {
-    let mut names = Vec::new(alloc);
+    let mut names = Vec::with_capacity(alloc, declarations.len())?;
     for number in 0..declarations.len() {
         names.push(aliased_by(declarations[number].form))?;
     }
@@ -95,7 +95,7 @@ fn nexts(
 ) -> Result<Vec<usize>, NoMemory>
     ensures { IfOk result (λ numbers. AreSteps (length aliased.now) (next names.now aliased.now) numbers.items) }
 {
-    let mut numbers = Vec::new(alloc);
+    let mut numbers = Vec::with_capacity(alloc, aliased.len())?;
     for number in 0..aliased.len() {
         numbers.push(next(names, aliased, number))?;
     }
@@ -106,7 +106,7 @@ fn nexts(
 fn staying(alloc: Global, count: usize) -> Result<Vec<usize>, NoMemory>
     ensures { IfOk result (λ numbers. AreSteps count (λ i. i) numbers.items) }
 {
-    let mut numbers = Vec::new(alloc);
+    let mut numbers = Vec::with_capacity(alloc, count)?;
     for number in 0..count {
         numbers.push(number)?;
     }
@@ -117,7 +117,7 @@ fn staying(alloc: Global, count: usize) -> Result<Vec<usize>, NoMemory>
 fn composed(alloc: Global, first: &[usize], second: &[usize]) -> Result<Vec<usize>, NoMemory>
     ensures { IfOk result (λ numbers. AreSteps (length first.now) (λ i. step second.now (step first.now i)) numbers.items) }
 {
-    let mut numbers = Vec::new(alloc);
+    let mut numbers = Vec::with_capacity(alloc, first.len())?;
     for number in 0..first.len() {
         numbers.push(step(second, step(first, number)))?;
     }
@@ -169,7 +169,7 @@ fn names_at<'a>(
 ) -> Result<Vec<Option<&'a QualifiedName>>, NoMemory>
     ensures { IfOk result (λ ends. AreNames (length lasts.now) (λ i. name_at aliased.now (step lasts.now i)) ends.items) }
 {
-    let mut ends = Vec::new(alloc);
+    let mut ends = Vec::with_capacity(alloc, lasts.len())?;
     for number in 0..lasts.len() {
         ends.push(name_at(aliased, step(lasts, number)))?;
     }

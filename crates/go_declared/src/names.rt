@@ -139,7 +139,7 @@ fn collected(
 ) -> Result<Vec<(HeadedText, NamePlace)>, NoMemory>
     ensures { IfOk result (λ entries. AreDeclared (declarations_of declarations.now) entries.items) }
 {
-    let mut entries = Vec::new(alloc);
+    let mut entries = Vec::with_capacity(alloc, declarations.len())?;
     for number in 0..declarations.len() {
         add_form(&mut entries, alloc, number, &declarations[number].form)?;
     }
@@ -196,7 +196,7 @@ fn listed(
 ) -> Result<List<ListedName<'_>>, NoMemory>
     ensures { IfOk result (λ names. entries_of names ≡ entries.now) }
 {
-    let mut names = List::new(alloc);
+    let mut names = List::from_vec(Vec::with_capacity(alloc, entries.len())?);
     for entry in entries {
         names.push(ListedName {
             name: entry.0.text(),

@@ -551,6 +551,13 @@ fn add_types<'a>(refs: &mut List<Reference<'a>>, specs: &'a [TypeSpec]) -> Resul
     Ok(())
 }
 
+// No reference, with room for as many as most declarations have.
+fn begun<'a>(alloc: Global) -> Result<List<Reference<'a>>, NoMemory>
+    ensures { IfOk result (λ refs. refs ≡ []) }
+{
+    Ok(List::from_vec(Vec::with_capacity(alloc, 8)?))
+}
+
 /// The references of constants, in order.
 pub fn const_references<'a>(
     alloc: Global,
@@ -558,7 +565,7 @@ pub fn const_references<'a>(
 ) -> Result<List<Reference<'a>>, NoMemory>
     ensures { IfOk result (λ refs. refs ≡ references.const_references spec.now) }
 {
-    let mut refs = List::new(alloc);
+    let mut refs = begun(alloc)?;
     add_const(&mut refs, spec)?;
     Ok(refs)
 }
@@ -567,7 +574,7 @@ pub fn const_references<'a>(
 pub fn var_references<'a>(alloc: Global, spec: &'a VarSpec) -> Result<List<Reference<'a>>, NoMemory>
     ensures { IfOk result (λ refs. refs ≡ references.var_references spec.now) }
 {
-    let mut refs = List::new(alloc);
+    let mut refs = begun(alloc)?;
     add_var(&mut refs, spec)?;
     Ok(refs)
 }
@@ -579,7 +586,7 @@ pub fn type_references<'a>(
 ) -> Result<List<Reference<'a>>, NoMemory>
     ensures { IfOk result (λ refs. refs ≡ references.type_references spec.now) }
 {
-    let mut refs = List::new(alloc);
+    let mut refs = begun(alloc)?;
     add_type_spec(&mut refs, spec)?;
     Ok(refs)
 }
@@ -588,7 +595,7 @@ pub fn type_references<'a>(
 pub fn func_references<'a>(alloc: Global, func: &'a Func) -> Result<List<Reference<'a>>, NoMemory>
     ensures { IfOk result (λ refs. refs ≡ references.func_references func.now) }
 {
-    let mut refs = List::new(alloc);
+    let mut refs = begun(alloc)?;
     add_func(&mut refs, func)?;
     Ok(refs)
 }
@@ -601,7 +608,7 @@ pub fn typed_references<'a>(
 ) -> Result<List<Reference<'a>>, NoMemory>
     ensures { IfOk result (λ refs. refs ≡ references.optional_type (item_of type_.entry) references.outermost ++ exprs_refs values.now references.outermost) }
 {
-    let mut refs = List::new(alloc);
+    let mut refs = begun(alloc)?;
     if let Some(type_) = type_ {
         add_type(&mut refs, type_, outermost())?;
     }
@@ -617,7 +624,7 @@ pub fn method_references<'a>(
 ) -> Result<List<Reference<'a>>, NoMemory>
     ensures { IfOk result (λ refs. refs ≡ references.parameter_refs receiver.now (references.behind references.outermost) ++ signature_refs func.now.signature references.outermost) }
 {
-    let mut refs = List::new(alloc);
+    let mut refs = begun(alloc)?;
     add_type(&mut refs, &receiver.type_, behind(outermost()))?;
     add_signature(&mut refs, &func.signature, outermost())?;
     Ok(refs)
@@ -627,7 +634,7 @@ pub fn method_references<'a>(
 pub fn decl_references<'a>(alloc: Global, decl: &'a Decl) -> Result<List<Reference<'a>>, NoMemory>
     ensures { IfOk result (λ refs. refs ≡ references.references_of decl.now) }
 {
-    let mut refs = List::new(alloc);
+    let mut refs = begun(alloc)?;
     match decl {
         Decl::ConstGroup(specs) => add_consts(&mut refs, specs.items())?,
         Decl::VarGroup(specs) => add_vars(&mut refs, specs.items())?,

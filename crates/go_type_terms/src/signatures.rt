@@ -75,6 +75,17 @@ fn terms_of(alloc: Global, decl: &ParameterDecl, term: Term) -> Result<List<Term
     Ok(variadic_terms(alloc, term)?)
 }
 
+// The signature of these parameters and results.
+fn signed(alloc: Global, parameters: Parameters, results: List<Term>) -> Result<Signed, NoMemory>
+    ensures { IfOk result (λ signed. signed ≡ record { params = parameters.terms; variadic = parameters.variadic; results = results }) }
+{
+    Ok(Signed {
+        params: Shared::new(alloc, parameters.terms)?,
+        variadic: parameters.variadic,
+        results: Shared::new(alloc, results)?,
+    })
+}
+
 impl<'a, F: Fn(&Context<'_>, Global, usize, Part<'_>) -> Result<Answer, ExprError>> Typing<'a, F> {
     // The types of the parameters of a declaration.
     fn parameter(&self, decl: &ParameterDecl) -> Result<(List<Term>, bool), ExprError>
@@ -160,11 +171,7 @@ impl<'a, F: Fn(&Context<'_>, Global, usize, Part<'_>) -> Result<Answer, ExprErro
     {
         let (parameters, loud) = self.parameters(signature.parameters.items())?;
         let (results, louder) = self.results(&signature.result)?;
-        let signed = Signed {
-            params: Shared::new(self.alloc, parameters.terms)?,
-            variadic: parameters.variadic,
-            results: Shared::new(self.alloc, results)?,
-        };
+        let signed = signed(self.alloc, parameters, results)?;
         Ok((signed, either(loud, louder)))
     }
 

@@ -162,12 +162,21 @@ impl<'a, F: Fn(&Context<'_>, Global, usize, Part<'_>) -> Result<Answer, ExprErro
         Ok((fields, loud))
     }
 
+    // The same, to be shared.
+    fn shared_fields(&self, decls: &[FieldDecl]) -> Result<(Shared<List<Field>>, bool), ExprError>
+        requires { TypesBelow self.now.context.now self.now.height (F.pre self.now.below) (F.post self.now.below) }
+        ensures { Types (env_in self.now.context.now) (OfFields (env_in self.now.context.now) decls.now) (fields_parts decls.now) result }
+    {
+        let (fields, loud) = self.fields(decls)?;
+        Ok((Shared::new(self.alloc, fields)?, loud))
+    }
+
     /// The struct type of field declarations.
     pub(crate) fn structure(&self, decls: &[FieldDecl]) -> Result<(Term, bool), ExprError>
         requires { TypesBelow self.now.context.now self.now.height (F.pre self.now.below) (F.post self.now.below) }
         ensures { Types (env_in self.now.context.now) (OfForm (env_in self.now.context.now) (Typ-F.Struct decls.now)) (fields_parts decls.now) result }
     {
-        let (fields, loud) = self.fields(decls)?;
-        Ok((Term::Struct(Shared::new(self.alloc, fields)?), loud))
+        let (fields, loud) = self.shared_fields(decls)?;
+        Ok((Term::Struct(fields), loud))
     }
 }

@@ -46,21 +46,21 @@ fn of_signature(alloc: Global, signature: &Signature) -> Result<Signature, NoMem
     ensures { IfOk result (λ bare. bare ≡ untagged_signature signature.now) }
 {
     Ok(Signature {
-        params: Shared::new(alloc, of_terms(alloc, signature.params.items())?)?,
+        params: of_terms(alloc, signature.params.items())?,
         variadic: signature.variadic,
-        results: Shared::new(alloc, of_terms(alloc, signature.results.items())?)?,
+        results: of_terms(alloc, signature.results.items())?,
     })
 }
 
 #[cycle(untagged)]
-fn of_terms(alloc: Global, terms: &[Term]) -> Result<List<Term>, NoMemory>
+fn of_terms(alloc: Global, terms: &[Term]) -> Result<Shared<List<Term>>, NoMemory>
     ensures { IfOk result (λ bare. bare ≡ map untagged terms.now) }
 {
     let mut bare = List::with_room(alloc, terms.len())?;
     for term in terms {
         bare.push(untagged(alloc, term)?)?;
     }
-    Ok(bare)
+    Shared::new(alloc, bare)
 }
 
 #[cycle(untagged)]

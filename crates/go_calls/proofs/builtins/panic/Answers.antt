@@ -5,4 +5,4 @@ use Rattle.go_calls.proofs.Building.{panic_gives}
 use Rattle.go_calls.proofs.builtins.panic.Goals as goal
 
 pub returns : goal.returns
-returns c = same_answer (Panics (env_of c.args.context.now.env.now) c.args.operand.now) _ _ c.nothing_where.ensures (panic_gives (env_of c.args.context.now.env.now) c.args.operand.now _ c.in_ok-may.may c.any-any.ensures c.in_ok-may.ensures)
+returns c = same_answer (Panics (env_of c.args.context.now.env.now) c.args.operand.now) _ _ c.nothing_where.ensures (panic_gives (env_of c.args.context.now.env.now) c.args.operand.now _ c.in_ok-may.may c.in_ok-any.ensures c.in_ok-may.ensures)

@@ -29,7 +29,7 @@ pub returns : goal.returns
 returns g c =
     let E = env_in c.args.self.now.context.now in
     let s = out-Signature c.args.signature.now in (
-      to_signature_at s.result c.items.ensures c.in_ok-parameters.ensures.0 c.in_ok-results.ensures.0,
+      subst (OfSignature E s.parameters s.result) (sym c.in_ok-signed.ensures) (to_signature_at s.result c.items.ensures c.in_ok-parameters.ensures.0 c.in_ok-results.ensures.0),
       subst (λ (b : Bool). AreLoud E (signature_node c.args.signature.now ∷ []) b) (sym c.either.ensures)
           (parts_loud E (signature_node c.args.signature.now) (λ x e. absurd (cc)) (c.in_ok-parameters.loud || c.in_ok-results.louder) (join_loud E (parameter_parts s.parameters) (optional_result_parts s.result) c.in_ok-parameters.loud c.in_ok-results.louder
           (subst (λ (xs : List ParameterDecl). AreLoud E (parameter_parts xs) c.in_ok-parameters.loud) c.items.ensures c.in_ok-parameters.ensures.1) c.in_ok-results.ensures.1)),
