@@ -152,7 +152,7 @@ func classes(one *asked, info *types.Info, left []string) string {
 	})
 	for class, words := range map[string][]string{
 		differences.Twice:   {"duplicate key", "duplicate index"},
-		differences.Besides: {"invalid map key type", "redeclared", "duplicate method", "embedded field type", "invalid recursive type", "other declaration"},
+		differences.Besides: {"invalid map key type", "incomparable map key type", "redeclared", "duplicate method", "embedded field type", "invalid recursive type", "other declaration"},
 	} {
 		all := len(left) > 0
 		for _, fault := range left {
