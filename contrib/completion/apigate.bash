@@ -30,8 +30,8 @@ _apigate_list() {
 
 _apigate() {
     local modes="features frozen judge advise gate make"
-    local platforms="linux-386 linux-arm windows-386 linux-amd64 linux-arm64 linux-riscv64 linux-s390x android-arm64
-        darwin-amd64 darwin-arm64 ios-arm64 freebsd-amd64 illumos-amd64 windows-amd64"
+    local platforms="linux-386 linux-arm windows-386 linux-amd64 linux-arm64 linux-riscv64 linux-s390x android-arm64 darwin-amd64
+        darwin-arm64 ios-arm64 freebsd-amd64 illumos-amd64 windows-amd64"
     local current=${COMP_WORDS[COMP_CWORD]} option at left=""
     COMPREPLY=()
     if ((COMP_CWORD == 1)); then
