@@ -29,7 +29,7 @@ use std::collections::BTreeMap;
 
 // Whether a method can still be called; an unexported one of the standard library only with its signature.
 fn keeps_method(old: &World, callable: &BTreeMap<Sel, Candidate<'_>>, method: &Method) -> bool
-    ensures { Decides (KeptIn old.now callable.now method.now) result }
+    ensures { Decides result (KeptIn old.now callable.now method.now) }
 {
     match called_at(callable, &method.sel) {
         None => false,

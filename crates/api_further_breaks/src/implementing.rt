@@ -30,7 +30,7 @@ use std::alloc::Global;
 use std::collections::BTreeMap;
 
 fn is_candidate(callable: &BTreeMap<Sel, Candidate<'_>>, method: &Method) -> bool
-    ensures { Decides (IsCandidate callable.now method.now) result }
+    ensures { Decides result (IsCandidate callable.now method.now) }
 {
     match called_at(callable, &method.sel) {
         Some(signature) => same_signature(signature, &method.signature),
@@ -40,7 +40,7 @@ fn is_candidate(callable: &BTreeMap<Sel, Candidate<'_>>, method: &Method) -> boo
 
 // Whether these methods can be called, with identical signatures.
 fn are_candidates(callable: &BTreeMap<Sel, Candidate<'_>>, methods: &[Method]) -> bool
-    ensures { Decides (AreCandidates callable.now methods.now) result }
+    ensures { Decides result (AreCandidates callable.now methods.now) }
 {
     for method in methods {
         if !is_candidate(callable, method) {

@@ -31,14 +31,14 @@ fn slice_of(alloc: Global, element: &Term) -> Result<Term, NoMemory>
 }
 
 fn is_byte(element: &Term) -> bool
-    ensures { Decides (element.now ≡ basic_term basic.Uint8) result }
+    ensures { Decides result (element.now ≡ basic_term basic.Uint8) }
 {
     matches!(element, Term::Plain(Basic::Uint8))
 }
 
 // Whether an operand is a string, and the elements that it goes to are bytes.
 fn is_bytes_from(context: &Context<'_>, element: &Term, operand: &Operand) -> bool
-    ensures { Decides (IsBytesFrom (env_of context.now.env.now) element.now operand.now) result }
+    ensures { Decides result (IsBytesFrom (env_of context.now.env.now) element.now operand.now) }
 {
     if !is_byte(element) {
         return false;
@@ -56,7 +56,7 @@ fn may_append(
     element: &Term,
     operand: &Operand,
 ) -> Result<bool, NoMemory>
-    ensures { IfOk result (Decides (MayAppend (env_of context.now.env.now) element.now operand.now)) }
+    ensures { IfOk result (λ answer. Decides answer (MayAppend (env_of context.now.env.now) element.now operand.now)) }
 {
     if is_bytes_from(context, element, operand) {
         return Ok(true);
@@ -74,7 +74,7 @@ fn may_append_all(
     operands: &[Operand],
     dots: bool,
 ) -> Result<bool, NoMemory>
-    ensures { IfOk result (Decides (MayAppendAll (env_of context.now.env.now) element.now operands.now dots)) }
+    ensures { IfOk result (λ answer. Decides answer (MayAppendAll (env_of context.now.env.now) element.now operands.now dots)) }
 {
     if !dots {
         let all = usable_all(context, alloc, operands, element)?;
@@ -132,7 +132,7 @@ pub(crate) fn append(
 
 // Whether an operand may be copied to elements of this type.
 fn may_copy(context: &Context<'_>, element: &Term, operand: &Operand) -> bool
-    ensures { Decides (MayCopy (env_of context.now.env.now) element.now operand.now) result }
+    ensures { Decides result (MayCopy (env_of context.now.env.now) element.now operand.now) }
 {
     if is_bytes_from(context, element, operand) {
         return true;

@@ -159,7 +159,7 @@ fn sliced(
 
 // Whether a constant index is no greater than a constant length or a later index.
 fn is_up_to(index: Option<u64>, limit: Option<u64>) -> bool
-    ensures { Decides (UpTo index limit) result }
+    ensures { Decides result (UpTo index limit) }
 {
     match (index, limit) {
         (Some(index), Some(limit)) => index <= limit,
@@ -168,7 +168,7 @@ fn is_up_to(index: Option<u64>, limit: Option<u64>) -> bool
 }
 
 fn two_ascend(low: Option<u64>, high: Option<u64>, length: Option<u64>) -> bool
-    ensures { Decides (Ascend (low ∷ high ∷ []) length) result }
+    ensures { Decides result (Ascend (low ∷ high ∷ []) length) }
 {
     is_up_to(low, length) && is_up_to(low, high) && is_up_to(high, length)
 }
@@ -179,7 +179,7 @@ fn three_ascend(
     bound: Option<u64>,
     length: Option<u64>,
 ) -> bool
-    ensures { Decides (Ascend (low ∷ high ∷ bound ∷ []) length) result }
+    ensures { Decides result (Ascend (low ∷ high ∷ bound ∷ []) length) }
 {
     is_up_to(low, length)
         && is_up_to(low, high)

@@ -32,7 +32,7 @@ fn takes_here(
     sel: &Sel,
     operand: &Operand,
 ) -> Result<bool, NoMemory>
-    ensures { IfOk result (Decides (((out-Field field.now).sel ≡ sel.now) × UsableAs (env_in context.now) operand.now (out-Field field.now).term)) }
+    ensures { IfOk result (λ answer. Decides answer (((out-Field field.now).sel ≡ sel.now) × UsableAs (env_in context.now) operand.now (out-Field field.now).term)) }
 {
     if !same_sel(&field.sel, sel) {
         return Ok(false);
@@ -48,7 +48,7 @@ fn takes(
     sel: &Sel,
     operand: &Operand,
 ) -> Result<bool, NoMemory>
-    ensures { IfOk result (Decides (Takes (env_in context.now) fields.now sel.now operand.now)) }
+    ensures { IfOk result (λ answer. Decides answer (Takes (env_in context.now) fields.now sel.now operand.now)) }
 {
     for field in fields {
         if takes_here(context, alloc, field, sel, operand)? {

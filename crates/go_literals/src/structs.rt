@@ -37,7 +37,7 @@ fn is_imported_struct(context: &Context<'_>, term: &Term) -> bool
 
 // Whether a literal of the type may have elements without keys.
 fn may_be_unkeyed(context: &Context<'_>, term: &Term) -> bool
-    ensures { Decides (MayBeUnkeyed (env_in context.now) term.now) result }
+    ensures { Decides result (MayBeUnkeyed (env_in context.now) term.now) }
 {
     if !context.is_entered(term) {
         return false;

@@ -28,7 +28,7 @@ fn is_blank(name: &[u8]) -> bool
 
 // Whether a name is blank, or isn't shared.
 fn is_alone(alloc: Global, shared: &BTreeSet<Text>, name: &[u8]) -> Result<bool, NoMemory>
-    ensures { IfOk result (Decides (IsAlone (Has shared.now.keys) name.now)) }
+    ensures { IfOk result (λ answer. Decides answer (IsAlone (Has shared.now.keys) name.now)) }
 {
     if is_blank(name) {
         return Ok(true);

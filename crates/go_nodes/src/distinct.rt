@@ -42,7 +42,7 @@ fn is_first(alloc: Global, names: &mut BTreeSet<Text>, name: &Text) -> Result<bo
 
 /// Whether no two names but the blank one are the same.
 pub fn are_distinct(alloc: Global, names: &[&Text]) -> Result<bool, NoMemory>
-    ensures { IfOk result (Decides (AreDistinctNames (texts_of names.now))) }
+    ensures { IfOk result (λ answer. Decides answer (AreDistinctNames (texts_of names.now))) }
 {
     let mut seen = BTreeSet::new(alloc);
     for name in names {
@@ -55,7 +55,7 @@ pub fn are_distinct(alloc: Global, names: &[&Text]) -> Result<bool, NoMemory>
 
 /// Whether no name stands twice.
 pub fn are_once(alloc: Global, names: &[&Text]) -> Result<bool, NoMemory>
-    ensures { IfOk result (Decides (Once (texts_of names.now))) }
+    ensures { IfOk result (λ answer. Decides answer (Once (texts_of names.now))) }
 {
     let mut seen = BTreeSet::new(alloc);
     for name in names {

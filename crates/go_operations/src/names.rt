@@ -80,7 +80,7 @@ pub fn named(context: &Context<'_>, alloc: Global, name: &Name) -> Result<Operan
 
 /// Whether a name means an imported package.
 pub fn names_import(context: &Context<'_>, name: &Name) -> bool
-    ensures { Decides ((path : List ℕ) × ((env_in context.now).meaning name.now.text ≡ Some (seen.Import path))) result }
+    ensures { Decides result ((path : List ℕ) × ((env_in context.now).meaning name.now.text ≡ Some (seen.Import path))) }
 {
     match context.env.meaning(&name.text) {
         Some(Meaning::Import(_)) => true,

@@ -137,7 +137,7 @@ fn addressed(composite: bool, operand: &Operand) -> Option<&Term>
 }
 
 fn is_plain(mode: Mode) -> bool
-    ensures { Decides (mode ≡ Mode.Plain) result }
+    ensures { Decides result (mode ≡ Mode.Plain) }
 {
     matches!(mode, Mode::Plain)
 }

@@ -101,7 +101,7 @@ pub fn decide<'a, T: TypeTable>(
     types: &Lookup<'a, T>,
     term: &'a Term,
 ) -> Result<bool, NoMemory>
-    ensures { IfOk result (Decides (Comparable (T.lookup types.now.table.now) term.now)) }
+    ensures { IfOk result (λ answer. Decides answer (Comparable (T.lookup types.now.table.now) term.now)) }
 {
     let mut all = Vec::new(alloc);
     let mut seen = IndexSet::new(alloc);
@@ -122,7 +122,7 @@ pub fn decide<'a, T: TypeTable>(
 /// Whether two values of a type can be compared, where a table of types tells the names in it, as
 /// [`comparable`] says.
 pub fn comparable_in<T: TypeTable>(alloc: Global, types: &T, term: &Term) -> Result<bool, NoMemory>
-    ensures { IfOk result (Decides (Comparable (T.lookup types.now) term.now)) }
+    ensures { IfOk result (λ answer. Decides answer (Comparable (T.lookup types.now) term.now)) }
 {
     let error = error_type(alloc)?;
     let lookup = Lookup::new(types, &error);
@@ -133,7 +133,7 @@ pub fn comparable_in<T: TypeTable>(alloc: Global, types: &T, term: &Term) -> Res
 /// Whether two values of a type of a world can be compared: not where a slice, a map or a function
 /// is underneath the type, one of its fields or its elements, at any depth; else they can.
 pub fn comparable(alloc: Global, world: &World, term: &Term) -> Result<bool, NoMemory>
-    ensures { IfOk result (Decides (Comparable (table_of world.now.packages) term.now)) }
+    ensures { IfOk result (λ answer. Decides answer (Comparable (table_of world.now.packages) term.now)) }
 {
     comparable_in(alloc, world, term)
 }

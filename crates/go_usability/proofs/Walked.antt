@@ -152,24 +152,24 @@ visits_so E s layer old seen new newer answer told e v = subst (Visits E s layer
 
 -- ---- from where paths begin
 
-pub told_decides : (E : Env) (s : Sel) (depth : ℕ) (t at : Term) (begun told : Bool) → at ≡ (start E.table t).term → begun ≡ true → Decides (Begins E t) begun → Decides (ToldDown E s depth at) told → Decides (ToldFrom E s depth t) told
-told_decides E s depth t at begun true e f b d = (subst (Decides (Begins E t)) f b, down_to E s depth (start E.table t) (subst (ToldDown E s depth) e d))
+pub told_decides : (E : Env) (s : Sel) (depth : ℕ) (t at : Term) (begun told : Bool) → at ≡ (start E.table t).term → begun ≡ true → Decides begun (Begins E t) → Decides told (ToldDown E s depth at) → Decides told (ToldFrom E s depth t)
+told_decides E s depth t at begun true e f b d = (subst (λ b. Decides b (Begins E t)) f b, down_to E s depth (start E.table t) (subst (ToldDown E s depth) e d))
 told_decides E s depth t at begun false e f b d = λ h. d (subst (ToldDown E s depth) (sym e) (to_down E s depth (start E.table t) h.1))
 
-pub not_begun : (E : Env) (s : Sel) (depth : ℕ) (t : Term) (begun : Bool) → begun ≡ false → Decides (Begins E t) begun → ToldFrom E s depth t → ⊥
-not_begun E s depth t begun f b h = (subst (Decides (Begins E t)) f b) h.0
+pub not_begun : (E : Env) (s : Sel) (depth : ℕ) (t : Term) (begun : Bool) → begun ≡ false → Decides begun (Begins E t) → ToldFrom E s depth t → ⊥
+not_begun E s depth t begun f b h = (subst (λ b. Decides b (Begins E t)) f b) h.0
 
 -- ---- a level, type by type
 
 module _ (E : Env) (s : Sel) (layer : List Term) (i : ℕ) (x t : Term) (answer : Bool) (h : i < length layer) (e : x ≡ get_or layer i x) (q : t ≡ x) where
   -- one isn't told
-  pub untold_level : answer ≡ false → Decides (Told E s t) answer → (u : Term) × Has layer u × (Told E s u → ⊥)
-  untold_level f d = (x, item_has layer i x h e, λ k. (subst (Decides (Told E s t)) f d) (subst (Told E s) (sym q) k))
+  pub untold_level : answer ≡ false → Decides answer (Told E s t) → (u : Term) × Has layer u × (Told E s u → ⊥)
+  untold_level f d = (x, item_has layer i x h e, λ k. (subst (λ b. Decides b (Told E s t)) f d) (subst (Told E s) (sym q) k))
 
   -- one more is, and the types one field further were added
-  pub told_more : (a b c : List Term) (m n o : List TypeName) → answer ≡ true → Decides (Told E s t) answer → Visits E s (take i layer) a m b n true → PushesAll b n c o (further E.table t) → Visits E s (take (i + 1) layer) a m c o true
+  pub told_more : (a b c : List Term) (m n o : List TypeName) → answer ≡ true → Decides answer (Told E s t) → Visits E s (take i layer) a m b n true → PushesAll b n c o (further E.table t) → Visits E s (take (i + 1) layer) a m c o true
   told_more a b c m n o f d v p = (
-    λ u j. elim (has-back (take i layer) x u (subst (λ (w : List Term). Has w u) taken j)) [ inl k ↦ v.0 u k | inr k ↦ subst (Told E s) (q ∙ k) (subst (Decides (Told E s t)) f d) ],
+    λ u j. elim (has-back (take i layer) x u (subst (λ (w : List Term). Has w u) taken j)) [ inl k ↦ v.0 u k | inr k ↦ subst (Told E s) (q ∙ k) (subst (λ b. Decides b (Told E s t)) f d) ],
     gathered_more (further E.table) a b c m n o (take i layer) (take (i + 1) layer) x taken v.1 (subst (λ (w : Term). PushesAll b n c o (further E.table w)) q p),
   )
     where

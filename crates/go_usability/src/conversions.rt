@@ -24,7 +24,7 @@ fn are_pointers(from: &Term, to: &Term) -> bool
 
 // Whether the bases of two pointer types have their entries.
 fn bases_entered(context: &Context<'_>, from: &Term, to: &Term) -> bool
-    ensures { Decides (BasesEntered (env_of context.now.env.now) (out-Term from.now) (out-Term to.now)) result }
+    ensures { Decides result (BasesEntered (env_of context.now.env.now) (out-Term from.now) (out-Term to.now)) }
 {
     match from {
         Term::Pointer(base) => match to {
@@ -50,7 +50,7 @@ fn converts_between(
     from: &Term,
     to: &Term,
 ) -> Result<bool, NoMemory>
-    ensures { IfOk result (Decides (TableConverts (env_of context.now.env.now).table (env_of context.now.env.now).profile from.now to.now)) }
+    ensures { IfOk result (λ answer. Decides answer (TableConverts (env_of context.now.env.now).table (env_of context.now.env.now).profile from.now to.now)) }
 {
     table::convertible(context, alloc, from, to)
 }
@@ -62,7 +62,7 @@ fn converts_beneath(
     from: &Term,
     to: &Term,
 ) -> Result<bool, NoMemory>
-    ensures { IfOk result (Decides (ConvertsBeneath (env_of context.now.env.now) from.now to.now)) }
+    ensures { IfOk result (λ answer. Decides answer (ConvertsBeneath (env_of context.now.env.now) from.now to.now)) }
 {
     let left = pointer_to(alloc, from)?;
     let right = pointer_to(alloc, to)?;
@@ -79,7 +79,7 @@ fn converts_else<'a>(
 ) -> Result<bool, NoMemory>
     requires table { TableConverts (env_of context.now.env.now).table (env_of context.now.env.now).profile from.now to.now }
     requires unassignable { Assignable (env_of context.now.env.now) from.now to.now → ⊥ }
-    ensures { IfOk result (Decides (Convertible (env_of context.now.env.now) from.now to.now)) }
+    ensures { IfOk result (λ answer. Decides answer (Convertible (env_of context.now.env.now) from.now to.now)) }
 {
     if are_pointers(from, to) {
         return Ok(bases_entered(context, from, to));
@@ -108,7 +108,7 @@ pub fn convertible<'a>(
     from: &'a Term,
     to: &'a Term,
 ) -> Result<bool, NoMemory>
-    ensures { IfOk result (Decides (Convertible (env_of context.now.env.now) from.now to.now)) }
+    ensures { IfOk result (λ answer. Decides answer (Convertible (env_of context.now.env.now) from.now to.now)) }
 {
     if assignable(context, alloc, from, to)? {
         return Ok(true);

@@ -25,7 +25,7 @@ const FEW_METHODS: usize = 4;
 
 // Whether what was found is this method, and callable on a value that isn't addressable.
 fn is_called(found: &Option<Found>, method: &Method) -> bool
-    ensures { Decides (IsCalled found.now method.now) result }
+    ensures { Decides result (IsCalled found.now method.now) }
 {
     match called(found, false) {
         Some(signature) => same_signature(signature, &method.signature),
@@ -39,7 +39,7 @@ fn holds<'a>(
     term: &'a Term,
     method: &Method,
 ) -> Result<bool, NoMemory>
-    ensures { IfOk result (Decides (Holds (env_of context.now.env.now) term.now method.now)) }
+    ensures { IfOk result (λ answer. Decides answer (Holds (env_of context.now.env.now) term.now method.now)) }
 {
     let answer = found(context, alloc, term, &method.sel)?;
     let called = is_called(&answer, method);
@@ -52,7 +52,7 @@ fn holds_each<'a>(
     term: &'a Term,
     methods: &[Method],
 ) -> Result<bool, NoMemory>
-    ensures { IfOk result (Decides (HoldsEach (env_of context.now.env.now) term.now methods.now)) }
+    ensures { IfOk result (λ answer. Decides answer (HoldsEach (env_of context.now.env.now) term.now methods.now)) }
 {
     for method in methods {
         if !holds(context, alloc, term, method)? {
@@ -63,7 +63,7 @@ fn holds_each<'a>(
 }
 
 fn is_candidate(candidates: &BTreeMap<Sel, Candidate<'_>>, method: &Method) -> bool
-    ensures { Decides (IsCandidate candidates.now method.now) result }
+    ensures { Decides result (IsCandidate candidates.now method.now) }
 {
     match called_at(candidates, &method.sel) {
         Some(signature) => same_signature(signature, &method.signature),
@@ -72,7 +72,7 @@ fn is_candidate(candidates: &BTreeMap<Sel, Candidate<'_>>, method: &Method) -> b
 }
 
 fn are_candidates(candidates: &BTreeMap<Sel, Candidate<'_>>, methods: &[Method]) -> bool
-    ensures { Decides (AreCandidates candidates.now methods.now) result }
+    ensures { Decides result (AreCandidates candidates.now methods.now) }
 {
     for method in methods {
         if !is_candidate(candidates, method) {
@@ -89,7 +89,7 @@ fn holds_many<'a>(
     term: &'a Term,
     methods: &[Method],
 ) -> Result<bool, NoMemory>
-    ensures { IfOk result (Decides (HoldsEach (env_of context.now.env.now) term.now methods.now)) }
+    ensures { IfOk result (λ answer. Decides answer (HoldsEach (env_of context.now.env.now) term.now methods.now)) }
 {
     let callable = table::candidates(context, alloc, term)?;
     if !are_candidates(&callable, methods) {
@@ -108,7 +108,7 @@ fn holds_all<'a>(
     term: &'a Term,
     methods: &[Method],
 ) -> Result<bool, NoMemory>
-    ensures { IfOk result (Decides (HoldsEach (env_of context.now.env.now) term.now methods.now)) }
+    ensures { IfOk result (λ answer. Decides answer (HoldsEach (env_of context.now.env.now) term.now methods.now)) }
 {
     if methods.len() <= FEW_METHODS {
         let answer = holds_each(context, alloc, term, methods)?;
@@ -127,7 +127,7 @@ pub fn implements<'a>(
     term: &'a Term,
     interface: &'a Term,
 ) -> Result<bool, NoMemory>
-    ensures { IfOk result (Decides (Implements (env_of context.now.env.now) term.now interface.now)) }
+    ensures { IfOk result (λ answer. Decides answer (Implements (env_of context.now.env.now) term.now interface.now)) }
 {
     match context.under(interface) {
         Term::Interface(methods) => {

@@ -57,7 +57,7 @@ fn told_down<'a>(
     sel: &Sel,
     depth: u32,
 ) -> Result<bool, NoMemory>
-    ensures { IfOk result (Decides (ToldDown (env_of context.now.env.now) sel.now depth term.now)) }
+    ensures { IfOk result (λ answer. Decides answer (ToldDown (env_of context.now.env.now) sel.now depth term.now)) }
 {
     let mut list = Worklist::new(alloc);
     list.push(term)?;
@@ -75,7 +75,7 @@ fn told_down<'a>(
 
 // Whether a type is told for the selector of each method.
 fn is_told_each(context: &Context<'_>, term: &Term, methods: &[Method]) -> bool
-    ensures { Decides (ToldEach (env_of context.now.env.now) methods.now term.now) result }
+    ensures { Decides result (ToldEach (env_of context.now.env.now) methods.now term.now) }
 {
     for method in methods {
         if !context.is_told(&method.sel, term) {
@@ -136,7 +136,7 @@ pub(crate) fn told_from<'a>(
     sel: &Sel,
     depth: u32,
 ) -> Result<bool, NoMemory>
-    ensures { IfOk result (Decides (ToldFrom (env_of context.now.env.now) sel.now depth term.now)) }
+    ensures { IfOk result (λ answer. Decides answer (ToldFrom (env_of context.now.env.now) sel.now depth term.now)) }
 {
     if !context.begins(term) {
         return Ok(false);
