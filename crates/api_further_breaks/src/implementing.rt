@@ -17,10 +17,9 @@ use api_correspond::by_sel::places_at;
 use api_correspond::pair::TypePair;
 use go_base::list::List;
 use go_base::memory::NoMemory;
-use go_base::shared::Shared;
 use go_model::types::names::Sel;
 use go_model::types::package::Defined;
-use go_model::types::term::{Method, Term};
+use go_model::types::term::{Method, Term, pointer_to};
 use go_model::types::world::World;
 use go_selectors::candidate::Candidate;
 use go_selectors::candidates::{called_at, candidates};
@@ -226,13 +225,6 @@ fn push_set(
         losses,
     )?;
     Ok(())
-}
-
-fn pointer_to(alloc: Global, term: &Term) -> Result<Term, NoMemory>
-    ensures { IfOk result (λ pointer. pointer ≡ pointer_to term.now) }
-{
-    let copied = term.copy(alloc)?;
-    Ok(Term::Pointer(Shared::new(alloc, copied)?))
 }
 
 fn push_pointers(

@@ -9,8 +9,9 @@ ghost use Rattle.go_type_terms.specs.Answers.{env_in};
 
 use crate::embedding::{embeds_field, embeds_interface};
 use go_base::memory::NoMemory;
-use go_nodes::distinct::{are_distinct, are_once, is_blank};
+use go_nodes::distinct::{are_distinct, are_once};
 use go_nodes::names::{fields_names, methods_names};
+use go_rules::blank::is_blank;
 use go_syntax::types::{FieldDecl, InterfaceElem};
 use go_usability::context::Context;
 use std::alloc::Global;
@@ -59,7 +60,7 @@ fn element_meets(
     ensures { IfOk result (λ answer. Decides answer (ElementMeets (env_in context.now) (out-InterfaceElem element.now))) }
 {
     match element {
-        InterfaceElem::Method(name, _) => Ok(!is_blank(&name.text)),
+        InterfaceElem::Method(name, _) => Ok(!is_blank(name.text.bytes())),
         InterfaceElem::Embedded(name) => embeds_interface(context, alloc, name),
     }
 }

@@ -10,9 +10,8 @@ ghost use Rattle.go_calls.specs.inner.Made.{FitSizes};
 
 use go_base::memory::NoMemory;
 use go_elements::indices::index_of;
-use go_model::types::term::Term;
+use go_model::types::term::{Term, pointer_to};
 use go_operators::operands::{plain, plain_where};
-use go_operators::prefixes::pointer_to;
 use go_operators::values::type_in;
 use go_rules::operand::Operand;
 use go_usability::context::Context;

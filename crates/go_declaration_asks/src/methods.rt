@@ -21,8 +21,9 @@ use go_model::types::names::TypeName;
 use go_model::types::package::Defined;
 use go_model::types::table::TypeTable;
 use go_model::types::term::{Field, Term};
-use go_nodes::distinct::{are_distinct, is_blank};
+use go_nodes::distinct::are_distinct;
 use go_nodes::names::{push_names, push_signature};
+use go_rules::blank::is_blank;
 use go_rules::env::Env;
 use go_syntax::declaration::Func;
 use go_syntax::types::ParameterDecl;
@@ -98,7 +99,7 @@ fn is_apart(level: &Term, name: &Text) -> bool
 fn is_free_in(base: &Base<'_>, level: &Term, name: &Text) -> bool
     ensures { Decides result (IsFreeIn base.now (out-Term level.now) name.now) }
 {
-    if is_blank(name) {
+    if is_blank(name.bytes()) {
         return true;
     }
     if !base.is_only {

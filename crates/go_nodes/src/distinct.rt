@@ -5,20 +5,13 @@ ghost use Rattle.go_base.specs.Lists.{Once};
 ghost use Rattle.go_nodes.specs.Trees.{texts_of};
 ghost use Rattle.go_nodes.specs.inner.Notes.{Notes};
 ghost use Rattle.go_rules.specs.Asks.{AreDistinctNames};
-ghost use Rattle.go_rules.specs.Expressions.{is_blank};
 ghost use Rattle.go_selectors.specs.Answers.{Decides};
 
 use go_base::memory::NoMemory;
 use go_base::text::Text;
+use go_rules::blank::is_blank;
 use std::alloc::Global;
 use std::collections::BTreeSet;
-
-/// Whether a name is the blank one.
-pub fn is_blank(name: &Text) -> bool
-    ensures { result ≡ is_blank name.now }
-{
-    name.bytes() == b"_".as_slice()
-}
 
 // Puts a copy of a name among others, and says whether it is new.
 fn add_new(alloc: Global, names: &mut BTreeSet<Text>, name: &Text) -> Result<bool, NoMemory>
@@ -33,7 +26,7 @@ fn add_new(alloc: Global, names: &mut BTreeSet<Text>, name: &Text) -> Result<boo
 fn is_first(alloc: Global, names: &mut BTreeSet<Text>, name: &Text) -> Result<bool, NoMemory>
     ensures { IfOk result (Notes names.old.keys name.now names.new.keys) }
 {
-    if is_blank(name) {
+    if is_blank(name.bytes()) {
         return Ok(true);
     }
     let is_new = add_new(alloc, names, name)?;

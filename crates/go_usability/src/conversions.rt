@@ -2,7 +2,6 @@
 ghost use Rattle.std.specs.Prelude.{◌≡◌, IfOk};
 ghost use Rattle.go_model.specs.declared.types.term.Term.{out-Term};
 ghost use Rattle.go_model.specs.types.Conversions.{Convertible as TableConverts};
-ghost use Rattle.go_model.specs.types.Terms.{pointer_to};
 ghost use Rattle.go_rules.specs.Scopes.{env_of};
 ghost use Rattle.go_rules.specs.Usability.{Assignable, BasesEntered, Convertible};
 ghost use Rattle.go_selectors.specs.Answers.{Decides};
@@ -12,8 +11,7 @@ use crate::assignability::{assignable, is_interface};
 use crate::context::Context;
 use crate::table;
 use go_base::memory::NoMemory;
-use go_base::shared::Shared;
-use go_model::types::term::Term;
+use go_model::types::term::{Term, pointer_to};
 use std::alloc::Global;
 
 fn are_pointers(from: &Term, to: &Term) -> bool
@@ -35,12 +33,6 @@ fn bases_entered(context: &Context<'_>, from: &Term, to: &Term) -> bool
         },
         _ => true,
     }
-}
-
-fn pointer_to(alloc: Global, base: &Term) -> Result<Term, NoMemory>
-    ensures { IfOk result (λ term. term ≡ pointer_to base.now) }
-{
-    Ok(Term::Pointer(Shared::new(alloc, base.copy(alloc)?)?))
 }
 
 // Whether a value of one type is convertible to another, whatever each is borrowed from.
