@@ -1,5 +1,5 @@
 //! Names that stand once.
-ghost use Rattle.std.specs.Prelude.{◌≡◌, IfOk};
+ghost use Rattle.std.specs.Prelude.{IfOk};
 ghost use Rattle.go_base.specs.Growing.{Adds};
 ghost use Rattle.go_base.specs.Lists.{Once};
 ghost use Rattle.go_nodes.specs.Trees.{texts_of};

@@ -6,8 +6,8 @@ ghost use Rattle.go_model.specs.types.Comparison.{Comparable};
 ghost use Rattle.go_selectors.specs.Search.{Adds};
 ghost use Rattle.go_types.specs.Parts.{SeesTerm, Pushes, PushesFields, Looked, PartAt};
 
-use crate::part::Part;
 use go_base::memory::NoMemory;
+use go_model::types::borrowed::BorrowedTerm;
 use go_model::types::table::TypeTable;
 use go_model::types::term::{Field, Term};
 use go_model::types::world::World;
@@ -35,7 +35,7 @@ fn sees<'a>(seen: &mut IndexSet<Name<'a>>, term: &'a Term) -> Result<bool, NoMem
 
 // Adds a type, unless it is a name that was seen.
 fn push<'a>(
-    all: &mut Vec<Part<'a>>,
+    all: &mut Vec<BorrowedTerm<'a>>,
     seen: &mut IndexSet<Name<'a>>,
     term: &'a Term,
 ) -> Result<(), NoMemory>
@@ -44,12 +44,12 @@ fn push<'a>(
     if sees(seen, term)? {
         return Ok(());
     }
-    all.push(Part::new(term))?;
+    all.push(BorrowedTerm::new(term))?;
     Ok(())
 }
 
 fn push_fields<'a>(
-    all: &mut Vec<Part<'a>>,
+    all: &mut Vec<BorrowedTerm<'a>>,
     seen: &mut IndexSet<Name<'a>>,
     fields: &'a [Field],
 ) -> Result<(), NoMemory>
@@ -64,7 +64,7 @@ fn push_fields<'a>(
 // Whether a type is compared by its parts, which are added.
 fn look<'a, T: TypeTable>(
     types: &Lookup<'a, T>,
-    all: &mut Vec<Part<'a>>,
+    all: &mut Vec<BorrowedTerm<'a>>,
     seen: &mut IndexSet<Name<'a>>,
     term: &'a Term,
 ) -> Result<bool, NoMemory>
@@ -86,7 +86,7 @@ fn look<'a, T: TypeTable>(
     }
 }
 
-fn part_at<'a>(all: &Vec<Part<'a>>, at: usize) -> Option<&'a Term>
+fn part_at<'a>(all: &Vec<BorrowedTerm<'a>>, at: usize) -> Option<&'a Term>
     ensures { PartAt all.now.items at result }
 {
     match all.get(at) {

@@ -1,5 +1,5 @@
 -- A walk over the levels of a search decides whether each type on them is told.
-use Rattle.std.proofs.Common.{◌≡◌, ◌≤◌, ◌<◌, ◌+◌, ℕ, zero, suc, Bool, true, false, ◌⊎◌, inl, inr, List, [], ◌∷◌, ◌++◌, length, take, drop, get_or, refl, sym, ap, ◌∙◌, subst, arith, length-append}
+use Rattle.std.proofs.Common.{◌≡◌, ◌≤◌, ◌<◌, ◌+◌, ℕ, zero, suc, Bool, true, false, ◌⊎◌, inl, inr, List, [], ◌∷◌, ◌++◌, length, take, drop, get_or, refl, sym, ap, ◌∙◌, subst, arith, length-append, append-nil}
 use Rattle.std.proofs.lemmas.List.{take-append-drop}
 use Rattle.go_base.specs.Gathered.{gather}
 use Rattle.go_base.specs.Lists.{Has}
@@ -36,16 +36,12 @@ all_more a b c m n o ts us p q = (
   λ k u h. elim (has-split ts us u h) [ inl x ↦ pushed_has b c n o u q.0 (p.1 k u x) | inr y ↦ q.1 (p.0.known k) u y ],
 )
 
-append_nil : {A : Type 0} (xs : List A) → xs ++ [] ≡ xs
-append_nil [] = refl
-append_nil (x ∷ xs) = ap (λ ys. x ∷ ys) (append_nil xs)
-
 -- one more item of a list was gathered
 pub gathered_more : {A : Type 0} (f : A → List Term) (a b c : List Term) (m n o : List TypeName) (xs ys : List A) (x : A) → ys ≡ xs ++ x ∷ [] → PushesAll a m b n (gather f xs) → PushesAll b n c o (f x) → PushesAll a m c o (gather f ys)
 gathered_more f a b c m n o xs ys x e p q = subst (PushesAll a m c o) (sym joined) (all_more a b c m n o (gather f xs) (f x) p q)
   where
     joined : gather f ys ≡ gather f xs ++ f x
-    joined = ap (gather f) e ∙ gather-append f xs (x ∷ []) ∙ ap (λ w. gather f xs ++ w) (append_nil (f x))
+    joined = ap (gather f) e ∙ gather-append f xs (x ∷ []) ∙ ap (λ w. gather f xs ++ w) (append-nil (f x))
 
 -- ---- lists
 

@@ -6,9 +6,9 @@ ghost use Rattle.go_selectors.specs.Answers.{Decides};
 ghost use Rattle.go_usability.specs.inner.Levels.{further, PushesAll, Visits, ToldDown, ToldEach, ToldFor, ToldFrom, ToldWhole};
 
 use crate::context::Context;
-use crate::part::Part;
 use crate::worklist::Worklist;
 use go_base::memory::NoMemory;
+use go_model::types::borrowed::BorrowedTerm;
 use go_model::types::names::Sel;
 use go_model::types::term::{Method, Term};
 use std::alloc::Global;
@@ -35,7 +35,7 @@ fn visit<'a>(
     context: &Context<'a>,
     list: &mut Worklist<'a>,
     sel: &Sel,
-    layer: &Vec<Part<'a>>,
+    layer: &Vec<BorrowedTerm<'a>>,
 ) -> Result<bool, NoMemory>
     ensures { IfOk result (Visits (env_of context.now.env.now) sel.now layer.now.items list.old.all.items list.old.seen.keys list.new.all.items list.new.seen.keys) }
 {
