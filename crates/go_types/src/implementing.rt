@@ -75,7 +75,8 @@ fn is_candidate(candidates: &BTreeMap<Sel, Candidate<'_>>, method: &Method) -> b
     }
 }
 
-fn are_candidates(candidates: &BTreeMap<Sel, Candidate<'_>>, methods: &[Method]) -> bool
+/// Whether each method is one of these, callable on the type itself.
+pub fn are_candidates(candidates: &BTreeMap<Sel, Candidate<'_>>, methods: &[Method]) -> bool
     ensures { Decides result (AreCandidates candidates.now methods.now) }
 {
     for method in methods {

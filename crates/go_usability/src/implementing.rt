@@ -3,7 +3,6 @@ ghost use Rattle.std.specs.Prelude.{IfOk};
 ghost use Rattle.go_rules.specs.Scopes.{env_of};
 ghost use Rattle.go_rules.specs.Usability.{Implements};
 ghost use Rattle.go_selectors.specs.Answers.{Decides};
-ghost use Rattle.go_selectors.specs.Candidates.{AreCandidates, IsCandidate};
 ghost use Rattle.go_usability.specs.inner.Methods.{Holds, HoldsEach, IsCalled};
 
 use crate::context::Context;
@@ -12,13 +11,10 @@ use crate::table;
 use crate::told::told_for;
 use go_base::memory::NoMemory;
 use go_model::types::found::Found;
-use go_model::types::names::Sel;
 use go_model::types::term::{Method, Term};
-use go_selectors::candidate::Candidate;
-use go_selectors::candidates::called_at;
 use go_selectors::identity::same_signature;
+use go_types::implementing::are_candidates;
 use std::alloc::Global;
-use std::collections::BTreeMap;
 
 // Up to so many methods are searched for one by one: a search keeps less in memory than a map of all.
 const FEW_METHODS: usize = 4;
@@ -60,26 +56,6 @@ fn holds_each<'a>(
         }
     }
     Ok(true)
-}
-
-fn is_candidate(candidates: &BTreeMap<Sel, Candidate<'_>>, method: &Method) -> bool
-    ensures { Decides result (IsCandidate candidates.now method.now) }
-{
-    match called_at(candidates, &method.sel) {
-        Some(signature) => same_signature(signature, &method.signature),
-        None => false,
-    }
-}
-
-fn are_candidates(candidates: &BTreeMap<Sel, Candidate<'_>>, methods: &[Method]) -> bool
-    ensures { Decides result (AreCandidates candidates.now methods.now) }
-{
-    for method in methods {
-        if !is_candidate(candidates, method) {
-            return false;
-        }
-    }
-    true
 }
 
 // By one search for all, where the types on all levels are told; else one by one.
