@@ -2,13 +2,12 @@
 ghost use Rattle.std.specs.Prelude.{◌≡◌, IfOk};
 ghost use Rattle.go_asks.specs.inner.Embedding.{IsTypeWith, NameDenotes, StandsAsField};
 ghost use Rattle.go_model.specs.declared.types.term.Term.{out-Term};
-ghost use Rattle.go_model.specs.types.Imports.{is_imported};
 ghost use Rattle.go_rules.specs.Asks.{EmbedsField, EmbedsInterface, IsOwnLayer, MayEmbed, MayStandUnder};
 ghost use Rattle.go_selectors.specs.Answers.{Decides};
 ghost use Rattle.go_type_terms.specs.Answers.{Tells, env_in};
 
 use go_base::memory::NoMemory;
-use go_model::types::names::TypeName;
+use go_model::types::names::is_imported;
 use go_model::types::term::Term;
 use go_operations::names::{imported, named};
 use go_operators::values::type_in;
@@ -37,12 +36,6 @@ fn may_stand_under(star: bool, level: &Term) -> bool
         Term::Interface(_) => !star,
         _ => true,
     }
-}
-
-fn is_imported(name: &TypeName) -> bool
-    ensures { result ≡ is_imported name.now }
-{
-    name.path.bytes() != b"".as_slice() && name.path.bytes() != b"-client".as_slice()
 }
 
 // Whether a type is a client's own or predeclared.

@@ -1,7 +1,6 @@
 //! `append` and `copy`.
 ghost use Rattle.std.specs.Prelude.{◌≡◌, ◌∷◌, IfOk};
 ghost use Rattle.go_model.specs.declared.constants.value.Basic.TheVariants as basic;
-ghost use Rattle.go_rules.specs.Expressions.{slice_of};
 ghost use Rattle.go_rules.specs.Operands.{basic_term};
 ghost use Rattle.go_rules.specs.Scopes.{env_of};
 ghost use Rattle.go_selectors.specs.Answers.{Decides};
@@ -11,10 +10,9 @@ ghost use Rattle.go_calls.specs.inner.Appended.{IsBytesFrom, MayAppend, MayAppen
 
 use crate::arguments::{sole, usable_all};
 use go_base::memory::NoMemory;
-use go_base::shared::Shared;
 use go_elements::strings::string_length;
 use go_model::constants::value::Basic;
-use go_model::types::term::Term;
+use go_model::types::term::{Term, slice_of};
 use go_operators::levels::slice_under;
 use go_operators::operands::{int_where, plain_where};
 use go_operators::values::{is_usable, type_of};
@@ -22,13 +20,6 @@ use go_rules::operand::Operand;
 use go_selectors::identity::identical;
 use go_usability::context::Context;
 use std::alloc::Global;
-
-// The slice type of an equal element.
-fn slice_of(alloc: Global, element: &Term) -> Result<Term, NoMemory>
-    ensures { IfOk result (λ slice. slice ≡ slice_of element.now) }
-{
-    Ok(Term::Slice(Shared::new(alloc, element.copy(alloc)?)?))
-}
 
 fn is_byte(element: &Term) -> bool
     ensures { Decides result (element.now ≡ basic_term basic.Uint8) }

@@ -2,7 +2,8 @@
 ghost use Rattle.std.specs.Prelude.{◌≡◌, ◌∷◌, [], IfOk, true};
 ghost use Rattle.go_base.specs.Keys.{item_of};
 ghost use Rattle.go_model.specs.declared.types.term.Term.{out-Term};
-ghost use Rattle.go_rules.specs.Expressions.{Ascend, IsString, Slices, UpTo, slice_of};
+ghost use Rattle.go_model.specs.types.Terms.{slice_of};
+ghost use Rattle.go_rules.specs.Expressions.{Ascend, IsString, Slices, UpTo};
 ghost use Rattle.go_rules.specs.Operands.{plain};
 ghost use Rattle.go_rules.specs.Scopes.{env_of};
 ghost use Rattle.go_selectors.specs.Answers.{Decides};
@@ -13,22 +14,14 @@ ghost use Rattle.go_elements.specs.inner.Sliced.{IsUntypedText, SlicesAt, Slices
 use crate::indices::{index_of, optional_index};
 use crate::strings::string_length;
 use go_base::memory::NoMemory;
-use go_base::shared::Shared;
 use go_model::constants::value::{Basic, Value};
 use go_model::types::package::ConstTerm;
-use go_model::types::term::Term;
+use go_model::types::term::{Term, slice_of};
 use go_operators::operands::{plain, plain_like};
 use go_operators::values::{constant_of, is_variable, type_of};
 use go_rules::operand::Operand;
 use go_usability::context::Context;
 use std::alloc::Global;
-
-// The slice type of an equal element.
-fn slice_of(alloc: Global, element: &Term) -> Result<Term, NoMemory>
-    ensures { IfOk result (λ slice. slice ≡ slice_of element.now) }
-{
-    Ok(Term::Slice(Shared::new(alloc, element.copy(alloc)?)?))
-}
 
 // The length of a constant's text, where it has no type.
 fn untyped_length(of: &ConstTerm, value: &Value) -> Option<u64>

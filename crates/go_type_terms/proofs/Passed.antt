@@ -4,7 +4,8 @@ use Rattle.std.proofs.lemmas.List.{drop_all}
 use Rattle.go_model.specs.declared.types.term.Term.{Term}
 use Rattle.go_syntax.specs.declared.types.ParameterDecl.{ParameterDecl, out-ParameterDecl}
 use Rattle.go_rules.specs.Environments.{Env}
-use Rattle.go_rules.specs.Expressions.{OfParameters, OfType, for_names, parameters_more, parameters_none, parameters_variadic, slice_of}
+use Rattle.go_model.specs.types.Terms.{slice_of}
+use Rattle.go_rules.specs.Expressions.{OfParameters, OfType, for_names, parameters_more, parameters_none, parameters_variadic}
 use Rattle.go_rules.specs.Nodes.{parameter_parts, type as type_node}
 use Rattle.go_rules.proofs.OneOperand.{type_once}
 use Rattle.go_type_terms.specs.Loudness.{AreLoud}

@@ -2,7 +2,7 @@
 //! they are equal.
 ghost use Rattle.std.specs.Prelude.{◌≡◌, IfOk};
 ghost use Rattle.go_model.specs.declared.types.term.Term.{out-Term};
-ghost use Rattle.go_model.specs.types.Terms.{pointer_to, signature_of};
+ghost use Rattle.go_model.specs.types.Terms.{pointer_to, signature_of, slice_of};
 
 use crate::constants::value::Basic;
 use crate::types::names::{Sel, TypeName};
@@ -68,6 +68,13 @@ pub fn pointer_to(alloc: Global, base: &Term) -> Result<Term, NoMemory>
     ensures { IfOk result (λ pointer. pointer ≡ pointer_to base.now) }
 {
     Ok(Term::Pointer(Shared::new(alloc, base.copy(alloc)?)?))
+}
+
+/// The slice type of an element.
+pub fn slice_of(alloc: Global, element: &Term) -> Result<Term, NoMemory>
+    ensures { IfOk result (λ slice. slice ≡ slice_of element.now) }
+{
+    Ok(Term::Slice(Shared::new(alloc, element.copy(alloc)?)?))
 }
 
 impl Drop for Term {
