@@ -197,7 +197,7 @@ fn listed(
 ) -> Result<List<ListedName<'_>>, NoMemory>
     ensures { IfOk result (λ names. entries_of names ≡ entries.now) }
 {
-    let mut names = List::from_vec(Vec::with_capacity(alloc, entries.len())?);
+    let mut names = List::with_room(alloc, entries.len())?;
     for entry in entries {
         names.push(ListedName {
             name: entry.0.text(),
