@@ -3,4 +3,5 @@ pub mod MethodOrder
 pub mod MoreWorlds
 pub mod Paths
 pub mod Sizes
+pub mod TextSets
 pub mod WorldTypes

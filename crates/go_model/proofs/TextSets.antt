@@ -1,5 +1,5 @@
 -- Ordered sets of texts that get one more.
-use Rattle.std.proofs.Common.{◌≡◌, ℕ, Bool, true, false, not, List, [], ◌∷◌, refl, sym, ap, ◌∙◌, subst, ◌⊎◌, inl, inr, ◌||◌}
+use Rattle.std.proofs.Common.{◌≡◌, ℕ, Bool, true, false, not, List, [], ◌∷◌, refl, sym, ap, ◌∙◌, subst, inl, inr, ◌||◌}
 use mathlib.Core.Bool.{true≢false}
 use Rattle.std.specs.List.{list_any}
 use Rattle.std.specs.BTreeMap.{is_at}
@@ -37,6 +37,10 @@ module _ {K : Type 0} (R : K → K → Ordering) (same : IsAntisymmetric R) wher
   grows_inserted : (old new : List K) (k : K) → new ≡ insert_key R old k → Grows (λ x. k ≡ x) old new
   grows_inserted old new k e = subst (Grows (λ x. k ≡ x) old) (sym e) (inserted old k)
 
+-- a text was put among others
+pub texts_grow : (old new : List (List ℕ)) (text : List ℕ) → new ≡ insert_key order old text → Grows (λ x. text ≡ x) old new
+texts_grow = grows_inserted order texts_tie
+
 key_by : (text k : List ℕ) (ks : List (List ℕ)) (o : Ordering) → order text k ≡ o → (is_eq o || list_any (is_at (order text)) ks) ≡ true → (list_any (is_at (order text)) ks ≡ true → Has ks text) → Has (k ∷ ks) text
 key_by text k ks Less e h rest = inr (rest h)
 key_by text k ks Equal e h rest = inl (sym (texts_tie text k e))
@@ -62,7 +66,7 @@ negated false h = absurd (true≢false h)
 -- a text was put among others, and the answer says whether it is new
 pub adds : (old new : List (List ℕ)) (text : List ℕ) (is_new : Bool) → new ≡ insert_key order old text → is_new ≡ not (list_any (is_at (order text)) old) → Adds old text new is_new
 adds old new text is_new e told = record {
-  grows = grows_inserted order texts_tie old new text e;
+  grows = texts_grow old new text e;
   fresh = λ t h. true≢false (sym t ∙ told ∙ ap not (has_key old text h));
   there = λ f. key_has old text (negated (list_any (is_at (order text)) old) (sym told ∙ f));
 }

@@ -1,16 +1,16 @@
-//! Types on a worklist.
+//! Types that are borrowed.
 ghost use Rattle.std.specs.Prelude.{◌≡◌};
 
-use go_model::types::term::Term;
+use crate::types::term::Term;
 use std::marker::Model;
 
-/// A type that is still to be looked at, or was.
+/// A borrowed type, as an item of a list: contracts see the type itself.
 #[derive(Drop)]
-pub(crate) struct Part<'a> {
+pub struct BorrowedTerm<'a> {
     term: &'a Term,
 }
 
-impl<'a> Model for Part<'a> {
+impl<'a> Model for BorrowedTerm<'a> {
     ghost use Rattle.go_model.specs.declared.types.term.Term.{Term as Seen};
     ghost use Rattle.go_model.specs.contracts.types.term.Term as t;
     ghost use Rattle.std.specs.Coded.{codes};
@@ -22,16 +22,16 @@ impl<'a> Model for Part<'a> {
     ghost view = { λ p. p.term.now };
 }
 
-impl<'a> Part<'a> {
-    /// A part.
-    pub(crate) fn new(term: &'a Term) -> Part<'a>
+impl<'a> BorrowedTerm<'a> {
+    /// Of a type.
+    pub fn new(term: &'a Term) -> BorrowedTerm<'a>
         ensures { result ≡ term.now }
     {
-        Part { term }
+        BorrowedTerm { term }
     }
 
-    /// Its type.
-    pub(crate) fn term(&self) -> &'a Term
+    /// The type.
+    pub fn term(&self) -> &'a Term
         ensures { result.now ≡ self.now }
     {
         self.term
