@@ -72,6 +72,8 @@ def copy(room, names):
     for name in names:
         skipped = lambda at, inside, top=os.path.join(TOP, "crates", name): [it for it in inside if at == top and it in MADE]
         shutil.copytree(os.path.join(TOP, "crates", name), os.path.join(room, "crates", name), ignore=skipped)
+        # also where nobody may write to the crate itself
+        os.chmod(os.path.join(room, "crates", name), 0o755)
     with open(os.path.join(room, "crates.txt"), "w", encoding="utf-8") as file:
         file.write("".join(told[name] + "\n" for name in names))
     shutil.copy(os.path.join(TOP, "HANDLES"), room)
