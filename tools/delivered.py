@@ -3,9 +3,11 @@ import collections
 import hashlib
 import os
 import platform
+import re
 import shutil
 import subprocess
 import sys
+import tempfile
 
 import places
 import repository
@@ -14,6 +16,7 @@ import trial
 DIST = os.path.join(repository.TOP, "dist")
 NAME = "apigate-linux-amd64"
 SYSTEM = ("linux", "x86_64")
+SYMBOLS = re.compile(r"Name: (GLIBC_[0-9.]+) ")
 
 Record = collections.namedtuple("Record", "toolchain library program sources crates")
 
@@ -27,6 +30,16 @@ def text_of(told):
     head = ["# What %s.xz was built from; tools/release writes both." % NAME]
     rows = ["%s %s" % (name, getattr(told, name)) for name in Record._fields if name != "crates"]
     return "".join(line + "\n" for line in head + rows + ["crate %s %s" % it for it in sorted(told.crates.items())])
+
+
+def library(content):
+    """Returns the newest version of the C library's symbols that a program needs."""
+    with tempfile.NamedTemporaryFile(prefix="apigate-") as file:
+        file.write(content)
+        file.flush()
+        words = ["readelf", "--version-info", "--wide", file.name]
+        told = subprocess.run(words, env={**os.environ, "LC_ALL": "C"}, stdout=subprocess.PIPE, text=True, check=True).stdout
+    return max(SYMBOLS.findall(told), key=lambda name: [int(it) for it in name.partition("_")[2].split(".")], default="none")
 
 
 def write(folder, content, toolchain, library, sums):
