@@ -156,7 +156,7 @@ def program(sums, say):
     path, is_new = (there[0], False) if there else unpack(told, folders)
     why = trial.refusal(path)
     if why:
-        raise Unfit("the program of dist/ doesn't start here: %s" % why)
+        raise Unfit("the program of dist/, which needs %s, doesn't start here: %s" % (told.library, why))
     if is_new:
         say("this program, unpacked into %s, was built from these sources; ./apigate --build proves it here" % os.path.dirname(path))
     return path
