@@ -9,6 +9,7 @@ ghost use Rattle.go_typings.specs.Redeclarations.{IsRedeclared};
 ghost use Rattle.go_typings.specs.Refusals.{IsMissing};
 
 use crate::answer::answer;
+use crate::declarations::declarations_in;
 use crate::error::CheckError;
 use crate::lost::lost;
 use go_base::memory::NoMemory;
@@ -24,7 +25,6 @@ use go_package_scopes::laws::kept_scopes;
 use go_soundness::laws::apart_from_world;
 use go_sources::missing_imports::missing_import;
 use go_sources::redeclared::redeclared;
-use go_unit_declarations::declarations::declarations_in;
 use go_units::unit::Unit;
 use std::alloc::Global;
 

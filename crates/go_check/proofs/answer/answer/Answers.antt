@@ -1,6 +1,6 @@
 use Rattle.std.proofs.Common.{◌≡◌, ◌<◌, subst, sym}
 use Rattle.go_graphs.specs.Flags.{is_flagged}
-use Rattle.go_had_entries.specs.HadEntries.{entries_at}
+use Rattle.go_entries.specs.HadEntries.{entries_at}
 use Rattle.go_sources.specs.UnitSources.{source_of}
 use Rattle.go_typings.specs.Declarations.{declarations}
 use Rattle.go_typings.specs.Refusals.{place_of}

@@ -1,6 +1,6 @@
 use Rattle.std.proofs.Common.{◌≡◌, ℕ, zero, suc, Option, None, replicate, refl, sym, ap, ◌∙◌, subst, length}
 use Rattle.go_entries.specs.declared.entry.Entry.{Entry}
-use Rattle.go_had_entries.specs.HadEntries.{entries_at}
+use Rattle.go_entries.specs.HadEntries.{entries_at}
 use Rattle.go_package_scopes.specs.KeptScopes.{Keeps}
 use Rattle.go_sources.specs.UnitSources.{source_of}
 use Rattle.go_typings.specs.PackageEnvironments.{Entries}

@@ -2,7 +2,7 @@ use Rattle.std.proofs.Common.{ℕ, List, ap, ◌∙◌, subst, sym}
 use Rattle.go_declarations.specs.Listings.{declarations_of}
 use Rattle.go_declared.proofs.NamesInOrder.{names_listed}
 use Rattle.go_declared.specs.NameTables.{AreDeclared, entries_of, names_in, texts_of}
-use Rattle.go_had_entries.specs.HadEntries.{entries_at}
+use Rattle.go_entries.specs.HadEntries.{entries_at}
 use Rattle.go_packages.proofs.Packages.{package_of}
 use Rattle.go_packages.proofs.PlacedNames.{placed}
 use Rattle.go_packages.specs.inner.DefinedTypes.{AreDefined}
