@@ -2,8 +2,7 @@
 ghost use Rattle.std.specs.Prelude.{◌≡◌, ◌≢◌, ◌+◌, ◌++◌, ◌∷◌, ℕ, true, List as Sequence, [], Some, length, replicate, set, slice_get, IfOk, OnOk};
 ghost use Rattle.go_base.specs.Lists.{Has};
 ghost use Rattle.go_declarations.specs.Listings.{declaration_of, declarations_of};
-ghost use Rattle.go_declared.specs.MethodTables.{AreMethods};
-ghost use Rattle.go_declared.specs.NameTables.{AreDeclared};
+ghost use Rattle.go_declared.specs.PackageTables.{AreTables};
 ghost use Rattle.go_graphs.specs.Flags.{AreFlagsOf};
 ghost use Rattle.go_package_scopes.specs.KeptScopes.{IsMoved};
 ghost use Rattle.go_package_scopes.specs.PackageScopes.{IsScopeOf, at_declaration};
@@ -24,8 +23,8 @@ use crate::rows::{kind_row, leads_row};
 use go_base::list::List;
 use go_base::memory::NoMemory;
 use go_declarations::listing::Declaration;
-use go_declared::methods::DeclaredMethods;
 use go_declared::names::DeclaredNames;
+use go_declared::package::PackageTables;
 use go_graphs::flags::{flag, flags_of};
 use go_rules::env::Env;
 use go_sifting::order::DeclarationOrder;
@@ -233,27 +232,25 @@ fn follow(
 fn reach_of(
     alloc: Global,
     env: &mut Env<'_>,
-    declarations: &[Declaration<'_>],
-    names: &DeclaredNames,
-    methods: &DeclaredMethods,
+    tables: &PackageTables<'_>,
     lengths: &[List<u32>],
 ) -> Result<Reach, NoMemory>
     ensures moved { IsMoved env.old env.new }
-    ensures reach { IfOk result (HasReach names.now (tables_of (declarations_of declarations.now) methods.now) env.old (declarations_of declarations.now)) }
-    ensures reached { IfOk result (λ reach. AreReached lengths.now (length declarations.now) reach.flags.items reach.rows.items) }
+    ensures reach { IfOk result (HasReach tables.now.names.now (tables_of (declarations_of tables.now.declarations.now) tables.now.methods.now) env.old (declarations_of tables.now.declarations.now)) }
+    ensures reached { IfOk result (λ reach. AreReached lengths.now (length tables.now.declarations.now) reach.flags.items reach.rows.items) }
 {
-    let mut reach = no_reach(alloc, declarations.len())?;
+    let mut reach = no_reach(alloc, tables.declarations.len())?;
     let mut pending = numbers_in(alloc, lengths)?;
     if pending.is_empty() {
         return Ok(reach);
     }
-    let index = MethodIndex::of(alloc, declarations, methods)?;
+    let index = MethodIndex::of(alloc, tables.declarations, tables.methods)?;
     follow(
         alloc,
         env,
-        names,
+        tables.names,
         &index,
-        declarations,
+        tables.declarations,
         &mut reach,
         &mut pending,
     )?;
@@ -267,19 +264,22 @@ fn reach_of(
 pub fn order(
     alloc: Global,
     env: &mut Env<'_>,
-    declarations: &[Declaration<'_>],
-    names: &DeclaredNames,
-    methods: &DeclaredMethods,
+    tables: &PackageTables<'_>,
 ) -> Result<DeclarationOrder, NoMemory>
-    requires names { AreDeclared (declarations_of declarations.now) names.now }
-    requires methods { AreMethods (declarations_of declarations.now) methods.now }
-    ensures order { (s : Setting) (u : PackageSource) (a : Entries) → declarations_in u ≡ declarations_of declarations.now → u.path ≢ [] → IsScopeOf s u a env.old → IfOk result (λ o. IsOrderOf s u a o) }
-    ensures reached { (s : Setting) (u : PackageSource) (a : Entries) → declarations_in u ≡ declarations_of declarations.now → u.path ≢ [] → IsScopeOf s u a env.old → IfOk result (λ o. AreFlagsOf (length (declarations_in u)) (IsReached s u a) o.reached.items) }
+    requires { AreTables tables.now }
+    ensures order { (s : Setting) (u : PackageSource) (a : Entries) → declarations_in u ≡ declarations_of tables.now.declarations.now → u.path ≢ [] → IsScopeOf s u a env.old → IfOk result (λ o. IsOrderOf s u a o) }
+    ensures reached { (s : Setting) (u : PackageSource) (a : Entries) → declarations_in u ≡ declarations_of tables.now.declarations.now → u.path ≢ [] → IsScopeOf s u a env.old → IfOk result (λ o. AreFlagsOf (length (declarations_in u)) (IsReached s u a) o.reached.items) }
     ensures moved { IsMoved env.old env.new }
 {
-    let after = kind_rows(alloc, env, names, Kind::Strong, declarations)?;
-    let lengths = kind_rows(alloc, env, names, Kind::InLengths, declarations)?;
-    let reach = reach_of(alloc, env, declarations, names, methods, lengths.items())?;
+    let after = kind_rows(alloc, env, tables.names, Kind::Strong, tables.declarations)?;
+    let lengths = kind_rows(
+        alloc,
+        env,
+        tables.names,
+        Kind::InLengths,
+        tables.declarations,
+    )?;
+    let reach = reach_of(alloc, env, tables, lengths.items())?;
     Ok(DeclarationOrder {
         after,
         lengths,
