@@ -12,16 +12,15 @@ ghost use Rattle.go_model.specs.files.Trees.{IsTree};
 
 use crate::copies::verdict_at;
 use crate::found::{Found, found_on};
+use crate::trees::RunTrees;
 use api_judge::verdict::Verdict;
 use api_lines::platform_lines::PlatformLines;
 use api_worlds::error::PlatformError;
 use go_base::list::List;
 use go_base::memory::NoMemory;
 use go_base::steps::Steps;
-use go_base::text::Text;
 use go_file_choices::alike::first_alike;
 use go_model::files::platform::Platform;
-use go_model::files::tree::Tree;
 use go_outside::gate::Gate;
 use go_unit_laws::laws::alike_units;
 use std::alloc::Global;
@@ -86,22 +85,19 @@ fn add_next<G: Gate, L: Copy + Send>(
     alloc: Global,
     all: &mut Findings,
     first: usize,
-    old_tree: Option<&Tree>,
-    tree: &Tree,
-    std_tree: &Tree,
-    barred: &[Text],
+    trees: &RunTrees<'_>,
     platform: Platform,
     gate: &G,
     steps: &mut Steps<L>,
 ) -> Result<(), PlatformError>
-    requires alike { first < length all.old.features → IsFoundAlike barred.now (option_copied old_tree) tree.now std_tree.now platform (get_or all.old.features first []) (slice_get all.old.verdicts first) }
-    requires old { IsOldTree barred.now (option_copied old_tree) }
-    requires tree { IsTree tree.now }
-    requires std { IsTree std_tree.now }
-    requires named { tree.now.module ≢ [] }
-    requires barred { Has barred.now tree.now.module }
-    ensures answer { AnswersNext barred.now (option_copied old_tree.entry) tree.now std_tree.now platform all.old.features all.old.verdicts all.new.features all.new.verdicts result }
-    ensures steps { CountsAtMost barred.now (option_copied old_tree.entry) tree.now std_tree.now (platform ∷ []) steps.old steps.new }
+    requires alike { first < length all.old.features → IsFoundAlike trees.now.barred.now (option_copied trees.now.old_tree) trees.now.tree.now trees.now.std_tree.now platform (get_or all.old.features first []) (slice_get all.old.verdicts first) }
+    requires old { IsOldTree trees.now.barred.now (option_copied trees.now.old_tree) }
+    requires tree { IsTree trees.now.tree.now }
+    requires std { IsTree trees.now.std_tree.now }
+    requires named { trees.now.tree.now.module ≢ [] }
+    requires barred { Has trees.now.barred.now trees.now.tree.now.module }
+    ensures answer { AnswersNext trees.now.barred.now (option_copied trees.now.old_tree) trees.now.tree.now trees.now.std_tree.now platform all.old.features all.old.verdicts all.new.features all.new.verdicts result }
+    ensures steps { CountsAtMost trees.now.barred.now (option_copied trees.now.old_tree) trees.now.tree.now trees.now.std_tree.now (platform ∷ []) steps.old steps.new }
 {
     alike_units();
     if first < all.features.len() {
@@ -110,9 +106,7 @@ fn add_next<G: Gate, L: Copy + Send>(
             Err(NoMemory) => Err(PlatformError::NoMemory),
         };
     }
-    match found_on(
-        alloc, old_tree, tree, std_tree, barred, platform, gate, steps,
-    ) {
+    match found_on(alloc, trees, platform, gate, steps) {
         Err(error) => Err(error),
         Ok(found) => match all.push(alloc, found) {
             Ok(()) => Ok(()),
@@ -125,22 +119,19 @@ fn add_next<G: Gate, L: Copy + Send>(
 fn find_by<G: Gate, L: Copy + Send>(
     alloc: Global,
     firsts: &[usize],
-    old_tree: Option<&Tree>,
-    tree: &Tree,
-    std_tree: &Tree,
-    barred: &[Text],
+    trees: &RunTrees<'_>,
     platforms: &[Platform],
     gate: &G,
     steps: &mut Steps<L>,
 ) -> Result<Findings, PlatformError>
-    requires firsts { AreFirsts (files_of (option_copied old_tree) tree.now std_tree.now) platforms.now firsts.now }
-    requires old { IsOldTree barred.now (option_copied old_tree) }
-    requires tree { IsTree tree.now }
-    requires std { IsTree std_tree.now }
-    requires named { tree.now.module ≢ [] }
-    requires barred { Has barred.now tree.now.module }
-    ensures answer { AnswersFindings barred.now (option_copied old_tree.entry) tree.now std_tree.now platforms.now result }
-    ensures steps { CountsAtMost barred.now (option_copied old_tree.entry) tree.now std_tree.now platforms.now steps.old steps.new }
+    requires firsts { AreFirsts (files_of (option_copied trees.now.old_tree) trees.now.tree.now trees.now.std_tree.now) platforms.now firsts.now }
+    requires old { IsOldTree trees.now.barred.now (option_copied trees.now.old_tree) }
+    requires tree { IsTree trees.now.tree.now }
+    requires std { IsTree trees.now.std_tree.now }
+    requires named { trees.now.tree.now.module ≢ [] }
+    requires barred { Has trees.now.barred.now trees.now.tree.now.module }
+    ensures answer { AnswersFindings trees.now.barred.now (option_copied trees.now.old_tree) trees.now.tree.now trees.now.std_tree.now platforms.now result }
+    ensures steps { CountsAtMost trees.now.barred.now (option_copied trees.now.old_tree) trees.now.tree.now trees.now.std_tree.now platforms.now steps.old steps.new }
 {
     let features = PlatformLines::new(alloc);
     let verdicts = List::new(alloc);
@@ -150,10 +141,7 @@ fn find_by<G: Gate, L: Copy + Send>(
             alloc,
             &mut all,
             firsts[at],
-            old_tree,
-            tree,
-            std_tree,
-            barred,
+            trees,
             platforms[at],
             gate,
             steps,
@@ -166,41 +154,27 @@ fn find_by<G: Gate, L: Copy + Send>(
 }
 
 /// What is found on these platforms in the new tree over the standard library's and, where there is an old tree, in both; or `Refused`
-/// with the fault line of the first platform on which a tree is refused, the old one before the new; or `NoMemory`. The barred paths are
-/// those of the run's modules, which no package of the standard library may have. The counter rises by at most the number of the
-/// packages of both trees on all platforms together.
+/// with the fault line of the first platform on which a tree is refused, the old one before the new; or `NoMemory`. The counter rises by at
+/// most the number of the packages of both trees on all platforms together.
 pub fn find<G: Gate, L: Copy + Send>(
     alloc: Global,
-    old_tree: Option<&Tree>,
-    tree: &Tree,
-    std_tree: &Tree,
-    barred: &[Text],
+    trees: &RunTrees<'_>,
     platforms: &[Platform],
     gate: &G,
     steps: &mut Steps<L>,
 ) -> Result<Findings, PlatformError>
-    requires old { IsOldTree barred.now (option_copied old_tree) }
-    requires tree { IsTree tree.now }
-    requires std { IsTree std_tree.now }
-    requires named { tree.now.module ≢ [] }
-    requires barred { Has barred.now tree.now.module }
-    ensures answer { AnswersFindings barred.now (option_copied old_tree.entry) tree.now std_tree.now platforms.now result }
+    requires old { IsOldTree trees.now.barred.now (option_copied trees.now.old_tree) }
+    requires tree { IsTree trees.now.tree.now }
+    requires std { IsTree trees.now.std_tree.now }
+    requires named { trees.now.tree.now.module ≢ [] }
+    requires barred { Has trees.now.barred.now trees.now.tree.now.module }
+    ensures answer { AnswersFindings trees.now.barred.now (option_copied trees.now.old_tree) trees.now.tree.now trees.now.std_tree.now platforms.now result }
     ensures many { IfOk result (λ found. length found.features ≡ length platforms.now) }
     ensures plain { IfOk result (λ found. Each (Each HasNoContext) found.features) }
-    ensures steps { CountsAtMost barred.now (option_copied old_tree.entry) tree.now std_tree.now platforms.now steps.old steps.new }
+    ensures steps { CountsAtMost trees.now.barred.now (option_copied trees.now.old_tree) trees.now.tree.now trees.now.std_tree.now platforms.now steps.old steps.new }
 {
-    match first_alike(alloc, old_tree, tree, std_tree, platforms) {
+    match first_alike(alloc, trees.old_tree, trees.tree, trees.std_tree, platforms) {
         Err(NoMemory) => Err(PlatformError::NoMemory),
-        Ok(firsts) => find_by(
-            alloc,
-            firsts.items(),
-            old_tree,
-            tree,
-            std_tree,
-            barred,
-            platforms,
-            gate,
-            steps,
-        ),
+        Ok(firsts) => find_by(alloc, firsts.items(), trees, platforms, gate, steps),
     }
 }

@@ -10,17 +10,18 @@ ghost use Rattle.api_lines.specs.Lines.{IsListing};
 ghost use Rattle.go_base.specs.Lists.{Has};
 ghost use Rattle.go_model.specs.files.Trees.{IsTree};
 
+use crate::trees::RunTrees;
 use api_features::features::features;
 use api_judge::judge::judge_listed;
 use api_judge::verdict::Verdict;
 use api_lines::line::Line;
 use api_texts::lines::Side;
 use api_worlds::error::PlatformError;
+use api_worlds::trees::PlatformTrees;
 use api_worlds::world::world_on;
 use go_base::list::List;
 use go_base::memory::NoMemory;
 use go_base::steps::Steps;
-use go_base::text::Text;
 use go_model::files::platform::Platform;
 use go_model::files::tree::Tree;
 use go_model::types::world::World;
@@ -83,27 +84,27 @@ fn compared(alloc: Global, old: &World, new: &World) -> Result<Found, NoMemory>
 // What is found on a platform where there is no old tree.
 fn features_on<G: Gate, L: Copy + Send>(
     alloc: Global,
-    tree: &Tree,
-    std_tree: &Tree,
-    barred: &[Text],
+    trees: &RunTrees<'_>,
     platform: Platform,
     gate: &G,
     steps: &mut Steps<L>,
 ) -> Result<Found, PlatformError>
-    requires tree { IsTree tree.now }
-    requires std { IsTree std_tree.now }
-    requires named { tree.now.module ≢ [] }
-    requires barred { Has barred.now tree.now.module }
-    ensures answer { AnswersFound barred.now None tree.now std_tree.now platform result }
-    ensures steps { CountsAtMost barred.now None tree.now std_tree.now (platform ∷ []) steps.old steps.new }
+    requires tree { IsTree trees.now.tree.now }
+    requires std { IsTree trees.now.std_tree.now }
+    requires named { trees.now.tree.now.module ≢ [] }
+    requires barred { Has trees.now.barred.now trees.now.tree.now.module }
+    ensures answer { AnswersFound trees.now.barred.now None trees.now.tree.now trees.now.std_tree.now platform result }
+    ensures steps { CountsAtMost trees.now.barred.now None trees.now.tree.now trees.now.std_tree.now (platform ∷ []) steps.old steps.new }
 {
     match world_on(
         alloc,
         Side::New,
-        tree,
-        std_tree,
-        barred,
-        platform,
+        &PlatformTrees {
+            tree: trees.tree,
+            std_tree: trees.std_tree,
+            barred: trees.barred,
+            platform,
+        },
         gate,
         steps,
     ) {
@@ -119,29 +120,29 @@ fn features_on<G: Gate, L: Copy + Send>(
 fn verdict_on<G: Gate, L: Copy + Send>(
     alloc: Global,
     old_tree: &Tree,
-    tree: &Tree,
-    std_tree: &Tree,
-    barred: &[Text],
+    trees: &RunTrees<'_>,
     platform: Platform,
     gate: &G,
     steps: &mut Steps<L>,
 ) -> Result<Found, PlatformError>
-    requires old { IsOldTree barred.now (Some old_tree.now) }
-    requires tree { IsTree tree.now }
-    requires std { IsTree std_tree.now }
-    requires named { tree.now.module ≢ [] }
-    requires barred { Has barred.now tree.now.module }
-    ensures answer { AnswersFound barred.now (Some old_tree.now) tree.now std_tree.now platform result }
-    ensures steps { CountsAtMost barred.now (Some old_tree.now) tree.now std_tree.now (platform ∷ []) steps.old steps.new }
+    requires old { IsOldTree trees.now.barred.now (Some old_tree.now) }
+    requires tree { IsTree trees.now.tree.now }
+    requires std { IsTree trees.now.std_tree.now }
+    requires named { trees.now.tree.now.module ≢ [] }
+    requires barred { Has trees.now.barred.now trees.now.tree.now.module }
+    ensures answer { AnswersFound trees.now.barred.now (Some old_tree.now) trees.now.tree.now trees.now.std_tree.now platform result }
+    ensures steps { CountsAtMost trees.now.barred.now (Some old_tree.now) trees.now.tree.now trees.now.std_tree.now (platform ∷ []) steps.old steps.new }
 {
     same_std_packages();
     match world_on(
         alloc,
         Side::Old,
-        old_tree,
-        std_tree,
-        barred,
-        platform,
+        &PlatformTrees {
+            tree: old_tree,
+            std_tree: trees.std_tree,
+            barred: trees.barred,
+            platform,
+        },
         gate,
         steps,
     ) {
@@ -149,10 +150,12 @@ fn verdict_on<G: Gate, L: Copy + Send>(
         Ok(old) => match world_on(
             alloc,
             Side::New,
-            tree,
-            std_tree,
-            barred,
-            platform,
+            &PlatformTrees {
+                tree: trees.tree,
+                std_tree: trees.std_tree,
+                barred: trees.barred,
+                platform,
+            },
             gate,
             steps,
         ) {
@@ -168,26 +171,21 @@ fn verdict_on<G: Gate, L: Copy + Send>(
 /// What is found on a platform: what `find` says, on it alone.
 pub(crate) fn found_on<G: Gate, L: Copy + Send>(
     alloc: Global,
-    old_tree: Option<&Tree>,
-    tree: &Tree,
-    std_tree: &Tree,
-    barred: &[Text],
+    trees: &RunTrees<'_>,
     platform: Platform,
     gate: &G,
     steps: &mut Steps<L>,
 ) -> Result<Found, PlatformError>
-    requires old { IsOldTree barred.now (option_copied old_tree) }
-    requires tree { IsTree tree.now }
-    requires std { IsTree std_tree.now }
-    requires named { tree.now.module ≢ [] }
-    requires barred { Has barred.now tree.now.module }
-    ensures answer { AnswersFound barred.now (option_copied old_tree.entry) tree.now std_tree.now platform result }
-    ensures steps { CountsAtMost barred.now (option_copied old_tree.entry) tree.now std_tree.now (platform ∷ []) steps.old steps.new }
+    requires old { IsOldTree trees.now.barred.now (option_copied trees.now.old_tree) }
+    requires tree { IsTree trees.now.tree.now }
+    requires std { IsTree trees.now.std_tree.now }
+    requires named { trees.now.tree.now.module ≢ [] }
+    requires barred { Has trees.now.barred.now trees.now.tree.now.module }
+    ensures answer { AnswersFound trees.now.barred.now (option_copied trees.now.old_tree) trees.now.tree.now trees.now.std_tree.now platform result }
+    ensures steps { CountsAtMost trees.now.barred.now (option_copied trees.now.old_tree) trees.now.tree.now trees.now.std_tree.now (platform ∷ []) steps.old steps.new }
 {
-    match old_tree {
-        None => features_on(alloc, tree, std_tree, barred, platform, gate, steps),
-        Some(old_tree) => verdict_on(
-            alloc, old_tree, tree, std_tree, barred, platform, gate, steps,
-        ),
+    match trees.old_tree {
+        None => features_on(alloc, trees, platform, gate, steps),
+        Some(old_tree) => verdict_on(alloc, old_tree, trees, platform, gate, steps),
     }
 }

@@ -5,3 +5,4 @@ mod copies;
 pub mod findings;
 mod found;
 pub mod laws;
+pub mod trees;

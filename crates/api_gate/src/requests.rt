@@ -11,6 +11,7 @@ ghost use Rattle.go_model.specs.files.Trees.{IsTree};
 use crate::reports::decision::Decision;
 use crate::reports::report::report;
 use api_findings::findings::find;
+use api_findings::trees::RunTrees;
 use api_generator::make::make;
 use api_inputs::inputs::{Inputs, read_inputs};
 use api_words::request::{MadeTrees, Request};
@@ -57,10 +58,12 @@ fn on_platforms<G: Gate, L: Copy + Send>(
 {
     match find(
         alloc,
-        inputs.old_tree.as_ref(),
-        &inputs.tree,
-        &inputs.std_tree,
-        modules,
+        &RunTrees {
+            old_tree: inputs.old_tree.as_ref(),
+            tree: &inputs.tree,
+            std_tree: &inputs.std_tree,
+            barred: modules,
+        },
         request.platforms.items(),
         gate,
         steps,

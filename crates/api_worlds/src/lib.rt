@@ -3,4 +3,5 @@
 
 pub mod error;
 pub mod laws;
+pub mod trees;
 pub mod world;

@@ -7,14 +7,12 @@ ghost use Rattle.api_worlds.specs.PlatformWorlds.{AnswersWorld, CountsAtMost};
 ghost use Rattle.api_worlds.specs.inner.PlatformSteps.{AnswersOfUnits, IsPackageRefusal, IsUnitRefusal, TellsFault};
 
 use crate::error::PlatformError;
+use crate::trees::PlatformTrees;
 use api_refusals::refusals::{PackageFault, package_line, unit_line};
 use api_texts::lines::Side;
 use go_base::memory::NoMemory;
 use go_base::steps::Steps;
-use go_base::text::Text;
 use go_check::error::CheckError;
-use go_model::files::platform::Platform;
-use go_model::files::tree::Tree;
 use go_model::types::world::World;
 use go_outside::gate::Gate;
 use go_reading::laws::unit_paths;
@@ -29,16 +27,21 @@ use std::alloc::Global;
 fn refused_units(
     alloc: Global,
     side: Side,
-    platform: Platform,
-    tree: &Tree,
-    std_tree: &Tree,
+    trees: &PlatformTrees<'_>,
     error: &UnitError,
 ) -> PlatformError
-    ensures { IsUnitRefusal tree.now std_tree.now side platform error.now result }
+    ensures { IsUnitRefusal trees.now.tree.now trees.now.std_tree.now side trees.now.platform error.now result }
 {
     match error {
         UnitError::NoMemory => PlatformError::NoMemory,
-        _ => match unit_line(alloc, side, platform, tree, std_tree, error) {
+        _ => match unit_line(
+            alloc,
+            side,
+            trees.platform,
+            trees.tree,
+            trees.std_tree,
+            error,
+        ) {
             Ok(line) => PlatformError::Refused(line),
             Err(NoMemory) => PlatformError::NoMemory,
         },
@@ -59,17 +62,23 @@ fn fault_of(error: CheckError) -> Option<PackageFault>
 fn refused_package(
     alloc: Global,
     side: Side,
-    platform: Platform,
-    tree: &Tree,
-    std_tree: &Tree,
+    trees: &PlatformTrees<'_>,
     unit: &Unit,
     error: CheckError,
 ) -> PlatformError
-    ensures { IsPackageRefusal tree.now std_tree.now side platform unit.now error result }
+    ensures { IsPackageRefusal trees.now.tree.now trees.now.std_tree.now side trees.now.platform unit.now error result }
 {
     match fault_of(error) {
         None => PlatformError::NoMemory,
-        Some(fault) => match package_line(alloc, side, platform, tree, std_tree, unit, fault) {
+        Some(fault) => match package_line(
+            alloc,
+            side,
+            trees.platform,
+            trees.tree,
+            trees.std_tree,
+            unit,
+            fault,
+        ) {
             Ok(line) => PlatformError::Refused(line),
             Err(NoMemory) => PlatformError::NoMemory,
         },
@@ -79,49 +88,49 @@ fn refused_package(
 fn world_of<G: Gate, L: Copy + Send>(
     alloc: Global,
     side: Side,
-    platform: Platform,
-    tree: &Tree,
-    std_tree: &Tree,
+    trees: &PlatformTrees<'_>,
     units: Units,
     gate: &G,
     steps: &mut Steps<L>,
 ) -> Result<World, PlatformError>
     requires { AreOfPackages units.packages }
-    ensures answer { AnswersOfUnits tree.now std_tree.now side platform units result }
+    ensures answer { AnswersOfUnits trees.now.tree.now trees.now.std_tree.now side trees.now.platform units result }
     ensures steps { steps.new ≤ steps.old + length units.packages }
 {
-    match world(alloc, units, platform.int_bits(), gate, steps) {
+    match world(alloc, units, trees.platform.int_bits(), gate, steps) {
         Ok(world) => Ok(world),
         Err(WorkError::NoMemory) => Err(PlatformError::NoMemory),
         Err(WorkError::Refused(_, unit, error)) => Err(refused_package(
-            alloc, side, platform, tree, std_tree, &unit, error,
+            alloc, side, trees, &unit, error,
         )),
     }
 }
 
 /// The world of a module's tree over the standard library's on a platform, or the fault line of its first refusal: of its packages, and
-/// then of the first package in canonical order that isn't typed. The barred paths are those of the run's modules, that of this
-/// tree among them. The counter rises by at most the number of the packages.
+/// then of the first package in canonical order that isn't typed. The counter rises by at most the number of the packages.
 pub fn world_on<G: Gate, L: Copy + Send>(
     alloc: Global,
     side: Side,
-    tree: &Tree,
-    std_tree: &Tree,
-    barred: &[Text],
-    platform: Platform,
+    trees: &PlatformTrees<'_>,
     gate: &G,
     steps: &mut Steps<L>,
 ) -> Result<World, PlatformError>
-    requires tree { IsTree tree.now }
-    requires std { IsTree std_tree.now }
-    requires named { tree.now.module ≢ [] }
-    requires barred { Has barred.now tree.now.module }
-    ensures answer { AnswersWorld barred.now tree.now std_tree.now side platform result }
-    ensures steps { CountsAtMost barred.now tree.now std_tree.now platform steps.old steps.new }
+    requires tree { IsTree trees.now.tree.now }
+    requires std { IsTree trees.now.std_tree.now }
+    requires named { trees.now.tree.now.module ≢ [] }
+    requires barred { Has trees.now.barred.now trees.now.tree.now.module }
+    ensures answer { AnswersWorld trees.now.barred.now trees.now.tree.now trees.now.std_tree.now side trees.now.platform result }
+    ensures steps { CountsAtMost trees.now.barred.now trees.now.tree.now trees.now.std_tree.now trees.now.platform steps.old steps.new }
 {
     unit_paths();
-    match units(alloc, tree, std_tree, barred, platform) {
-        Err(error) => Err(refused_units(alloc, side, platform, tree, std_tree, &error)),
-        Ok(units) => world_of(alloc, side, platform, tree, std_tree, units, gate, steps),
+    match units(
+        alloc,
+        trees.tree,
+        trees.std_tree,
+        trees.barred,
+        trees.platform,
+    ) {
+        Err(error) => Err(refused_units(alloc, side, trees, &error)),
+        Ok(units) => world_of(alloc, side, trees, units, gate, steps),
     }
 }

@@ -1,3 +1,4 @@
+pub mod FilesInOrder
 pub mod ListedDeclarations
 pub mod MovedScopes
 pub mod SameSettings

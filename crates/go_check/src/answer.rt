@@ -2,10 +2,9 @@
 ghost use Rattle.std.specs.Prelude.{◌≡◌, length};
 ghost use Rattle.go_check.specs.Answers.{Answers};
 ghost use Rattle.go_declarations.specs.Listings.{declarations_of};
-ghost use Rattle.go_declared.specs.MethodTables.{AreMethods};
-ghost use Rattle.go_declared.specs.NameTables.{AreDeclared};
+ghost use Rattle.go_declared.specs.PackageTables.{AreTables};
 ghost use Rattle.go_graphs.specs.Flags.{is_flagged};
-ghost use Rattle.go_had_entries.specs.HadEntries.{entries_at};
+ghost use Rattle.go_entries.specs.HadEntries.{entries_at};
 ghost use Rattle.go_soundness.specs.Apart.{IsApart};
 ghost use Rattle.go_soundness.specs.Settled.{AreAll, AreSifted};
 ghost use Rattle.go_sources.specs.UnitSources.{source_of};
@@ -18,10 +17,8 @@ ghost use Rattle.go_typings.specs.Sources.{Setting};
 use crate::error::CheckError;
 use crate::places::place_of;
 use go_base::memory::NoMemory;
-use go_declarations::listing::Declaration;
-use go_declared::methods::DeclaredMethods;
-use go_declared::names::DeclaredNames;
-use go_had_entries::had::HadEntries;
+use go_declared::package::PackageTables;
+use go_entries::had::HadEntries;
 use go_model::types::package::Package;
 use go_packages::package::package;
 use go_sifting::first::first_flagged;
@@ -33,15 +30,12 @@ use std::alloc::Global;
 pub(crate) fn answer(
     alloc: Global,
     unit: &Unit,
-    declarations: &[Declaration<'_>],
-    names: &DeclaredNames,
-    methods: &DeclaredMethods,
+    tables: &PackageTables<'_>,
     had: &HadEntries,
     lost: &[bool],
 ) -> Result<Package, CheckError>
-    requires listed { declarations_of declarations.now ≡ all_declarations (source_of unit.now) }
-    requires names { AreDeclared (declarations_of declarations.now) names.now }
-    requires methods { AreMethods (declarations_of declarations.now) methods.now }
+    requires listed { declarations_of tables.now.declarations.now ≡ all_declarations (source_of unit.now) }
+    requires tables { AreTables tables.now }
     requires flags { length lost.now ≡ length (all_declarations (source_of unit.now)) }
     requires once { (q : Spot) → IsRedeclared (source_of unit.now) q → ⊥ }
     requires found { (q : Spot) → IsMissing (source_of unit.now) q → ⊥ }
@@ -51,8 +45,8 @@ pub(crate) fn answer(
     typed_or_first_unsound();
     typed_or_refused();
     match first_flagged(lost) {
-        Some(number) => Err(CheckError::Unsound(place_of(&declarations[number]))),
-        None => match package(alloc, unit, declarations, names, methods, had) {
+        Some(number) => Err(CheckError::Unsound(place_of(&tables.declarations[number]))),
+        None => match package(alloc, unit, tables, had) {
             Ok(package) => Ok(package),
             Err(NoMemory) => Err(CheckError::NoMemory),
         },

@@ -9,12 +9,14 @@ ghost use Rattle.go_typings.specs.Redeclarations.{IsRedeclared};
 ghost use Rattle.go_typings.specs.Refusals.{IsMissing};
 
 use crate::answer::answer;
+use crate::declarations::declarations_in;
 use crate::error::CheckError;
 use crate::lost::lost;
 use go_base::memory::NoMemory;
 use go_base::steps::Steps;
 use go_declared::methods::DeclaredMethods;
 use go_declared::names::DeclaredNames;
+use go_declared::package::PackageTables;
 use go_model::types::package::Package;
 use go_model::types::world::World;
 use go_new_scopes::scopes::new_scopes;
@@ -24,7 +26,6 @@ use go_package_scopes::laws::kept_scopes;
 use go_soundness::laws::apart_from_world;
 use go_sources::missing_imports::missing_import;
 use go_sources::redeclared::redeclared;
-use go_unit_declarations::declarations::declarations_in;
 use go_units::unit::Unit;
 use std::alloc::Global;
 
@@ -51,44 +52,16 @@ fn check_declarations(
     let names = DeclaredNames::of(alloc, declarations.items())?;
     let methods = DeclaredMethods::of(alloc, declarations.items(), &names)?;
     let hints = hints(alloc, declarations.items(), &names)?;
-    let env = new_scopes(
-        alloc,
-        imports,
-        bits,
-        profile,
-        unit,
-        declarations.items(),
-        &names,
-        &methods,
-    )?;
-    let settled = entries(
-        alloc,
-        env,
-        unit,
-        declarations.items(),
-        &names,
-        &methods,
-        &hints,
-    )?;
+    let tables = PackageTables {
+        declarations: declarations.items(),
+        names: &names,
+        methods: &methods,
+    };
+    let env = new_scopes(alloc, imports, bits, profile, unit, &tables)?;
+    let settled = entries(alloc, env, unit, &tables, &hints)?;
     let (mut env, had) = settled.into_parts();
-    let lost = lost(
-        alloc,
-        &mut env,
-        unit,
-        declarations.items(),
-        &names,
-        &methods,
-        &had,
-    )?;
-    answer(
-        alloc,
-        unit,
-        declarations.items(),
-        &names,
-        &methods,
-        &had,
-        &lost,
-    )
+    let lost = lost(alloc, &mut env, unit, &tables, &had)?;
+    answer(alloc, unit, &tables, &had, &lost)
 }
 
 /// The package as which a unit is typed over its imports, in a client of the profile or not, or the first thing for which it is refused: a name

@@ -3,6 +3,7 @@
 
 mod answer;
 pub mod check;
+pub mod declarations;
 mod entered;
 pub mod error;
 mod lost;

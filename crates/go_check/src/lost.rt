@@ -1,10 +1,9 @@
 //! Which declarations of a package are lost, where all entries are had.
 ghost use Rattle.std.specs.Prelude.{◌≡◌, ◌≢◌, [], length, IfOk};
 ghost use Rattle.go_declarations.specs.Listings.{declarations_of};
-ghost use Rattle.go_declared.specs.MethodTables.{AreMethods};
-ghost use Rattle.go_declared.specs.NameTables.{AreDeclared};
+ghost use Rattle.go_declared.specs.PackageTables.{AreTables};
 ghost use Rattle.go_graphs.specs.Flags.{AreFlagsOf, is_flagged};
-ghost use Rattle.go_had_entries.specs.HadEntries.{entries_at};
+ghost use Rattle.go_entries.specs.HadEntries.{entries_at};
 ghost use Rattle.go_package_scopes.specs.PackageScopes.{IsScopeOf};
 ghost use Rattle.go_sifting.specs.Graphs.{Stands};
 ghost use Rattle.go_soundness.specs.Settled.{AreSifted};
@@ -17,10 +16,8 @@ use crate::entered::entered;
 use go_base::memory::NoMemory;
 use go_declaration_graph::graph::graph;
 use go_declaration_graph::order::order;
-use go_declarations::listing::Declaration;
-use go_declared::methods::DeclaredMethods;
-use go_declared::names::DeclaredNames;
-use go_had_entries::had::HadEntries;
+use go_declared::package::PackageTables;
+use go_entries::had::HadEntries;
 use go_met::met::met;
 use go_rules::env::Env;
 use go_sifting::settled::{all_flagged, none_lost};
@@ -33,17 +30,14 @@ use std::alloc::Global;
 fn sifted(
     alloc: Global,
     env: &mut Env<'_>,
-    declarations: &[Declaration<'_>],
-    names: &DeclaredNames,
-    methods: &DeclaredMethods,
+    tables: &PackageTables<'_>,
     standing: &[bool],
 ) -> Result<Vec<bool>, NoMemory>
-    requires names { AreDeclared (declarations_of declarations.now) names.now }
-    requires methods { AreMethods (declarations_of declarations.now) methods.now }
-    ensures { (s : Setting) (u : PackageSource) (a : Entries) → all_declarations u ≡ declarations_of declarations.now → u.path ≢ [] → IsScopeOf s u a env.old
+    requires { AreTables tables.now }
+    ensures { (s : Setting) (u : PackageSource) (a : Entries) → all_declarations u ≡ declarations_of tables.now.declarations.now → u.path ≢ [] → IsScopeOf s u a env.old
         → AreFlagsOf (length (all_declarations u)) (Stands s u a) standing.now → IfOk result (λ lost. (length lost.items ≡ length (all_declarations u)) × AreSifted s u a (is_flagged lost.items)) }
 {
-    let graph = graph(alloc, env, declarations, names, methods)?;
+    let graph = graph(alloc, env, tables)?;
     sift(alloc, &graph, standing)
 }
 
@@ -51,23 +45,20 @@ fn sifted(
 fn lost_of(
     alloc: Global,
     env: &mut Env<'_>,
-    declarations: &[Declaration<'_>],
-    names: &DeclaredNames,
-    methods: &DeclaredMethods,
+    tables: &PackageTables<'_>,
     standing: &[bool],
 ) -> Result<Vec<bool>, NoMemory>
-    requires names { AreDeclared (declarations_of declarations.now) names.now }
-    requires methods { AreMethods (declarations_of declarations.now) methods.now }
-    ensures { (s : Setting) (u : PackageSource) (a : Entries) → all_declarations u ≡ declarations_of declarations.now → u.path ≢ [] → IsScopeOf s u a env.old
+    requires { AreTables tables.now }
+    ensures { (s : Setting) (u : PackageSource) (a : Entries) → all_declarations u ≡ declarations_of tables.now.declarations.now → u.path ≢ [] → IsScopeOf s u a env.old
         → AreFlagsOf (length (all_declarations u)) (Stands s u a) standing.now → IfOk result (λ lost. (length lost.items ≡ length (all_declarations u)) × AreSifted s u a (is_flagged lost.items)) }
 {
     if !all_flagged(standing) {
-        return sifted(alloc, env, declarations, names, methods, standing);
+        return sifted(alloc, env, tables, standing);
     }
-    let order = order(alloc, env, declarations, names, methods)?;
+    let order = order(alloc, env, tables)?;
     match none_lost(alloc, &order, standing)? {
         Some(lost) => Ok(lost),
-        None => sifted(alloc, env, declarations, names, methods, standing),
+        None => sifted(alloc, env, tables, standing),
     }
 }
 
@@ -76,21 +67,18 @@ pub(crate) fn lost(
     alloc: Global,
     env: &mut Env<'_>,
     unit: &Unit,
-    declarations: &[Declaration<'_>],
-    names: &DeclaredNames,
-    methods: &DeclaredMethods,
+    tables: &PackageTables<'_>,
     had: &HadEntries,
 ) -> Result<Vec<bool>, NoMemory>
-    requires listed { declarations_of declarations.now ≡ all_declarations (source_of unit.now) }
-    requires names { AreDeclared (declarations_of declarations.now) names.now }
-    requires methods { AreMethods (declarations_of declarations.now) methods.now }
-    requires count { length had.now ≡ length declarations.now }
+    requires listed { declarations_of tables.now.declarations.now ≡ all_declarations (source_of unit.now) }
+    requires tables { AreTables tables.now }
+    requires count { length had.now ≡ length tables.now.declarations.now }
     requires pathed { unit.now.path ≢ [] }
     ensures { (s : Setting) → IsScopeOf s (source_of unit.now) (entries_at had.now) env.old
         → IfOk result (λ lost. (length lost.items ≡ length (all_declarations (source_of unit.now))) × AreSifted s (source_of unit.now) (entries_at had.now) (is_flagged lost.items)) }
 {
-    let met = met(alloc, env, unit.name.bytes(), declarations, names, methods)?;
+    let met = met(alloc, env, unit.name.bytes(), tables)?;
     let entered = entered(alloc, had)?;
     let standing = standing(alloc, &entered, &met)?;
-    lost_of(alloc, env, declarations, names, methods, &standing)
+    lost_of(alloc, env, tables, &standing)
 }

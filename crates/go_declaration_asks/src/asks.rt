@@ -12,11 +12,10 @@ ghost use Rattle.go_typings.specs.Sources.{PackageSource};
 
 use crate::base::Base;
 use crate::forms::form_meets;
-use crate::nodes::push_nodes;
 use go_asks::meets::meet;
 use go_base::memory::NoMemory;
 use go_declarations::form::Form;
-use go_nodes::trees::Trees;
+use go_nodes::declarations::trees_of;
 use go_usability::context::Context;
 use std::alloc::Global;
 
@@ -24,8 +23,7 @@ use std::alloc::Global;
 fn nodes_meet(context: &Context<'_>, alloc: Global, form: Form<'_>) -> Result<bool, NoMemory>
     ensures { IfOk result (λ answer. Decides answer (Each (Meets (env_in context.now)) (nodes (form_of form.entry)))) }
 {
-    let mut trees = Trees::new(alloc);
-    push_nodes(&mut trees, form)?;
+    let trees = trees_of(alloc, form)?;
     let met = meet(context, alloc, trees)?;
     Ok(met)
 }

@@ -5,6 +5,5 @@ pub mod asks;
 pub mod base;
 mod forms;
 mod methods;
-mod nodes;
 mod reserved;
 mod values;

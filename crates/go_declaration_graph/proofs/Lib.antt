@@ -5,4 +5,6 @@ pub mod GraphRows
 pub mod Mapped
 pub mod NamedNumbers
 pub mod OrderRows
+pub mod PendingNumbers
+pub mod ReachedDeclarations
 pub mod TypeMethods

@@ -4,4 +4,5 @@ pub mod Lengths
 pub mod MethodNumbers
 pub mod NamedNumbers
 pub mod Orders
+pub mod Reaching
 pub mod Rows

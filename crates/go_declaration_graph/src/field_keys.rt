@@ -6,11 +6,11 @@ ghost use Rattle.go_leads.specs.inner.Some.{SomeIn};
 ghost use Rattle.go_rules.specs.Scopes.{env_of};
 ghost use Rattle.go_declaration_graph.specs.inner.FieldKeys.{AreFieldKeys, IsKeyOf, KeysField, is_among, key_of};
 
-use crate::trees::trees;
 use go_base::memory::NoMemory;
 use go_base::text::Text;
 use go_declarations::form::Form;
 use go_leads::keys::field_keys as keys_in;
+use go_nodes::declarations::trees_of;
 use go_nodes::tree::Tree;
 use go_rules::env::Env;
 use go_syntax::name::Name;
@@ -87,7 +87,7 @@ pub(crate) fn field_keys(
     ensures { IfOk result (λ keys. AreFieldKeys (env_of env.now) (form_of form.entry) keys.keys) }
 {
     let mut keys = BTreeSet::new(alloc);
-    let each = trees(alloc, form)?;
+    let each = trees_of(alloc, form)?;
     add_in_each(env, alloc, each.items(), &mut keys)?;
     Ok(keys)
 }

@@ -1,8 +1,7 @@
 //! The graph of a package's declarations.
 ghost use Rattle.std.specs.Prelude.{◌≡◌, ◌≢◌, ◌+◌, [], length, IfOk, OnOk};
 ghost use Rattle.go_declarations.specs.Listings.{declaration_of, declarations_of};
-ghost use Rattle.go_declared.specs.MethodTables.{AreMethods};
-ghost use Rattle.go_declared.specs.NameTables.{AreDeclared};
+ghost use Rattle.go_declared.specs.PackageTables.{AreTables};
 ghost use Rattle.go_package_scopes.specs.KeptScopes.{IsMoved};
 ghost use Rattle.go_package_scopes.specs.PackageScopes.{IsScopeOf, at_declaration};
 ghost use Rattle.go_rules.specs.Scopes.{env_of};
@@ -20,6 +19,7 @@ use go_base::memory::NoMemory;
 use go_declarations::listing::Declaration;
 use go_declared::methods::DeclaredMethods;
 use go_declared::names::DeclaredNames;
+use go_declared::package::PackageTables;
 use go_rules::env::Env;
 use go_sifting::graph::DeclarationGraph;
 use std::alloc::Global;
@@ -102,15 +102,19 @@ fn add_declarations(
 pub fn graph(
     alloc: Global,
     env: &mut Env<'_>,
-    declarations: &[Declaration<'_>],
-    names: &DeclaredNames,
-    methods: &DeclaredMethods,
+    tables: &PackageTables<'_>,
 ) -> Result<DeclarationGraph, NoMemory>
-    requires names { AreDeclared (declarations_of declarations.now) names.now }
-    requires methods { AreMethods (declarations_of declarations.now) methods.now }
-    ensures graph { (s : Setting) (u : PackageSource) (a : Entries) → declarations_in u ≡ declarations_of declarations.now → u.path ≢ [] → IsScopeOf s u a env.old → IfOk result (λ g. IsGraphOf s u a g) }
+    requires { AreTables tables.now }
+    ensures graph { (s : Setting) (u : PackageSource) (a : Entries) → declarations_in u ≡ declarations_of tables.now.declarations.now → u.path ≢ [] → IsScopeOf s u a env.old → IfOk result (λ g. IsGraphOf s u a g) }
     ensures moved { IsMoved env.old env.new }
 {
-    let index = MethodIndex::of(alloc, declarations, methods)?;
-    add_declarations(alloc, env, names, methods, &index, declarations)
+    let index = MethodIndex::of(alloc, tables.declarations, tables.methods)?;
+    add_declarations(
+        alloc,
+        env,
+        tables.names,
+        tables.methods,
+        &index,
+        tables.declarations,
+    )
 }

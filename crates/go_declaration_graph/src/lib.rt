@@ -12,4 +12,3 @@ mod numbers;
 pub mod order;
 mod references;
 mod rows;
-mod trees;

@@ -1,19 +1,19 @@
 //! What mostly tells by itself that no declaration of a package is lost.
-ghost use Rattle.std.specs.Prelude.{◌≡◌, ◌≢◌, ◌++◌, ◌∷◌, ℕ, true, List as Sequence, [], length, replicate, set, IfOk, OnOk};
+ghost use Rattle.std.specs.Prelude.{◌≡◌, ◌≢◌, ◌+◌, ◌++◌, ◌∷◌, ℕ, true, List as Sequence, [], Some, length, replicate, set, slice_get, IfOk, OnOk};
 ghost use Rattle.go_base.specs.Lists.{Has};
 ghost use Rattle.go_declarations.specs.Listings.{declaration_of, declarations_of};
-ghost use Rattle.go_declared.specs.MethodTables.{AreMethods};
-ghost use Rattle.go_declared.specs.NameTables.{AreDeclared};
+ghost use Rattle.go_declared.specs.PackageTables.{AreTables};
 ghost use Rattle.go_graphs.specs.Flags.{AreFlagsOf};
 ghost use Rattle.go_package_scopes.specs.KeptScopes.{IsMoved};
 ghost use Rattle.go_package_scopes.specs.PackageScopes.{IsScopeOf, at_declaration};
 ghost use Rattle.go_rules.specs.Scopes.{Scopes, env_of};
-ghost use Rattle.go_sifting.specs.Orders.{IsOrderOf};
+ghost use Rattle.go_sifting.specs.Orders.{IsOrderOf, IsReached};
 ghost use Rattle.go_typings.specs.Declarations.{declarations as declarations_in};
 ghost use Rattle.go_typings.specs.PackageEnvironments.{Entries};
 ghost use Rattle.go_typings.specs.Sources.{PackageSource, Setting};
 ghost use Rattle.go_declaration_graph.specs.inner.MethodNumbers.{tables_of};
 ghost use Rattle.go_declaration_graph.specs.inner.Orders.{HasReach, IsKindRow};
+ghost use Rattle.go_declaration_graph.specs.inner.Reaching.{ArePending, AreReached, numbers_in};
 ghost use Rattle.go_declaration_graph.specs.inner.Rows.{HasRowsOf, LeadsIn};
 
 use crate::graph::turn_to;
@@ -23,8 +23,8 @@ use crate::rows::{kind_row, leads_row};
 use go_base::list::List;
 use go_base::memory::NoMemory;
 use go_declarations::listing::Declaration;
-use go_declared::methods::DeclaredMethods;
 use go_declared::names::DeclaredNames;
+use go_declared::package::PackageTables;
 use go_graphs::flags::{flag, flags_of};
 use go_rules::env::Env;
 use go_sifting::order::DeclarationOrder;
@@ -93,7 +93,9 @@ fn no_reach(alloc: Global, count: usize) -> Result<Reach, NoMemory>
     Ok(Reach { rows, flags })
 }
 
-fn push_all(pending: &mut Vec<u32>, numbers: &[u32]) -> Result<(), NoMemory> {
+fn push_all(pending: &mut Vec<u32>, numbers: &[u32]) -> Result<(), NoMemory>
+    ensures { OnOk result (pending.new.items ≡ pending.old.items ++ numbers.now) }
+{
     for number in numbers {
         pending.push(*number)?;
     }
@@ -101,7 +103,9 @@ fn push_all(pending: &mut Vec<u32>, numbers: &[u32]) -> Result<(), NoMemory> {
 }
 
 // The numbers in these rows.
-fn numbers_in(alloc: Global, rows: &[List<u32>]) -> Result<Vec<u32>, NoMemory> {
+fn numbers_in(alloc: Global, rows: &[List<u32>]) -> Result<Vec<u32>, NoMemory>
+    ensures { IfOk result (λ numbers. numbers.items ≡ numbers_in rows.now) }
+{
     let mut numbers = Vec::new(alloc);
     for row in rows {
         push_all(&mut numbers, row.items())?;
@@ -109,7 +113,9 @@ fn numbers_in(alloc: Global, rows: &[List<u32>]) -> Result<Vec<u32>, NoMemory> {
     Ok(numbers)
 }
 
-fn number_at(numbers: &Vec<u32>, place: usize) -> Option<usize> {
+fn number_at(numbers: &Vec<u32>, place: usize) -> Option<usize>
+    ensures { result ≡ slice_get numbers.now.items place }
+{
     match numbers.get(place) {
         None => None,
         Some(number) => Some(*number as usize),
@@ -145,7 +151,7 @@ fn tell(
 ) -> Result<(), NoMemory>
     ensures moved { env.new ≡ at_declaration env.old (declaration_of declaration.now) }
     ensures flags { OnOk result (reach.new.flags.items ≡ set reach.old.flags.items number true) }
-    ensures row { OnOk result ((r : Sequence ℕ) × (reach.new.rows.items ≡ set reach.old.rows.items number r) × LeadsIn names.now index.now.tables (env_of (at_declaration env.old (declaration_of declaration.now))) (declaration_of declaration.now).form r) }
+    ensures row { OnOk result ((r : Sequence ℕ) × (reach.new.rows.items ≡ set reach.old.rows.items number r) × (pending.new.items ≡ pending.old.items ++ r) × LeadsIn names.now index.now.tables (env_of (at_declaration env.old (declaration_of declaration.now))) (declaration_of declaration.now).form r) }
 {
     turn_to(env, declaration);
     let row = leads_row(env, alloc, names, index, declaration.form)?;
@@ -168,6 +174,7 @@ fn visit(
 ) -> Result<(), NoMemory>
     ensures moved { IsMoved env.old env.new }
     ensures reach { OnOk result ((c : Scopes) → IsMoved c env.old → HasReach names.now index.now.tables c (declarations_of declarations.now) reach.old → HasReach names.now index.now.tables c (declarations_of declarations.now) reach.new) }
+    ensures pending { OnOk result ((starts : Sequence (Sequence ℕ)) (at : ℕ) → slice_get pending.old.items at ≡ Some number → ArePending starts (length declarations.now) pending.old.items at reach.old.flags.items reach.old.rows.items → ArePending starts (length declarations.now) pending.new.items (at + 1) reach.new.flags.items reach.new.rows.items) }
 {
     if flag(&reach.flags, number) {
         return Ok(());
@@ -201,6 +208,7 @@ fn follow(
 ) -> Result<(), NoMemory>
     ensures moved { IsMoved env.old env.new }
     ensures reach { OnOk result (HasReach names.now index.now.tables env.old (declarations_of declarations.now) reach.old → HasReach names.now index.now.tables env.old (declarations_of declarations.now) reach.new) }
+    ensures reached { OnOk result ((starts : Sequence (Sequence ℕ)) → ArePending starts (length declarations.now) pending.old.items 0 reach.old.flags.items reach.old.rows.items → AreReached starts (length declarations.now) reach.new.flags.items reach.new.rows.items) }
 {
     for at in 0..usize::MAX {
         match number_at(pending, at) {
@@ -217,33 +225,32 @@ fn follow(
             )?,
         }
     }
-    Ok(())
+    Err(NoMemory)
 }
 
 // The steps from the declarations that are named in lengths, and from those to which these lead.
 fn reach_of(
     alloc: Global,
     env: &mut Env<'_>,
-    declarations: &[Declaration<'_>],
-    names: &DeclaredNames,
-    methods: &DeclaredMethods,
+    tables: &PackageTables<'_>,
     lengths: &[List<u32>],
 ) -> Result<Reach, NoMemory>
     ensures moved { IsMoved env.old env.new }
-    ensures reach { IfOk result (HasReach names.now (tables_of (declarations_of declarations.now) methods.now) env.old (declarations_of declarations.now)) }
+    ensures reach { IfOk result (HasReach tables.now.names.now (tables_of (declarations_of tables.now.declarations.now) tables.now.methods.now) env.old (declarations_of tables.now.declarations.now)) }
+    ensures reached { IfOk result (λ reach. AreReached lengths.now (length tables.now.declarations.now) reach.flags.items reach.rows.items) }
 {
-    let mut reach = no_reach(alloc, declarations.len())?;
+    let mut reach = no_reach(alloc, tables.declarations.len())?;
     let mut pending = numbers_in(alloc, lengths)?;
     if pending.is_empty() {
         return Ok(reach);
     }
-    let index = MethodIndex::of(alloc, declarations, methods)?;
+    let index = MethodIndex::of(alloc, tables.declarations, tables.methods)?;
     follow(
         alloc,
         env,
-        names,
+        tables.names,
         &index,
-        declarations,
+        tables.declarations,
         &mut reach,
         &mut pending,
     )?;
@@ -257,18 +264,22 @@ fn reach_of(
 pub fn order(
     alloc: Global,
     env: &mut Env<'_>,
-    declarations: &[Declaration<'_>],
-    names: &DeclaredNames,
-    methods: &DeclaredMethods,
+    tables: &PackageTables<'_>,
 ) -> Result<DeclarationOrder, NoMemory>
-    requires names { AreDeclared (declarations_of declarations.now) names.now }
-    requires methods { AreMethods (declarations_of declarations.now) methods.now }
-    ensures order { (s : Setting) (u : PackageSource) (a : Entries) → declarations_in u ≡ declarations_of declarations.now → u.path ≢ [] → IsScopeOf s u a env.old → IfOk result (λ o. IsOrderOf s u a o) }
+    requires { AreTables tables.now }
+    ensures order { (s : Setting) (u : PackageSource) (a : Entries) → declarations_in u ≡ declarations_of tables.now.declarations.now → u.path ≢ [] → IsScopeOf s u a env.old → IfOk result (λ o. IsOrderOf s u a o) }
+    ensures reached { (s : Setting) (u : PackageSource) (a : Entries) → declarations_in u ≡ declarations_of tables.now.declarations.now → u.path ≢ [] → IsScopeOf s u a env.old → IfOk result (λ o. AreFlagsOf (length (declarations_in u)) (IsReached s u a) o.reached.items) }
     ensures moved { IsMoved env.old env.new }
 {
-    let after = kind_rows(alloc, env, names, Kind::Strong, declarations)?;
-    let lengths = kind_rows(alloc, env, names, Kind::InLengths, declarations)?;
-    let reach = reach_of(alloc, env, declarations, names, methods, lengths.items())?;
+    let after = kind_rows(alloc, env, tables.names, Kind::Strong, tables.declarations)?;
+    let lengths = kind_rows(
+        alloc,
+        env,
+        tables.names,
+        Kind::InLengths,
+        tables.declarations,
+    )?;
+    let reach = reach_of(alloc, env, tables, lengths.items())?;
     Ok(DeclarationOrder {
         after,
         lengths,

@@ -11,12 +11,12 @@ use crate::found::push_found_in_each;
 use crate::method_index::MethodIndex;
 use crate::named::{push_all_named, push_own_methods};
 use crate::references::{Kind, all_references, picked_references};
-use crate::trees::trees;
 use go_base::list::List;
 use go_base::memory::NoMemory;
 use go_declarations::form::Form;
 use go_declared::methods::DeclaredMethods;
 use go_declared::names::DeclaredNames;
+use go_nodes::declarations::trees_of;
 use go_references::references::Reference;
 use go_rules::env::Env;
 use std::alloc::Global;
@@ -60,7 +60,7 @@ fn leads_by(
     ensures { IfOk result (LeadsIn names.now index.now.tables (env_of env.now) (form_of form.entry)) }
 {
     let mut row = counted_row(env, alloc, names, form, references)?;
-    let each = trees(alloc, form)?;
+    let each = trees_of(alloc, form)?;
     push_found_in_each(env, alloc, &mut row, names, index, each.items())?;
     Ok(row)
 }

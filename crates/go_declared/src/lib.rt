@@ -7,4 +7,5 @@ mod headed;
 pub mod methods;
 pub mod names;
 pub mod namesakes;
+pub mod package;
 pub mod receivers;

@@ -7,3 +7,4 @@ pub mod VariableSpecs
 pub mod DefinedTypes
 pub mod Signatures
 pub mod GivenEntries
+pub mod PutEntries

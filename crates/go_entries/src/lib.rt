@@ -6,6 +6,7 @@ mod constants;
 pub mod entry;
 mod functions;
 pub mod given;
+pub mod had;
 pub mod initializers;
 mod several;
 mod types;

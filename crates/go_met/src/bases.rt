@@ -3,8 +3,7 @@ ghost use Rattle.std.specs.Prelude.{◌≡◌, None, Some, set, replicate, IfOk,
 ghost use Rattle.go_base.specs.Lists.{Has};
 ghost use Rattle.go_declarations.specs.Forms.{form_of};
 ghost use Rattle.go_declarations.specs.Listings.{declarations_of};
-ghost use Rattle.go_declared.specs.MethodTables.{AreMethods};
-ghost use Rattle.go_declared.specs.NameTables.{AreDeclared};
+ghost use Rattle.go_declared.specs.PackageTables.{AreTables};
 ghost use Rattle.go_met.specs.inner.ToldBases.{IsAlone, TellBases, TellsForm, TellsRows, TellsType, told_at};
 ghost use Rattle.go_selectors.specs.Answers.{Decides};
 
@@ -16,6 +15,7 @@ use go_declarations::form::Form;
 use go_declarations::listing::Declaration;
 use go_declared::methods::{DeclaredMethods, MethodRow, method_name};
 use go_declared::names::DeclaredNames;
+use go_declared::package::PackageTables;
 use go_rules::blank::is_blank;
 use std::alloc::Global;
 use std::collections::BTreeSet;
@@ -118,18 +118,23 @@ pub(crate) fn told_at<'a>(told: &[Option<Base<'a>>], number: usize) -> Option<Ba
 /// Tells of each method its base type, and whether no other method of that has its name.
 pub(crate) fn bases<'a>(
     alloc: Global,
-    declarations: &[Declaration<'a>],
-    names: &DeclaredNames,
-    methods: &DeclaredMethods,
+    tables: &PackageTables<'a>,
 ) -> Result<Vec<Option<Base<'a>>>, NoMemory>
-    requires names { AreDeclared (declarations_of declarations.now) names.now }
-    requires methods { AreMethods (declarations_of declarations.now) methods.now }
-    ensures { IfOk result (λ told. TellBases (declarations_of declarations.now) told.items) }
+    requires { AreTables tables.now }
+    ensures { IfOk result (λ told. TellBases (declarations_of tables.now.declarations.now) told.items) }
 {
-    let mut told = no_bases(alloc, declarations.len())?;
-    for number in 0..declarations.len() {
-        let form = declarations[number].form;
-        tell_form(alloc, &mut told, declarations, names, methods, number, form)?;
+    let mut told = no_bases(alloc, tables.declarations.len())?;
+    for number in 0..tables.declarations.len() {
+        let form = tables.declarations[number].form;
+        tell_form(
+            alloc,
+            &mut told,
+            tables.declarations,
+            tables.names,
+            tables.methods,
+            number,
+            form,
+        )?;
     }
     Ok(told)
 }

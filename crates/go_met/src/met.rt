@@ -3,8 +3,7 @@ ghost use Rattle.std.specs.Prelude.{◌≡◌, ◌≢◌, ℕ, [], length, IfOk}
 ghost use Rattle.go_declaration_asks.specs.Bases.{TellsBase};
 ghost use Rattle.go_declarations.specs.Forms.{form_of};
 ghost use Rattle.go_declarations.specs.Listings.{declaration_of, declarations_of};
-ghost use Rattle.go_declared.specs.MethodTables.{AreMethods};
-ghost use Rattle.go_declared.specs.NameTables.{AreDeclared};
+ghost use Rattle.go_declared.specs.PackageTables.{AreTables};
 ghost use Rattle.go_graphs.specs.Flags.{AreFlagsOf};
 ghost use Rattle.go_met.specs.inner.MetAsks.{AreMetThere};
 ghost use Rattle.go_met.specs.inner.ToldBases.{TellBases};
@@ -24,8 +23,7 @@ use go_base::memory::NoMemory;
 use go_declaration_asks::asks::asks;
 use go_declaration_asks::base::Base;
 use go_declarations::listing::Declaration;
-use go_declared::methods::DeclaredMethods;
-use go_declared::names::DeclaredNames;
+use go_declared::package::PackageTables;
 use go_model::types::package::Defined;
 use go_package_scopes::laws::same_answers;
 use go_rules::env::Env;
@@ -89,17 +87,14 @@ pub fn met(
     alloc: Global,
     env: &mut Env<'_>,
     package_name: &[u8],
-    declarations: &[Declaration<'_>],
-    names: &DeclaredNames,
-    methods: &DeclaredMethods,
+    tables: &PackageTables<'_>,
 ) -> Result<Vec<bool>, NoMemory>
-    requires names { AreDeclared (declarations_of declarations.now) names.now }
-    requires methods { AreMethods (declarations_of declarations.now) methods.now }
-    ensures met { (s : Setting) (u : PackageSource) (a : Entries) → declared.declarations u ≡ declarations_of declarations.now → u.name ≡ package_name.now → u.path ≢ [] → IsScopeOf s u a env.old → IfOk result (λ flags. AreFlagsOf (length (declared.declarations u)) (MeetsAsks s u a) flags.items) }
+    requires { AreTables tables.now }
+    ensures met { (s : Setting) (u : PackageSource) (a : Entries) → declared.declarations u ≡ declarations_of tables.now.declarations.now → u.name ≡ package_name.now → u.path ≢ [] → IsScopeOf s u a env.old → IfOk result (λ flags. AreFlagsOf (length (declared.declarations u)) (MeetsAsks s u a) flags.items) }
     ensures moved { IsMoved env.old env.new }
 {
     same_answers();
-    let told = match bases(alloc, declarations, names, methods) {
+    let told = match bases(alloc, tables) {
         Ok(told) => told,
         Err(error) => return Err(error),
     };
@@ -107,5 +102,5 @@ pub fn met(
         Ok(error) => error,
         Err(fault) => return Err(fault),
     };
-    are_met(env, alloc, &error, package_name, &told, declarations)
+    are_met(env, alloc, &error, package_name, &told, tables.declarations)
 }

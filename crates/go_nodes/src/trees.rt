@@ -39,6 +39,13 @@ impl<'a> Trees<'a> {
         Ok(())
     }
 
+    /// The trees, in order.
+    pub fn items(&self) -> &[Tree<'a>]
+        ensures { map node_of result.now ≡ nodes_in self.now }
+    {
+        &self.items
+    }
+
     /// Takes the last tree; None where there is none.
     pub fn pop(&mut self) -> Option<Tree<'a>>
         ensures { Pops (nodes_in self.old) (nodes_in self.new) result }
@@ -49,7 +56,8 @@ impl<'a> Trees<'a> {
 
 // Lists of trees.
 impl<'a> Trees<'a> {
-    fn push_exprs(&mut self, exprs: &'a [Expr]) -> Result<(), NoMemory>
+    /// Adds these expressions.
+    pub(crate) fn push_exprs(&mut self, exprs: &'a [Expr]) -> Result<(), NoMemory>
         ensures { OnOk result (nodes_in self.new ≡ nodes_in self.old ++ map expression exprs.now) }
     {
         for expr in exprs {

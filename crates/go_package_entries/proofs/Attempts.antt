@@ -8,7 +8,7 @@ use Rattle.go_declarations.specs.declared.listing.Declaration.{Declaration as Bo
 use Rattle.go_entries.specs.Entries.{entry_of}
 use Rattle.go_entries.specs.declared.entry.Entry.{Entry as Had}
 use Rattle.go_entries.specs.declared.entry.Entry.TheVariants as had
-use Rattle.go_had_entries.specs.HadEntries.{entries_at, found_entry, given as had_given}
+use Rattle.go_entries.specs.HadEntries.{entries_at, found_entry, given as had_given}
 use Rattle.go_package_scopes.proofs.OneMoreEntry.{entry_here, entry_elsewhere, itself, same_number}
 use Rattle.go_package_scopes.proofs.SameEnvironments.{given_there}
 use Rattle.go_package_scopes.proofs.ScopesOf.{scope_of}

@@ -6,7 +6,7 @@ use Rattle.go_declared.specs.MethodTables.{AreMethods}
 use Rattle.go_declared.specs.NameTables.{AreDeclared}
 use Rattle.go_declared.specs.NamesakeTables.{AreNamesakes}
 use Rattle.go_entries.specs.Entries.{entry_of}
-use Rattle.go_had_entries.specs.HadEntries.{entries_at}
+use Rattle.go_entries.specs.HadEntries.{entries_at}
 use Rattle.go_model.specs.declared.types.package.Entity.{Entity}
 use Rattle.go_package_scopes.specs.KeptScopes.{Keeps, with_entry}
 use Rattle.go_rules.specs.Names.{items_at, value_at}

@@ -7,7 +7,7 @@ use Rattle.go_declared.specs.MethodTables.{AreMethods}
 use Rattle.go_declared.specs.NameTables.{AreDeclared}
 use Rattle.go_declared.specs.NamesakeTables.{AreNamesakes}
 use Rattle.go_entries.specs.declared.entry.Entry.{Entry}
-use Rattle.go_had_entries.specs.HadEntries.{entries_at}
+use Rattle.go_entries.specs.HadEntries.{entries_at}
 use Rattle.go_model.specs.types.Terms.{error_type}
 use Rattle.go_package_entries.specs.declared.giver.PackageEntries.{PackageEntries}
 use Rattle.go_package_scopes.specs.KeptScopes.{Keeps}

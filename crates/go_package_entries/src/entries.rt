@@ -1,9 +1,8 @@
 //! All entries that the declarations of a package have.
 ghost use Rattle.std.specs.Prelude.{◌≡◌, ◌≢◌, [], length, IfOk};
 ghost use Rattle.go_declarations.specs.Listings.{declarations_of};
-ghost use Rattle.go_declared.specs.MethodTables.{AreMethods};
-ghost use Rattle.go_declared.specs.NameTables.{AreDeclared};
-ghost use Rattle.go_had_entries.specs.HadEntries.{entries_at};
+ghost use Rattle.go_declared.specs.PackageTables.{AreTables};
+ghost use Rattle.go_entries.specs.HadEntries.{entries_at};
 ghost use Rattle.go_package_scopes.specs.KeptScopes.{Keeps};
 ghost use Rattle.go_settling.specs.Settling.{no_entries};
 ghost use Rattle.go_soundness.specs.Settled.{AreAll};
@@ -15,12 +14,10 @@ ghost use Rattle.go_package_entries.specs.Settings.{setting_of};
 use crate::giver::PackageEntries;
 use crate::tables::Tables;
 use go_base::memory::NoMemory;
-use go_declarations::listing::Declaration;
 use go_declared::aliases::alias_ends;
-use go_declared::methods::DeclaredMethods;
-use go_declared::names::DeclaredNames;
 use go_declared::namesakes::Namesakes;
-use go_had_entries::had::HadEntries;
+use go_declared::package::PackageTables;
+use go_entries::had::HadEntries;
 use go_rules::env::Env;
 use go_selectors::lookup::error_type;
 use go_settling::laws::nothing_had;
@@ -33,23 +30,20 @@ fn nothing_of<'w, 'a>(
     alloc: Global,
     env: Env<'w>,
     unit: &'a Unit,
-    declarations: &'a [Declaration<'a>],
-    names: &'a DeclaredNames,
-    methods: &'a DeclaredMethods,
+    tables: &PackageTables<'a>,
 ) -> Result<PackageEntries<'w, 'a>, NoMemory>
     requires kept { Keeps (setting_of env) (source_of unit.now) no_entries env }
-    requires listed { declared_in (source_of unit.now) ≡ declarations_of declarations.now }
-    requires names { AreDeclared (declarations_of declarations.now) names.now }
-    requires methods { AreMethods (declarations_of declarations.now) methods.now }
+    requires listed { declared_in (source_of unit.now) ≡ declarations_of tables.now.declarations.now }
+    requires tables { AreTables tables.now }
     requires pathed { unit.now.path ≢ [] }
     ensures kept { IfOk result IsKept }
     ensures none { IfOk result (λ p. entries_in p ≡ no_entries) }
     ensures setting { IfOk result (λ p. setting_in p ≡ setting_of env.entry) }
     ensures source { IfOk result (λ p. source_in p ≡ source_of unit.now) }
 {
-    let ends = alias_ends(alloc, declarations, names)?;
-    let namesakes = Namesakes::of(alloc, declarations, names)?;
-    let had = HadEntries::new(alloc, declarations.len())?;
+    let ends = alias_ends(alloc, tables.declarations, tables.names)?;
+    let namesakes = Namesakes::of(alloc, tables.declarations, tables.names)?;
+    let had = HadEntries::new(alloc, tables.declarations.len())?;
     let error = error_type(alloc)?;
     Ok(PackageEntries {
         alloc,
@@ -57,10 +51,10 @@ fn nothing_of<'w, 'a>(
         error,
         unit,
         tables: Tables {
-            declarations,
-            names,
+            declarations: tables.declarations,
+            names: tables.names,
             ends,
-            methods,
+            methods: tables.methods,
             namesakes,
         },
         had,
@@ -75,24 +69,21 @@ pub fn entries<'w, 'a>(
     alloc: Global,
     env: Env<'w>,
     unit: &'a Unit,
-    declarations: &'a [Declaration<'a>],
-    names: &'a DeclaredNames,
-    methods: &'a DeclaredMethods,
+    tables: &PackageTables<'a>,
     hints: &[u32],
 ) -> Result<PackageEntries<'w, 'a>, NoMemory>
     requires kept { Keeps (setting_of env) (source_of unit.now) no_entries env }
-    requires listed { declared_in (source_of unit.now) ≡ declarations_of declarations.now }
-    requires names { AreDeclared (declarations_of declarations.now) names.now }
-    requires methods { AreMethods (declarations_of declarations.now) methods.now }
+    requires listed { declared_in (source_of unit.now) ≡ declarations_of tables.now.declarations.now }
+    requires tables { AreTables tables.now }
     requires pathed { unit.now.path ≢ [] }
     ensures all { IfOk result (λ p. AreAll (setting_of env.entry) (source_of unit.now) (entries_at (had_in p))) }
-    ensures count { IfOk result (λ p. length (had_in p) ≡ length declarations.now) }
+    ensures count { IfOk result (λ p. length (had_in p) ≡ length tables.now.declarations.now) }
     ensures kept { IfOk result (λ p. Keeps (setting_of env.entry) (source_of unit.now) (entries_at (had_in p)) (scopes_in p)) }
     ensures setting { IfOk result (λ p. setting_in p ≡ setting_of env.entry) }
     ensures source { IfOk result (λ p. source_in p ≡ source_of unit.now) }
 {
     nothing_had();
-    let mut entries = nothing_of(alloc, env, unit, declarations, names, methods)?;
+    let mut entries = nothing_of(alloc, env, unit, tables)?;
     if let Err(error) = settle_all(&mut entries, hints) {
         return Err(error);
     }

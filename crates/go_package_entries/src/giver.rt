@@ -7,7 +7,7 @@ use crate::grown::Grown;
 use crate::tables::Tables;
 use crate::takings::take;
 use go_base::memory::NoMemory;
-use go_had_entries::had::HadEntries;
+use go_entries::had::HadEntries;
 use go_model::types::package::Defined;
 use go_rules::env::Env;
 use go_settling::giver::Giver;

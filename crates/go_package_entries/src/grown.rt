@@ -1,14 +1,14 @@
 //! The entries that are had, with one more.
 ghost use Rattle.std.specs.Prelude.{◌≡◌};
 ghost use Rattle.go_base.specs.Keys.{item_of};
-ghost use Rattle.go_had_entries.specs.HadEntries.{found_entry};
+ghost use Rattle.go_entries.specs.HadEntries.{found_entry};
 ghost use Rattle.go_typings.specs.PackageEnvironments.{signature_of};
 ghost use Rattle.go_package_entries.specs.inner.ShownMethods.{are_had};
 ghost use Rattle.go_package_entries.specs.inner.TakenEntries.{entries_of};
 
 use go_declared::methods::MethodRow;
 use go_entries::entry::Entry;
-use go_had_entries::had::HadEntries;
+use go_entries::had::HadEntries;
 use go_model::types::term::Signature;
 
 /// Entries of declarations by their numbers, and that of one more.

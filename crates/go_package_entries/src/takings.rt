@@ -7,7 +7,7 @@ ghost use Rattle.go_declared.specs.MethodTables.{AreMethods};
 ghost use Rattle.go_declared.specs.NameTables.{AreDeclared};
 ghost use Rattle.go_declared.specs.NamesakeTables.{AreNamesakes};
 ghost use Rattle.go_entries.specs.Entries.{entry_of};
-ghost use Rattle.go_had_entries.specs.HadEntries.{entries_at};
+ghost use Rattle.go_entries.specs.HadEntries.{entries_at};
 ghost use Rattle.go_model.specs.declared.types.term.Signature.{Signature};
 ghost use Rattle.go_package_scopes.specs.KeptScopes.{Keeps};
 ghost use Rattle.go_typings.specs.Declarations.{declarations};

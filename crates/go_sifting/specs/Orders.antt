@@ -8,6 +8,7 @@ use Rattle.go_graphs.specs.Ranks.{HasRank}
 use Rattle.go_graphs.specs.Walks.{LeadsBack, row_of}
 use Rattle.go_typings.specs.Declarations.{declarations}
 use Rattle.go_typings.specs.PackageEnvironments.{Entries}
+use Rattle.go_typings.specs.References.{LeadsTo}
 use Rattle.go_typings.specs.Sources.{PackageSource, Setting}
 use Rattle.go_soundness.specs.LostDeclarations.{HasInLength}
 use Rattle.go_soundness.specs.Ranks.{ComesAfter}
@@ -24,6 +25,10 @@ module _ (s : Setting) (u : PackageSource) (a : Entries) where
     pub after : AreRows s u a (ComesAfter s u a) o.after
     pub lengths : AreRows s u a (HasInLength s u a) o.lengths
     pub leads : AreRowsAmong o.reached.items (Leads s u a) o.leads.items
+
+  -- a name in the length of an array denotes the declaration, or one from which steps lead to it
+  abbrev pub IsReached : ℕ → Type 0
+  IsReached n = (k : ℕ) × (m : ℕ) × HasInLength s u a k m × LeadsTo s u a m n
 
 -- each number in the rows is flagged
 abbrev pub AreAmong : List Bool → List (List ℕ) → Type 0

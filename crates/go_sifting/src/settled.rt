@@ -131,6 +131,7 @@ pub fn none_lost(
     standing: &[bool],
 ) -> Result<Option<Vec<bool>>, NoMemory>
     ensures some { (s : Setting) (u : PackageSource) (a : Entries) → IsOrderOf s u a order.now → AreFlagsOf (length (declarations u)) (Stands s u a) standing.now → IfOk result (λ found. IfSome found (λ lost. (length lost.items ≡ length (declarations u)) × AreSifted s u a (is_flagged lost.items))) }
+    ensures settled { IfOk result (λ found. IfSome found (λ lost. IsSettled order.now standing.now)) }
     ensures none { IfOk result (λ found. IfNone found (IsSettled order.now standing.now → ⊥)) }
 {
     let settled = is_settled(alloc, order, standing)?;

@@ -6,7 +6,7 @@ use Rattle.go_declared.specs.NamesakeTables.{rows_at}
 use Rattle.go_declared.specs.declared.methods.MethodRow.{MethodRow}
 use Rattle.go_declared.specs.declared.names.NamePlace.{NamePlace}
 use Rattle.go_entries.specs.Entries.{entry_of}
-use Rattle.go_had_entries.specs.HadEntries.{entries_at}
+use Rattle.go_entries.specs.HadEntries.{entries_at}
 use Rattle.go_model.specs.declared.types.package.MethodOf.{MethodOf}
 use Rattle.go_model.specs.declared.types.term.Term.{Term}
 use Rattle.go_package_entries.specs.declared.grown.Grown.{Grown}

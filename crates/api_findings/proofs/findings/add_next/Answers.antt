@@ -6,12 +6,12 @@ use Rattle.api_findings.proofs.findings.add_next.Goals as goal
 
 pub returns-in-Ok-clause-answer : goal.returns-in-Ok-clause-answer
 returns-in-Ok-clause-answer g c =
-    added_again c.alike_units.ensures c.args.barred.now (option_copied c.args.old_tree) c.args.tree.now c.args.std_tree.now c.args.platform c.args.all.now.features c.args.all.now.verdicts c.push_again.new.self.features c.push_again.new.self.verdicts
+    added_again c.alike_units.ensures c.args.trees.now.barred.now (option_copied c.args.trees.now.old_tree) c.args.trees.now.tree.now c.args.trees.now.std_tree.now c.args.platform c.args.all.now.features c.args.all.now.verdicts c.push_again.new.self.features c.push_again.new.self.verdicts
     (get_or c.args.all.now.features c.args.first []) (slice_get c.args.all.now.verdicts c.args.first) c.in-Ok.ensures.features c.in-Ok.ensures.verdicts
     (c.requires.alike (subst (λ n. c.args.first < n) c.len.ensures c.if-first-len.true))
 
 pub returns-in-Ok-clause-steps : goal.returns-in-Ok-clause-steps
-returns-in-Ok-clause-steps g c = none_counted c.args.barred.now (option_copied c.args.old_tree) c.args.tree.now c.args.std_tree.now (c.args.platform ∷ []) c.args.steps.now c.args.steps.now refl
+returns-in-Ok-clause-steps g c = none_counted c.args.trees.now.barred.now (option_copied c.args.trees.now.old_tree) c.args.trees.now.tree.now c.args.trees.now.std_tree.now (c.args.platform ∷ []) c.args.steps.now c.args.steps.now refl
 
 pub returns-in-Err-clause-steps : goal.returns-in-Err-clause-steps
-returns-in-Err-clause-steps g c = none_counted c.args.barred.now (option_copied c.args.old_tree) c.args.tree.now c.args.std_tree.now (c.args.platform ∷ []) c.args.steps.now c.args.steps.now refl
+returns-in-Err-clause-steps g c = none_counted c.args.trees.now.barred.now (option_copied c.args.trees.now.old_tree) c.args.trees.now.tree.now c.args.trees.now.std_tree.now (c.args.platform ∷ []) c.args.steps.now c.args.steps.now refl

@@ -3,27 +3,27 @@ use Rattle.api_findings.proofs.PlatformFindings.{alike_earlier, count_all, count
 use Rattle.api_findings.proofs.findings.find_by.Goals as goal
 
 pub loop-at-init : goal.loop-at-init
-loop-at-init g c = taken_none c.args.barred.now (option_copied c.args.old_tree) c.args.tree.now c.args.std_tree.now c.args.platforms.now c.new-features.result c.new-verdicts.result c.args.steps.now c.new-features.ensures c.new-verdicts.ensures
+loop-at-init g c = taken_none c.args.trees.now.barred.now (option_copied c.args.trees.now.old_tree) c.args.trees.now.tree.now c.args.trees.now.std_tree.now c.args.platforms.now c.new-features.result c.new-verdicts.result c.args.steps.now c.new-features.ensures c.new-verdicts.ensures
 
 pub add_next-requires-clause-alike : goal.add_next-requires-clause-alike
 add_next-requires-clause-alike g c = λ κs lives.
-    alike_earlier c.args.barred.now (option_copied c.args.old_tree) c.args.tree.now c.args.std_tree.now c.args.platforms.now c.args.firsts.now c.requires.firsts c.loop-at.at c.loop-at.all.features c.loop-at.all.verdicts c.args.steps.now c.loop-at.steps c.loop-at-test.true c.loop-at.invariant
+    alike_earlier c.args.trees.now.barred.now (option_copied c.args.trees.now.old_tree) c.args.trees.now.tree.now c.args.trees.now.std_tree.now c.args.platforms.now c.args.firsts.now c.requires.firsts c.loop-at.at c.loop-at.all.features c.loop-at.all.verdicts c.args.steps.now c.loop-at.steps c.loop-at-test.true c.loop-at.invariant
 
 pub returns-in-Err-clause-answer : goal.returns-in-Err-clause-answer
 returns-in-Err-clause-answer g c =
-    error_here c.args.barred.now (option_copied c.args.old_tree) c.args.tree.now c.args.std_tree.now c.args.platforms.now c.loop-at.at _ c.loop-at.all.features c.loop-at.all.verdicts c.args.steps.now c.loop-at.steps c.add_next.new.steps c.loop-at-test.true c.loop-at.invariant c.in-Err.ensures.steps c.in-Err.error c.in-Err.ensures.answer
+    error_here c.args.trees.now.barred.now (option_copied c.args.trees.now.old_tree) c.args.trees.now.tree.now c.args.trees.now.std_tree.now c.args.platforms.now c.loop-at.at _ c.loop-at.all.features c.loop-at.all.verdicts c.args.steps.now c.loop-at.steps c.add_next.new.steps c.loop-at-test.true c.loop-at.invariant c.in-Err.ensures.steps c.in-Err.error c.in-Err.ensures.answer
 
 pub returns-in-Err-clause-steps : goal.returns-in-Err-clause-steps
 returns-in-Err-clause-steps g c =
-    count_here c.args.barred.now (option_copied c.args.old_tree) c.args.tree.now c.args.std_tree.now c.args.platforms.now c.loop-at.at _ c.loop-at.all.features c.loop-at.all.verdicts c.args.steps.now c.loop-at.steps c.add_next.new.steps c.loop-at-test.true c.loop-at.invariant c.in-Err.ensures.steps
+    count_here c.args.trees.now.barred.now (option_copied c.args.trees.now.old_tree) c.args.trees.now.tree.now c.args.trees.now.std_tree.now c.args.platforms.now c.loop-at.at _ c.loop-at.all.features c.loop-at.all.verdicts c.args.steps.now c.loop-at.steps c.add_next.new.steps c.loop-at-test.true c.loop-at.invariant c.in-Err.ensures.steps
 
 pub loop-at-preserved : goal.loop-at-preserved
 loop-at-preserved g c =
-    taken_more c.args.barred.now (option_copied c.args.old_tree) c.args.tree.now c.args.std_tree.now c.args.platforms.now c.loop-at.at _ c.loop-at.all.features c.loop-at.all.verdicts c.args.steps.now c.loop-at.steps c.add_next.new.steps c.loop-at-test.true c.loop-at.invariant c.in-Ok.ensures.steps
+    taken_more c.args.trees.now.barred.now (option_copied c.args.trees.now.old_tree) c.args.trees.now.tree.now c.args.trees.now.std_tree.now c.args.platforms.now c.loop-at.at _ c.loop-at.all.features c.loop-at.all.verdicts c.args.steps.now c.loop-at.steps c.add_next.new.steps c.loop-at-test.true c.loop-at.invariant c.in-Ok.ensures.steps
     c.in-Ok.ensures.answer.lines _ c.add_next.new.all.features c.add_next.new.all.verdicts c.in-Ok.ensures.answer.features c.in-Ok.ensures.answer.verdicts c.in-Ok.ensures.answer.found
 
 pub returns-clause-answer : goal.returns-clause-answer
-returns-clause-answer g c = taken_all c.args.barred.now (option_copied c.args.old_tree) c.args.tree.now c.args.std_tree.now c.args.platforms.now c.loop-at.at c.loop-at.all.features c.loop-at.all.verdicts c.args.steps.now c.loop-at.steps c.loop-at-test.false c.loop-at.invariant
+returns-clause-answer g c = taken_all c.args.trees.now.barred.now (option_copied c.args.trees.now.old_tree) c.args.trees.now.tree.now c.args.trees.now.std_tree.now c.args.platforms.now c.loop-at.at c.loop-at.all.features c.loop-at.all.verdicts c.args.steps.now c.loop-at.steps c.loop-at-test.false c.loop-at.invariant
 
 pub returns-clause-steps : goal.returns-clause-steps
-returns-clause-steps g c = count_all c.args.barred.now (option_copied c.args.old_tree) c.args.tree.now c.args.std_tree.now c.args.platforms.now c.loop-at.at c.loop-at.all.features c.loop-at.all.verdicts c.args.steps.now c.loop-at.steps c.loop-at-test.false c.loop-at.invariant
+returns-clause-steps g c = count_all c.args.trees.now.barred.now (option_copied c.args.trees.now.old_tree) c.args.trees.now.tree.now c.args.trees.now.std_tree.now c.args.platforms.now c.loop-at.at c.loop-at.all.features c.loop-at.all.verdicts c.args.steps.now c.loop-at.steps c.loop-at-test.false c.loop-at.invariant

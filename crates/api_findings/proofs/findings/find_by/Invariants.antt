@@ -3,4 +3,4 @@ use Rattle.api_findings.proofs.PlatformFindings.{TakenTo}
 use Rattle.api_findings.proofs.findings.find_by.Given as goal
 
 abbrev pub invariant-loop-at : goal.invariant-loop-at
-invariant-loop-at g l = TakenTo l.barred (option_copied l.old_tree) l.tree l.std_tree l.platforms l.at l.all.features l.all.verdicts l.fn.steps l.steps
+invariant-loop-at g l = TakenTo l.trees.barred.now (option_copied l.trees.old_tree) l.trees.tree.now l.trees.std_tree.now l.platforms l.at l.all.features l.all.verdicts l.fn.steps l.steps

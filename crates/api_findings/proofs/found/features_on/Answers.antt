@@ -2,17 +2,17 @@ use Rattle.api_findings.proofs.FoundOn.{alone_count, alone_error, alone_found}
 use Rattle.api_findings.proofs.found.features_on.Goals as goal
 
 pub returns-in-Err-clause-answer : goal.returns-in-Err-clause-answer
-returns-in-Err-clause-answer g c = alone_error c.args.barred.now c.args.tree.now c.args.std_tree.now c.args.platform c.in-Err.error c.in-Err.ensures.answer
+returns-in-Err-clause-answer g c = alone_error c.args.trees.now.barred.now c.args.trees.now.tree.now c.args.trees.now.std_tree.now c.args.platform c.in-Err.error c.in-Err.ensures.answer
 
 pub returns-in-Err-clause-steps : goal.returns-in-Err-clause-steps
-returns-in-Err-clause-steps g c = alone_count c.args.barred.now c.args.tree.now c.args.std_tree.now c.args.platform c.args.steps.now c.world_on.new.steps c.world_on.ensures.steps
+returns-in-Err-clause-steps g c = alone_count c.args.trees.now.barred.now c.args.trees.now.tree.now c.args.trees.now.std_tree.now c.args.platform c.args.steps.now c.world_on.new.steps c.world_on.ensures.steps
 
 pub returns-in-Ok-featured-clause-answer : goal.returns-in-Ok-featured-clause-answer
 returns-in-Ok-featured-clause-answer g c =
-    alone_found c.args.barred.now c.args.tree.now c.args.std_tree.now c.args.platform c.in-Ok.world c.in-Ok-featured.found c.in-Ok.ensures.answer c.in-Ok-featured.ensures.0 c.in-Ok-featured.ensures.1
+    alone_found c.args.trees.now.barred.now c.args.trees.now.tree.now c.args.trees.now.std_tree.now c.args.platform c.in-Ok.world c.in-Ok-featured.found c.in-Ok.ensures.answer c.in-Ok-featured.ensures.0 c.in-Ok-featured.ensures.1
 
 pub returns-in-Ok-featured-clause-steps : goal.returns-in-Ok-featured-clause-steps
-returns-in-Ok-featured-clause-steps g c = alone_count c.args.barred.now c.args.tree.now c.args.std_tree.now c.args.platform c.args.steps.now c.world_on.new.steps c.world_on.ensures.steps
+returns-in-Ok-featured-clause-steps g c = alone_count c.args.trees.now.barred.now c.args.trees.now.tree.now c.args.trees.now.std_tree.now c.args.platform c.args.steps.now c.world_on.new.steps c.world_on.ensures.steps
 
 pub returns-clause-steps : goal.returns-clause-steps
-returns-clause-steps g c = alone_count c.args.barred.now c.args.tree.now c.args.std_tree.now c.args.platform c.args.steps.now c.world_on.new.steps c.world_on.ensures.steps
+returns-clause-steps g c = alone_count c.args.trees.now.barred.now c.args.trees.now.tree.now c.args.trees.now.std_tree.now c.args.platform c.args.steps.now c.world_on.new.steps c.world_on.ensures.steps

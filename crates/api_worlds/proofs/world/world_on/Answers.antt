@@ -3,18 +3,18 @@ use Rattle.api_worlds.proofs.world.world_on.Goals as goal
 
 pub world_of-requires-after_bounds : goal.world_of-requires-after_bounds
 world_of-requires-after_bounds g c κs within = λ u h.
-    let k = c.unit_paths.ensures c.args.platform c.args.barred.now c.args.tree.now c.args.std_tree.now c.in-Ok.units c.requires.tree c.requires.std c.requires.named c.in-Ok.ensures u h in
+    let k = c.unit_paths.ensures c.args.trees.now.platform c.args.trees.now.barred.now c.args.trees.now.tree.now c.args.trees.now.std_tree.now c.in-Ok.units c.requires.tree c.requires.std c.requires.named c.in-Ok.ensures u h in
     record { pathed = k.0; foreign = k.1 }
 
 pub returns-in-Err-clause-answer : goal.returns-in-Err-clause-answer
-returns-in-Err-clause-answer g c = units_error c.args.barred.now c.args.tree.now c.args.std_tree.now c.args.side c.args.platform c.in-Err.error c.refused_units.result c.in-Err.ensures c.refused_units.ensures
+returns-in-Err-clause-answer g c = units_error c.args.trees.now.barred.now c.args.trees.now.tree.now c.args.trees.now.std_tree.now c.args.side c.args.trees.now.platform c.in-Err.error c.refused_units.result c.in-Err.ensures c.refused_units.ensures
 
 pub returns-in-Err-clause-steps : goal.returns-in-Err-clause-steps
-returns-in-Err-clause-steps g c = no_count c.args.barred.now c.args.tree.now c.args.std_tree.now c.args.side c.args.platform c.args.steps.now
+returns-in-Err-clause-steps g c = no_count c.args.trees.now.barred.now c.args.trees.now.tree.now c.args.trees.now.std_tree.now c.args.side c.args.trees.now.platform c.args.steps.now
 
 pub returns-in-Ok-clause-answer : goal.returns-in-Ok-clause-answer
-returns-in-Ok-clause-answer g c = units_answer c.args.barred.now c.args.tree.now c.args.std_tree.now c.args.side c.args.platform c.in-Ok.units c.world_of.result c.in-Ok.ensures c.world_of.ensures.answer
+returns-in-Ok-clause-answer g c = units_answer c.args.trees.now.barred.now c.args.trees.now.tree.now c.args.trees.now.std_tree.now c.args.side c.args.trees.now.platform c.in-Ok.units c.world_of.result c.in-Ok.ensures c.world_of.ensures.answer
 
 pub returns-in-Ok-clause-steps : goal.returns-in-Ok-clause-steps
 returns-in-Ok-clause-steps g c =
-    units_count c.args.barred.now c.args.tree.now c.args.std_tree.now c.args.side c.args.platform c.in-Ok.units c.args.steps.now c.world_of.new.steps c.in-Ok.ensures c.world_of.ensures.steps
+    units_count c.args.trees.now.barred.now c.args.trees.now.tree.now c.args.trees.now.std_tree.now c.args.side c.args.trees.now.platform c.in-Ok.units c.args.steps.now c.world_of.new.steps c.in-Ok.ensures c.world_of.ensures.steps

@@ -1,7 +1,7 @@
 use Rattle.std.proofs.Common.{Bool, List, ap, length, sym, ◌∙◌, subst}
 use Rattle.go_check.specs.Answers.{setting}
 use Rattle.go_graphs.specs.Flags.{is_flagged}
-use Rattle.go_had_entries.specs.HadEntries.{entries_at}
+use Rattle.go_entries.specs.HadEntries.{entries_at}
 use Rattle.go_package_entries.specs.PackageStates.{had_in, scopes_in}
 use Rattle.go_package_entries.specs.Settings.{setting_of}
 use Rattle.go_soundness.specs.Settled.{AreSifted}

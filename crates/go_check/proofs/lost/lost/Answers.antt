@@ -1,6 +1,6 @@
 use Rattle.std.proofs.Common.{◌≡◌, ℕ, Bool, true, List, length, sym, ◌∙◌, subst}
 use Rattle.go_graphs.specs.Flags.{AreFlagsOf}
-use Rattle.go_had_entries.specs.HadEntries.{entries_at}
+use Rattle.go_entries.specs.HadEntries.{entries_at}
 use Rattle.go_sifting.specs.Graphs.{Stands}
 use Rattle.go_soundness.specs.LostDeclarations.{MeetsAsks}
 use Rattle.go_soundness.specs.Settled.{is_had}
@@ -16,7 +16,7 @@ returns c s i =
     let a = entries_at c.args.had.now in
     let count = length (declarations u) in
     let met = c.in_ok-met.ensures.met s u a (sym c.requires.listed) (sym c.bytes.ensures) c.requires.pathed i in
-    let entered = subst (λ (n : ℕ). AreFlagsOf n (λ m. is_had a m ≡ true) c.in_ok-entered.entered.items) (c.requires.count ∙ listed_length c.args.declarations.now (declarations u) c.requires.listed) c.in_ok-entered.ensures in
+    let entered = subst (λ (n : ℕ). AreFlagsOf n (λ m. is_had a m ≡ true) c.in_ok-entered.entered.items) (c.requires.count ∙ listed_length c.args.tables.now.declarations.now (declarations u) c.requires.listed) c.in_ok-entered.ensures in
     let standing = c.in_ok-standing.ensures.stands s u a
     (subst (λ (xs : List Bool). AreFlagsOf count (λ n. is_had a n ≡ true) xs) (sym c.deref.ensures.value) entered)
     (subst (λ (xs : List Bool). AreFlagsOf count (MeetsAsks s u a) xs) (sym c.deref-2.ensures.value) met) in

@@ -8,7 +8,7 @@ use Rattle.go_declaration_graph.proofs.graph.graph.Goals as goal
 
 pub returns-clause-graph : goal.returns-clause-graph
 returns-clause-graph c = λ s u a same pathed scope.
-    let ds = c.args.declarations.now in
+    let ds = c.args.tables.now.declarations.now in
     let tables = c.in_ok-index.index.tables in
-    IfOk-weaker c.add_declarations.result (HasRows c.args.names.now c.args.methods.now tables c.args.env.now (declarations_of ds) (length ds)) (IsGraphOf s u a)
-    (λ g has. graph_from s u a c.args.env.now c.args.names.now c.args.methods.now g tables ds same pathed scope c.requires.names c.requires.methods c.in_ok-index.ensures has) c.add_declarations.ensures.rows
+    IfOk-weaker c.add_declarations.result (HasRows c.args.tables.now.names.now c.args.tables.now.methods.now tables c.args.env.now (declarations_of ds) (length ds)) (IsGraphOf s u a)
+    (λ g has. graph_from s u a c.args.env.now c.args.tables.now.names.now c.args.tables.now.methods.now g tables ds same pathed scope c.requires.names c.requires.methods c.in_ok-index.ensures has) c.add_declarations.ensures.rows

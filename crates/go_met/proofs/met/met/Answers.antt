@@ -10,6 +10,6 @@ use Rattle.go_met.proofs.met.met.Goals as goal
 
 pub returns-clause-met : goal.returns-clause-met
 returns-clause-met c = λ s u a listed named pathed is.
-    let ds = declarations_of c.args.declarations.now in
+    let ds = declarations_of c.args.tables.now.declarations.now in
     IfOk-weaker c.are_met.result (λ flags. AreMetThere c.args.env.now c.args.package_name.now ds flags.items) (λ flags. AreFlagsOf (length (declarations u)) (MeetsAsks s u a) flags.items)
     (λ flags there. met_flags s u a c.args.env.now c.args.package_name.now ds flags.items listed named is there (λ d n f. c.same_answers.ensures.asks s u a c.args.env.now d n f is pathed)) c.are_met.ensures.met

@@ -1,5 +1,5 @@
 use Rattle.std.proofs.Common.{arith}
-use Rattle.go_had_entries.specs.HadEntries.{entries_at}
+use Rattle.go_entries.specs.HadEntries.{entries_at}
 use Rattle.go_declarations.specs.Listings.{declarations_of}
 use Rattle.go_packages.proofs.PlacedNames.{placed_at}
 use Rattle.go_packages.proofs.NamedDefined.{defined_next, defined_whole}

@@ -1,6 +1,6 @@
 use Rattle.std.proofs.Common.{List, ◌++◌, drop}
 use Rattle.go_declared.specs.NameTables.{texts_of}
-use Rattle.go_had_entries.specs.HadEntries.{entries_at}
+use Rattle.go_entries.specs.HadEntries.{entries_at}
 use Rattle.go_model.specs.declared.types.package.Defined.{Defined}
 use Rattle.go_packages.specs.inner.DefinedTypes.{AreDefined}
 use Rattle.go_sources.specs.UnitSources.{source_of}

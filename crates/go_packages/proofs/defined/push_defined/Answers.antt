@@ -1,7 +1,7 @@
 use Rattle.std.proofs.Common.{Option, subst, sym}
 use Rattle.std.proofs.lemmas.Result.{on_ok_weaker}
 use Rattle.go_declarations.specs.Listings.{declarations_of}
-use Rattle.go_had_entries.specs.HadEntries.{entries_at}
+use Rattle.go_entries.specs.HadEntries.{entries_at}
 use Rattle.go_model.specs.declared.types.package.Defined.{Defined}
 use Rattle.go_packages.proofs.OwnDefined.{own_there}
 use Rattle.go_packages.specs.inner.DefinedTypes.{Adds}

@@ -1,7 +1,7 @@
 use Rattle.std.proofs.Common.{◌≡◌, ◌++◌, drop, map}
 use Rattle.go_base.specs.Gathered.{gather}
 use Rattle.go_declarations.specs.Listings.{declarations_of}
-use Rattle.go_had_entries.specs.HadEntries.{entries_at}
+use Rattle.go_entries.specs.HadEntries.{entries_at}
 use Rattle.go_packages.specs.inner.HadMethods.{had_by, method_at}
 use Rattle.go_packages.proofs.methods.methods_by.Given as goal
 

@@ -2,7 +2,7 @@ use Rattle.std.proofs.Common.{List, map, ap, ◌∙◌}
 use Rattle.go_base.specs.Gathered.{gather}
 use Rattle.go_declarations.specs.Listings.{declarations_of}
 use Rattle.go_declared.specs.declared.methods.MethodRow.{MethodRow}
-use Rattle.go_had_entries.specs.HadEntries.{entries_at}
+use Rattle.go_entries.specs.HadEntries.{entries_at}
 use Rattle.go_packages.proofs.ToldMethods.{methods_told}
 use Rattle.go_packages.specs.inner.HadMethods.{had_by, method_at}
 use Rattle.go_sources.specs.UnitSources.{source_of}

@@ -1,7 +1,7 @@
 use Rattle.std.proofs.Common.{◌≡◌, ◌++◌, drop}
 use Rattle.go_declarations.specs.Listings.{declarations_of}
 use Rattle.go_declared.specs.NameTables.{texts_of}
-use Rattle.go_had_entries.specs.HadEntries.{entries_at}
+use Rattle.go_entries.specs.HadEntries.{entries_at}
 use Rattle.go_packages.specs.inner.NamedObjects.{denoted, objects_named}
 use Rattle.go_packages.proofs.objects.objects.Given as goal
 

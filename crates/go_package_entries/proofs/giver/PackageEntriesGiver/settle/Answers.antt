@@ -4,7 +4,7 @@ use Rattle.go_declared.specs.MethodTables.{AreMethods}
 use Rattle.go_declared.specs.NamesakeTables.{AreNamesakes}
 use Rattle.go_entries.specs.Entries.{entry_of}
 use Rattle.go_entries.specs.declared.entry.Entry.{Entry as Had}
-use Rattle.go_had_entries.specs.HadEntries.{entries_at}
+use Rattle.go_entries.specs.HadEntries.{entries_at}
 use Rattle.go_package_scopes.specs.KeptScopes.{Keeps}
 use Rattle.go_package_scopes.specs.PackageScopes.{at_declaration}
 use Rattle.go_rules.specs.Scopes.{env_of}

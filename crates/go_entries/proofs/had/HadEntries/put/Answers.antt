@@ -1,10 +1,10 @@
 use Rattle.std.proofs.Common.{◌<◌, List, Option, ap, ◌∙◌, length, subst, sym}
 use Rattle.go_entries.specs.Entries.{entry_of}
 use Rattle.go_entries.specs.declared.entry.Entry.{Entry as Had}
-use Rattle.go_had_entries.specs.HadEntries.{entries_at}
+use Rattle.go_entries.specs.HadEntries.{entries_at}
 use Rattle.go_package_scopes.specs.KeptScopes.{with_entry}
-use Rattle.go_had_entries.proofs.PutEntries.{put_entry}
-use Rattle.go_had_entries.proofs.had.HadEntries.put.Goals as goal
+use Rattle.go_entries.proofs.PutEntries.{put_entry}
+use Rattle.go_entries.proofs.had.HadEntries.put.Goals as goal
 
 pub returns-clause-put : goal.returns-clause-put
 returns-clause-put c =

@@ -1,5 +1,5 @@
 use Rattle.std.proofs.Common.{◌≡◌, replicate, None}
-use Rattle.go_had_entries.proofs.had.HadEntries.new.Given as goal
+use Rattle.go_entries.proofs.had.HadEntries.new.Given as goal
 
 abbrev pub invariant-loop : goal.invariant-loop
 invariant-loop l = l.entries.items ≡ replicate l.counter None

@@ -1,11 +1,11 @@
 //! Entries by the numbers of their declarations.
 ghost use Rattle.std.specs.Prelude.{◌≡◌, ◌<◌, None, length, replicate, IfOk};
 ghost use Rattle.go_entries.specs.Entries.{entry_of};
-ghost use Rattle.go_had_entries.specs.HadEntries.{entries_at, found_entry};
+ghost use Rattle.go_entries.specs.HadEntries.{entries_at, found_entry};
 ghost use Rattle.go_package_scopes.specs.KeptScopes.{with_entry};
 
+use crate::entry::Entry;
 use go_base::memory::NoMemory;
-use go_entries::entry::Entry;
 use std::alloc::Global;
 use std::marker::Model;
 
@@ -23,7 +23,7 @@ impl Drop for HadEntries {
 impl Model for HadEntries {
     ghost use Rattle.std.specs.Coded.{coded_list, codes};
     ghost use Rattle.std.specs.Prelude.{List, Option};
-    ghost use Rattle.go_had_entries.specs.HadEntries.{given};
+    ghost use Rattle.go_entries.specs.HadEntries.{given};
     ghost use Rattle.go_entries.specs.declared.entry.Entry.{Entry as Had};
     ghost use Rattle.go_entries.specs.contracts.entry.Entry as e;
 

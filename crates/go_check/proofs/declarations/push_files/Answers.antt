@@ -1,8 +1,8 @@
 use Rattle.std.proofs.Common.{ap, sym, ◌∙◌}
 use Rattle.go_declarations.specs.Listings.{declarations_of}
 use Rattle.go_units.specs.declared.unit.UnitFile.{UnitFile}
-use Rattle.go_unit_declarations.proofs.FilesInOrder.{next_file}
-use Rattle.go_unit_declarations.proofs.declarations.push_files.Goals as goal
+use Rattle.go_check.proofs.FilesInOrder.{next_file}
+use Rattle.go_check.proofs.declarations.push_files.Goals as goal
 
 pub loop-file-preserved : goal.loop-file-preserved
 loop-file-preserved c =

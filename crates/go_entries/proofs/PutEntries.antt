@@ -4,7 +4,7 @@ use Rattle.std.proofs.lemmas.Bool.Decides.{nat_tests}
 use Rattle.std.specs.Prelude.{if◌then◌else◌}
 use Rattle.go_entries.specs.Entries.{entry_of}
 use Rattle.go_entries.specs.declared.entry.Entry.{Entry as Had}
-use Rattle.go_had_entries.specs.HadEntries.{entries_at, given}
+use Rattle.go_entries.specs.HadEntries.{entries_at, given}
 use Rattle.go_package_scopes.specs.KeptScopes.{with_entry}
 
 either : (b : Bool) → (b ≡ true) ⊎ (b ≡ false)

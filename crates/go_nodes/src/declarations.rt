@@ -1,26 +1,17 @@
 //! The types, values and signatures of a declaration.
-ghost use Rattle.std.specs.Prelude.{◌≡◌, ◌++◌, map, OnOk};
+ghost use Rattle.std.specs.Prelude.{◌≡◌, ◌++◌, IfOk, OnOk};
 ghost use Rattle.go_base.specs.Keys.{item_of};
 ghost use Rattle.go_declarations.specs.Forms.{form_of};
 ghost use Rattle.go_nodes.specs.Trees.{nodes_in};
-ghost use Rattle.go_rules.specs.Nodes.{expression, optional, type as type_node};
+ghost use Rattle.go_rules.specs.Nodes.{optional, type as type_node};
 ghost use Rattle.go_typings.specs.DeclarationNodes.{nodes};
 
+use crate::tree::Tree;
+use crate::trees::Trees;
 use go_base::memory::NoMemory;
 use go_declarations::form::Form;
-use go_nodes::tree::Tree;
-use go_nodes::trees::Trees;
-use go_syntax::expression::Expr;
 use go_syntax::types::Type;
-
-fn push_exprs<'a>(trees: &mut Trees<'a>, exprs: &'a [Expr]) -> Result<(), NoMemory>
-    ensures { OnOk result (nodes_in trees.new ≡ nodes_in trees.old ++ map expression exprs.now) }
-{
-    for expr in exprs {
-        trees.push(Tree::Expr(expr))?;
-    }
-    Ok(())
-}
+use std::alloc::Global;
 
 fn push_type<'a>(trees: &mut Trees<'a>, form: Option<&'a Type>) -> Result<(), NoMemory>
     ensures { OnOk result (nodes_in trees.new ≡ nodes_in trees.old ++ optional type_node (item_of form.entry)) }
@@ -31,18 +22,17 @@ fn push_type<'a>(trees: &mut Trees<'a>, form: Option<&'a Type>) -> Result<(), No
     }
 }
 
-/// Adds the types, values and signatures of a declaration.
-pub(crate) fn push_nodes<'a>(trees: &mut Trees<'a>, form: Form<'a>) -> Result<(), NoMemory>
+fn push_form<'a>(trees: &mut Trees<'a>, form: Form<'a>) -> Result<(), NoMemory>
     ensures { OnOk result (nodes_in trees.new ≡ nodes_in trees.old ++ nodes (form_of form.entry)) }
 {
     match form {
         Form::Constants(spec) => {
             push_type(trees, spec.type_)?;
-            push_exprs(trees, spec.values)
+            trees.push_exprs(spec.values)
         }
         Form::Variables(spec) => {
             push_type(trees, spec.type_.as_ref())?;
-            push_exprs(trees, spec.values.items())
+            trees.push_exprs(spec.values.items())
         }
         Form::Alias(spec) => trees.push(Tree::Type(&spec.type_)),
         Form::Definition(spec) => trees.push(Tree::Type(&spec.type_)),
@@ -52,4 +42,13 @@ pub(crate) fn push_nodes<'a>(trees: &mut Trees<'a>, form: Form<'a>) -> Result<()
             trees.push(Tree::Signature(&func.signature))
         }
     }
+}
+
+/// The types, values and signatures of a declaration.
+pub fn trees_of<'a>(alloc: Global, form: Form<'a>) -> Result<Trees<'a>, NoMemory>
+    ensures { IfOk result (λ trees. nodes_in trees ≡ nodes (form_of form.entry)) }
+{
+    let mut trees = Trees::new(alloc);
+    push_form(&mut trees, form)?;
+    Ok(trees)
 }

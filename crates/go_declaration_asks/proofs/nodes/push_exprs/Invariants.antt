@@ -1,7 +1,0 @@
-use Rattle.std.proofs.Common.{◌≡◌, ◌++◌, map, drop}
-use Rattle.go_nodes.specs.Trees.{nodes_in}
-use Rattle.go_rules.specs.Nodes.{expression}
-use Rattle.go_declaration_asks.proofs.nodes.push_exprs.Given as goal
-
-abbrev pub invariant-loop-expr : goal.invariant-loop-expr
-invariant-loop-expr l = nodes_in l.trees ++ map expression (drop l.expr-index l.exprs) ≡ nodes_in l.initial.trees ++ map expression l.exprs

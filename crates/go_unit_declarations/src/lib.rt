@@ -1,4 +1,0 @@
-//! The declarations of a package.
-#![tactic(auto)]
-
-pub mod declarations;
