@@ -21,8 +21,8 @@ use Rattle.go_model.specs.declared.types.names.Sel.{Sel}
 use Rattle.go_model.specs.declared.types.term.Method.{Method}
 use Rattle.go_model.specs.declared.types.term.Signature.{Signature}
 use Rattle.api_correspond.specs.Publics.{types_of, package_at, IsPublic, IsExported, Exports, qualified}
-use Rattle.api_correspond.specs.OwnedPairs.{Owned, are_of_module}
-use Rattle.api_correspond.specs.Rules.{KeepsPackage, KeepsObject, KeepsKind, KeepsConstant, KeepsType, KeepsUnderlying, KeepsField, KeepsComparable, KeepsSealing, KeepsInterfaceMethod, KeepsClosed, IsSealed, Counts, have_structs, have_interfaces, have_method_sets, KeepsInSet, KeepsSelectable, KeepsApart, IsSealedPair, IsOwned}
+use Rattle.api_correspond.specs.OwnedPairs.{IsOwned, Owned, are_of_module}
+use Rattle.api_correspond.specs.Rules.{KeepsPackage, KeepsObject, KeepsKind, KeepsConstant, KeepsType, KeepsUnderlying, KeepsField, KeepsComparable, KeepsSealing, KeepsInterfaceMethod, KeepsClosed, IsSealed, Counts, have_structs, have_interfaces, have_method_sets, KeepsInSet, KeepsSelectable, KeepsApart, IsSealedPair}
 use Rattle.api_breaks.specs.declared.broken.Sort.{Sort}
 use Rattle.api_breaks.specs.declared.broken.Sort.TheVariants as sort
 use Rattle.api_breaks.specs.declared.broken.Lost.{Lost}

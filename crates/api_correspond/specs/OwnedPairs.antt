@@ -95,6 +95,16 @@ pub data Owned (old new : Packages) : List ℕ → TypePair → Type 0 where
   from_object : {name owner : List ℕ} {p : TypePair} → FromObject old new name p → IsOwner old name p.old owner → Owned old new owner p
   led_to : {leader owner : List ℕ} {p q : TypePair} → Owned old new leader p → Leads old new p q → IsOwner old leader q.old owner → Owned old new owner q
 
+-- a pair that some object owns
+abbrev pub IsOwned : Packages → Packages → TypePair → Type 0
+IsOwned old new p = (owner : List ℕ) × Owned old new owner p
+
+-- a list of owned pairs, among them those of the exported objects and those to which its pairs lead; so it holds all
+pub record HoldsOwned (old new : Packages) (pairs : List TypePair) : Type 0 where
+  pub owned : (p : TypePair) → Has pairs p → IsOwned old new p
+  pub begun : (name : List ℕ) (p : TypePair) → FromObject old new name p → Has pairs p
+  pub followed : (p q : TypePair) → Has pairs p → Leads old new p q → Has pairs q
+
 abbrev pub pair_of : OwnedPair → TypePair
 pair_of r = pair r.old r.new
 

@@ -26,7 +26,7 @@ use Rattle.go_model.specs.declared.types.term.Signature.{Signature}
 use Rattle.api_correspond.specs.declared.pair.TypePair.{TypePair}
 use Rattle.api_correspond.specs.Publics.{types_of, package_at, of_module, of_std, IsPublic, IsExported, Exports}
 use Rattle.api_correspond.specs.Outermost.{Match}
-use Rattle.api_correspond.specs.OwnedPairs.{Owned, are_of_module, are_structs, struct_layer, interface_layer}
+use Rattle.api_correspond.specs.OwnedPairs.{IsOwned, Owned, are_of_module, are_structs, struct_layer, interface_layer}
 
 -- `package`: a public package stays public
 abbrev pub KeepsPackage : Packages → Packages → List ℕ → Type 0
@@ -163,10 +163,6 @@ pub record IsSealedPair (old new : Packages) (i : TypePair) : Type 0 where
   pub owned : Owned old new owner i
   pub closed : IsSealed old i.old
   pub still : interface_layer (under (types_of new) i.new) ≡ true
-
--- a pair that some object owns
-abbrev pub IsOwned : Packages → Packages → TypePair → Type 0
-IsOwned old new p = (owner : List ℕ) × Owned old new owner p
 
 -- what a pair of types keeps, by the rules on it and another pair
 pub record KeepsAmong (old new : Packages) (p : TypePair) : Type 0 where
