@@ -14,8 +14,9 @@ use Rattle.go_model.specs.declared.types.term.Term.{Term, out-Term}
 use Rattle.go_model.specs.declared.types.term.Method.{Method}
 use Rattle.go_selectors.specs.Answers.{Decides}
 use Rattle.go_selectors.proofs.Lists.{has-back}
-use Rattle.api_correspond.specs.declared.pair.TypePair.{TypePair}
-use Rattle.api_correspond.specs.OwnedPairs.{are_of_module, interface_layer}
+use Rattle.go_type_images.specs.declared.pair.TypePair.{TypePair}
+use Rattle.api_correspond.specs.OwnedPairs.{are_of_module}
+use Rattle.go_type_images.specs.Levels.{interface_layer}
 use Rattle.api_correspond.specs.Publics.{types_of}
 use Rattle.api_correspond.specs.Rules.{is_sealing, is_std_sel, Counts, have_interfaces}
 use Rattle.api_correspond.specs.inner.BySel.{PlaceTable, places_at, ArePlaces}

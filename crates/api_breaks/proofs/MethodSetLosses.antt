@@ -11,7 +11,7 @@ use Rattle.go_model.specs.declared.types.term.Method.{Method, out-Method, roll-M
 use Rattle.go_model.specs.declared.types.term.Signature.{Signature}
 use Rattle.go_selectors.specs.Answers.{Decides}
 use Rattle.go_selectors.specs.Candidates.{Candidates, called_at, HoldMethodSet}
-use Rattle.api_correspond.specs.declared.pair.TypePair.{TypePair}
+use Rattle.go_type_images.specs.declared.pair.TypePair.{TypePair}
 use Rattle.api_correspond.specs.Publics.{types_of}
 use Rattle.api_correspond.specs.Rules.{is_std_sel, Counts, KeepsInSet, have_method_sets}
 use Rattle.api_breaks.specs.declared.broken.Lost.{Lost}

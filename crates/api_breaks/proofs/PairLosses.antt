@@ -12,9 +12,10 @@ use Rattle.go_model.specs.declared.types.term.Term.{Term, out-Term, roll-Term, r
 use Rattle.go_model.specs.declared.types.names.Sel.{Sel}
 use Rattle.go_model.specs.declared.types.term.Field.{Field}
 use Rattle.go_selectors.specs.Answers.{Decides}
-use Rattle.api_correspond.specs.declared.pair.TypePair.{TypePair}
+use Rattle.go_type_images.specs.declared.pair.TypePair.{TypePair}
 use Rattle.api_correspond.specs.Outermost.{Match}
-use Rattle.api_correspond.specs.OwnedPairs.{are_of_module, struct_layer}
+use Rattle.api_correspond.specs.OwnedPairs.{are_of_module}
+use Rattle.go_type_images.specs.Levels.{struct_layer}
 use Rattle.api_correspond.specs.Publics.{types_of, IsExported}
 use Rattle.api_correspond.specs.Rules.{KeepsType, KeepsComparable, KeepsPair, have_structs}
 use Rattle.api_correspond.specs.inner.BySel.{PlaceTable, places_at, ArePlaces}

@@ -10,7 +10,7 @@ use Rattle.go_model.specs.declared.types.found.Found.TheVariants.{FieldAt}
 use Rattle.go_model.specs.declared.types.found.FieldFound.{FieldFound}
 use Rattle.go_model.specs.declared.types.term.Term.{Term}
 use Rattle.go_selectors.proofs.UniqueFind.{found_once}
-use Rattle.api_correspond.specs.declared.pair.TypePair.{TypePair}
+use Rattle.go_type_images.specs.declared.pair.TypePair.{TypePair}
 use Rattle.api_correspond.specs.Publics.{types_of, IsExported}
 use Rattle.api_correspond.specs.Rules.{KeepsSelectable, have_structs}
 use Rattle.api_correspond.specs.inner.Leading.{HoldDeepFields}

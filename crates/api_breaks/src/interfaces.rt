@@ -17,7 +17,6 @@ use crate::broken::Lost;
 use crate::pairs::{are_interfaces, are_of_module, is_empty, under};
 use api_correspond::by_sel::{method_places, places_at};
 use api_correspond::embedded::is_exported;
-use api_correspond::pair::TypePair;
 use api_correspond::publics::has_module_path;
 use go_base::list::List;
 use go_base::memory::NoMemory;
@@ -26,6 +25,7 @@ use go_model::types::package::{Defined, Package};
 use go_model::types::term::{Method, Term};
 use go_model::types::world::World;
 use go_selectors::identity::{same_sel, same_signature};
+use go_type_images::pair::TypePair;
 use std::alloc::Global;
 use std::collections::BTreeMap;
 

@@ -12,7 +12,6 @@ ghost use Rattle.api_breaks.specs.inner.Telling.{Tells, KeptBy};
 use crate::broken::Lost;
 use crate::interfaces::{counts, is_std_sel};
 use crate::pairs::{are_of_module, are_structs, is_interface, under};
-use api_correspond::pair::TypePair;
 use go_base::list::List;
 use go_base::memory::NoMemory;
 use go_base::shared::Shared;
@@ -24,6 +23,7 @@ use go_selectors::candidate::Candidate;
 use go_selectors::candidates::{called_at, candidates};
 use go_selectors::identity::same_signature;
 use go_selectors::lookup::Lookup;
+use go_type_images::pair::TypePair;
 use std::alloc::Global;
 use std::collections::BTreeMap;
 

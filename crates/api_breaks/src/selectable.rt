@@ -11,7 +11,6 @@ ghost use Rattle.api_breaks.specs.inner.Telling.{Tells, KeptBy};
 use crate::broken::Lost;
 use crate::pairs::{are_structs, under};
 use api_correspond::embedded::{deep_fields, is_exported};
-use api_correspond::pair::TypePair;
 use go_base::memory::NoMemory;
 use go_base::text::Text;
 use go_model::types::found::Found;
@@ -20,6 +19,7 @@ use go_model::types::package::Defined;
 use go_model::types::term::Term;
 use go_model::types::world::World;
 use go_selectors::lookup::Lookup;
+use go_type_images::pair::TypePair;
 use std::alloc::Global;
 
 // Whether a field that was found at least so deep was found through a pointer.

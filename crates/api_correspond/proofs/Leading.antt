@@ -20,10 +20,12 @@ use Rattle.go_model.specs.declared.types.term.Field.{Field}
 use Rattle.go_model.specs.declared.types.term.Method.{Method, out-Method, roll-Method, out-roll-Method}
 use Rattle.go_model.specs.declared.types.term.Signature.{Signature}
 use Rattle.go_selectors.specs.Candidates.{Candidates, called_at, HoldMethodSet}
-use Rattle.api_correspond.specs.declared.pair.TypePair.{TypePair}
+use Rattle.go_type_images.specs.declared.pair.TypePair.{TypePair}
 use Rattle.api_correspond.specs.Publics.{types_of, IsExported}
-use Rattle.api_correspond.specs.Outermost.{Match, parts, pair, side_by_side, function_type, field_type, method_type}
-use Rattle.api_correspond.specs.OwnedPairs.{is_structured, are_of_module, have_members, receiver, Leads, to_part, to_part_underneath, to_field, to_promoted_field, to_method}
+use Rattle.api_correspond.specs.Outermost.{Match, pair, side_by_side}
+use Rattle.go_type_images.specs.Parts.{parts, function_type, field_type, method_type}
+use Rattle.api_correspond.specs.OwnedPairs.{are_of_module, have_members, receiver, Leads, to_part, to_part_underneath, to_field, to_promoted_field, to_method}
+use Rattle.go_type_images.specs.Levels.{is_structured}
 use Rattle.api_correspond.specs.inner.Members.{OfSome}
 use Rattle.api_correspond.specs.inner.Leading.{IsPart, IsPartUnderneath, IsFieldAt, AreFieldsAt, IsExportedWith, IsFoundAfter, IsPromotedBy, IsCommonField, IsTopField, FieldTerm, IsFieldFound, FieldOf, IsFoundField, IsPromotedField, ArePromoted, IsCalledIn, AreCalledIn, IsCommonMethod, IsMember, HoldDeepFields}
 use Rattle.api_correspond.specs.inner.Spreading.{IsSelOf}

@@ -8,4 +8,3 @@ pub mod Putting
 pub mod Selected
 pub mod Spreading
 pub mod Tabling
-pub mod Trees

@@ -11,9 +11,9 @@ use Rattle.go_model.specs.declared.types.term.Field.{Field, Field-F, out-Field, 
 use Rattle.go_model.specs.declared.types.term.Method.{Method, Method-F, out-Method, roll-Method, roll-out-Method, fold_out-Method}
 use Rattle.go_model.specs.declared.types.term.Signature.{Signature, Signature-F, out-Signature, roll-Signature, roll-out-Signature, fold_out-Signature}
 use Rattle.go_model.specs.types.Terms.{Layer}
-use Rattle.api_correspond.specs.declared.pair.TypePair.{TypePair}
+use Rattle.go_type_images.specs.declared.pair.TypePair.{TypePair}
 use Rattle.api_correspond.specs.Codes.{Code, code_of_text, code_of_list, code_of_rest, digits, code_of_number, code_of_flag, code_of_direction, code_of_basic, code_of_sel, field_code, method_code, signature_code, layer_code, code, code_of_field, code_of_method, code_of_signature, code_of_pair}
-use Rattle.api_correspond.proofs.Trees.{Tree, tree_plain, tree_named, tree_pointer, tree_slice, tree_array, tree_map, tree_chan, tree_func, tree_struct, tree_interface, SignatureTree, signature_tree, Trees, trees_none, trees_more, FieldTrees, fields_none, fields_more, MethodTrees, methods_none, methods_more, grown}
+use Rattle.go_type_images.proofs.Trees.{Tree, tree_plain, tree_named, tree_pointer, tree_slice, tree_array, tree_map, tree_chan, tree_func, tree_struct, tree_interface, SignatureTree, signature_tree, Trees, trees_none, trees_more, FieldTrees, fields_none, fields_more, MethodTrees, methods_none, methods_more, grown}
 
 -- where the first codes stand before rests that make them equal, the fact holds and the rests are equal
 abbrev Reads : Code → Code → Type 0 → Type 0

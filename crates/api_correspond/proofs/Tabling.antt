@@ -7,7 +7,7 @@ use Rattle.std.proofs.lemmas.Slice.Eq.{bytes_eq-Decides}
 use Rattle.indexmap.specs.IndexSet.{insert_key}
 use Rattle.go_base.specs.Lists.{Has, Once}
 use Rattle.go_base.proofs.Members.{found_has, has_found, has_split}
-use Rattle.api_correspond.specs.declared.pair.TypePair.{TypePair}
+use Rattle.go_type_images.specs.declared.pair.TypePair.{TypePair}
 use Rattle.api_correspond.specs.Codes.{Code, code_of_pair}
 use Rattle.api_correspond.specs.inner.Tables.{At, AddsAt, KeepsTexts, InStep, AddsPair, AddsPairs}
 use Rattle.api_correspond.proofs.PrefixFree.{pairs_told}

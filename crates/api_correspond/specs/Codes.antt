@@ -10,7 +10,7 @@ use Rattle.go_model.specs.declared.types.term.Term.{Term, Term-F, fold-Term}
 use Rattle.go_model.specs.declared.types.term.Field.{Field, Field-F, fold-Field}
 use Rattle.go_model.specs.declared.types.term.Method.{Method, Method-F, fold-Method}
 use Rattle.go_model.specs.declared.types.term.Signature.{Signature, Signature-F, fold-Signature}
-use Rattle.api_correspond.specs.declared.pair.TypePair.{TypePair}
+use Rattle.go_type_images.specs.declared.pair.TypePair.{TypePair}
 
 abbrev pub Code : Type 0
 Code = List ℕ

@@ -1,5 +1,4 @@
 pub mod Codes
-pub mod Images
 pub mod Outermost
 pub mod OwnedPairs
 pub mod Publics

@@ -1,7 +1,6 @@
--- The outermost constructor of a type, and the parts under it.
+-- The outermost constructor of a type, and the pairs of the parts under two.
 -- Public source: Go specification, "Types" and "Type identity"; after the README of golang.org/x/exp/apidiff, "Correspondence".
-use Rattle.std.specs.Prelude.{◌≡◌, ℕ, Bool, true, false, List, [], ◌∷◌, ◌++◌, length, map, if◌then◌else◌}
-use Rattle.go_base.specs.Gathered.{gather}
+use Rattle.std.specs.Prelude.{◌≡◌, ℕ, Bool, List, [], ◌∷◌, length, map, if◌then◌else◌}
 use Rattle.go_model.specs.types.Terms.{Layer}
 use Rattle.go_model.specs.types.MethodSets.{method_sel}
 use Rattle.go_model.specs.worlds.Worlds.{Packages}
@@ -9,11 +8,11 @@ use Rattle.go_model.specs.declared.constants.value.Basic.{Basic}
 use Rattle.go_model.specs.declared.types.names.TypeName.{TypeName}
 use Rattle.go_model.specs.declared.types.names.Sel.{Sel}
 use Rattle.go_model.specs.declared.types.term.Direction.{Direction}
-use Rattle.go_model.specs.declared.types.term.Term.{Term, Term-F, roll-Term}
+use Rattle.go_model.specs.declared.types.term.Term.{Term, Term-F}
 use Rattle.go_model.specs.declared.types.term.Field.{Field, out-Field}
-use Rattle.go_model.specs.declared.types.term.Method.{Method, out-Method}
+use Rattle.go_model.specs.declared.types.term.Method.{Method}
 use Rattle.go_model.specs.declared.types.term.Signature.{Signature, out-Signature}
-use Rattle.api_correspond.specs.declared.pair.TypePair.{TypePair}
+use Rattle.go_type_images.specs.declared.pair.TypePair.{TypePair}
 use Rattle.api_correspond.specs.Publics.{of_module, package_at}
 
 -- a field but for its type
@@ -58,29 +57,6 @@ outermost w (Term-F.Interface ms) = interface (map method_sel ms)
 -- two types match in their outermost constructors, the first in the old packages, the second in the new
 abbrev pub Match : Packages → Packages → Layer → Layer → Type 0
 Match old new k l = outermost old k ≡ outermost new l
-
--- a function type
-abbrev pub function_type : Signature → Term
-function_type g = roll-Term (Term-F.Func g)
-
-abbrev pub field_type : Field → Term
-field_type f = (out-Field f).term
-
-abbrev pub method_type : Method → Term
-method_type m = function_type (out-Method m).signature
-
--- the types under the outermost constructor, in order; those of an interface are the types of its methods
-abbrev pub parts : Layer → List Term
-parts (Term-F.Plain b) = []
-parts (Term-F.Named n) = []
-parts (Term-F.Pointer e) = e ∷ []
-parts (Term-F.Slice e) = e ∷ []
-parts (Term-F.Array n e) = e ∷ []
-parts (Term-F.Map k e) = k ∷ e ∷ []
-parts (Term-F.Chan d e) = e ∷ []
-parts (Term-F.Func g) = (out-Signature g).params ++ (out-Signature g).results
-parts (Term-F.Struct fs) = map field_type fs
-parts (Term-F.Interface ms) = map method_type ms
 
 abbrev pub pair : Term → Term → TypePair
 pair s t = record { old = s; new = t }

@@ -20,10 +20,12 @@ use Rattle.go_model.specs.declared.types.found.FieldFound.{FieldFound}
 use Rattle.go_model.specs.declared.types.term.Term.{Term, Term-F, out-Term}
 use Rattle.go_model.specs.declared.types.term.Field.{Field}
 use Rattle.go_model.specs.declared.types.term.Signature.{Signature}
-use Rattle.api_correspond.specs.declared.pair.TypePair.{TypePair}
+use Rattle.go_type_images.specs.declared.pair.TypePair.{TypePair}
 use Rattle.api_correspond.specs.declared.pair.OwnedPair.{OwnedPair}
 use Rattle.api_correspond.specs.Publics.{types_of, is_of_module, IsExported, Exports, IsOwner, qualified}
-use Rattle.api_correspond.specs.Outermost.{Match, function_type, field_type, parts, pair, side_by_side}
+use Rattle.api_correspond.specs.Outermost.{Match, pair, side_by_side}
+use Rattle.go_type_images.specs.Levels.{struct_layer, is_structured}
+use Rattle.go_type_images.specs.Parts.{function_type, field_type, parts}
 
 -- the types of an old and a new object, where the kinds are the same, or a function became a variable; a function has its
 -- function type, and untyped constants have none
@@ -45,17 +47,6 @@ pub record FromObject (old new : Packages) (name : List ℕ) (p : TypePair) : Ty
   pub same : after.name ≡ before.name
   pub named : name ≡ qualified path before.name
   pub types : types_of_entities before.entity after.entity ≡ Some p
-
-abbrev pub struct_layer : Layer → Bool
-struct_layer (Term-F.Struct fs) = true
-struct_layer l = false
-
-abbrev pub interface_layer : Layer → Bool
-interface_layer (Term-F.Interface ms) = true
-interface_layer l = false
-
-abbrev pub is_structured : Layer → Bool
-is_structured l = struct_layer l || interface_layer l
 
 -- both types are defined types of the module
 abbrev pub are_of_module : Packages → Packages → TypePair → Bool

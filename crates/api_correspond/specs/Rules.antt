@@ -23,10 +23,11 @@ use Rattle.go_model.specs.declared.types.term.Term.{Term, Term-F, out-Term}
 use Rattle.go_model.specs.declared.types.term.Field.{Field}
 use Rattle.go_model.specs.declared.types.term.Method.{Method, out-Method}
 use Rattle.go_model.specs.declared.types.term.Signature.{Signature}
-use Rattle.api_correspond.specs.declared.pair.TypePair.{TypePair}
+use Rattle.go_type_images.specs.declared.pair.TypePair.{TypePair}
 use Rattle.api_correspond.specs.Publics.{types_of, package_at, of_module, of_std, IsPublic, IsExported, Exports}
 use Rattle.api_correspond.specs.Outermost.{Match}
-use Rattle.api_correspond.specs.OwnedPairs.{IsOwned, Owned, are_of_module, are_structs, struct_layer, interface_layer}
+use Rattle.api_correspond.specs.OwnedPairs.{IsOwned, Owned, are_of_module, are_structs}
+use Rattle.go_type_images.specs.Levels.{struct_layer, interface_layer}
 
 -- `package`: a public package stays public
 abbrev pub KeepsPackage : Packages → Packages → List ℕ → Type 0

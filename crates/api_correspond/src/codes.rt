@@ -2,13 +2,13 @@
 ghost use Rattle.std.specs.Prelude.{◌≡◌, ◌++◌, ◌∷◌, [], IfOk, OnOk, map};
 ghost use Rattle.api_correspond.specs.Codes.{code, code_of_text, code_of_list, code_of_number, code_of_flag, code_of_direction, code_of_basic, code_of_sel, code_of_field, code_of_method, code_of_signature, code_of_pair};
 
-use crate::pair::TypePair;
 use go_base::memory::NoMemory;
 use go_base::shared::Shared;
 use go_base::text::Text;
 use go_model::constants::value::Basic;
 use go_model::types::names::{Sel, TypeName};
 use go_model::types::term::{Direction, Field, Method, Signature, Term};
+use go_type_images::pair::TypePair;
 use std::alloc::Global;
 
 fn put(out: &mut Vec<u8>, byte: u8) -> Result<(), NoMemory>

@@ -6,14 +6,14 @@ ghost use Rattle.go_model.specs.declared.types.term.Term.{out-Term};
 ghost use Rattle.go_model.specs.types.Terms.{error_type};
 ghost use Rattle.go_model.specs.types.Underlying.{under};
 ghost use Rattle.api_correspond.specs.Publics.{types_of};
-ghost use Rattle.api_correspond.specs.OwnedPairs.{is_structured, are_of_module, have_members, struct_layer, Leads};
-ghost use Rattle.api_correspond.specs.declared.pair.TypePair.{TypePair};
+ghost use Rattle.api_correspond.specs.OwnedPairs.{are_of_module, have_members, Leads};
+ghost use Rattle.go_type_images.specs.Levels.{is_structured, struct_layer};
+ghost use Rattle.go_type_images.specs.declared.pair.TypePair.{TypePair};
 ghost use Rattle.api_correspond.specs.inner.Leading.{IsPart, IsPartUnderneath, IsTopField, IsMember};
 
 use crate::embedded::fields_of;
 use crate::matching::types_match;
 use crate::members::{push_common_fields, push_common_methods, push_promoted_fields};
-use crate::pair::TypePair;
 use crate::parts::{parts, push_pairs};
 use crate::publics::is_of_module;
 use go_base::memory::NoMemory;
@@ -21,6 +21,7 @@ use go_model::types::package::Defined;
 use go_model::types::term::Term;
 use go_model::types::world::World;
 use go_selectors::lookup::Lookup;
+use go_type_images::pair::TypePair;
 use std::alloc::Global;
 
 fn is_structured(term: &Term) -> bool

@@ -6,7 +6,8 @@ ghost use Rattle.go_model.specs.types.MethodSets.{IsMethodSet};
 ghost use Rattle.go_model.specs.types.Terms.{error_type};
 ghost use Rattle.go_selectors.specs.Candidates.{Candidates, HoldMethodSet};
 ghost use Rattle.api_correspond.specs.OwnedPairs.{receiver};
-ghost use Rattle.api_correspond.specs.Outermost.{pair, function_type};
+ghost use Rattle.api_correspond.specs.Outermost.{pair};
+ghost use Rattle.go_type_images.specs.Parts.{function_type};
 ghost use Rattle.api_correspond.specs.Publics.{types_of};
 ghost use Rattle.api_correspond.specs.inner.BySel.{ArePlaces};
 ghost use Rattle.api_correspond.specs.inner.Tables.{ItemAt};
@@ -14,7 +15,6 @@ ghost use Rattle.api_correspond.specs.inner.Leading.{IsFieldAt, AreFieldsAt, IsE
 
 use crate::by_sel::{field_places, places_at};
 use crate::embedded::{deep_fields, is_exported};
-use crate::pair::TypePair;
 use go_base::boxed::Box;
 use go_base::list::List;
 use go_base::memory::NoMemory;
@@ -27,6 +27,7 @@ use go_model::types::world::World;
 use go_selectors::candidate::Candidate;
 use go_selectors::candidates::{called_at, candidates};
 use go_selectors::lookup::Lookup;
+use go_type_images::pair::TypePair;
 use std::alloc::Global;
 use std::collections::BTreeMap;
 

@@ -1,30 +1,9 @@
-//! Pairs of an old and a new type.
+//! Pairs of an old and a new type, with the exported object that they are reported for.
 ghost use Rattle.std.specs.Prelude.{◌≡◌};
 
 use go_base::text::Text;
 use go_model::types::term::Term;
-
-/// A type of the old world and one of the new world, which have to correspond.
-pub struct TypePair {
-    pub old: Term,
-    pub new: Term,
-}
-
-impl Drop for TypePair {
-    fn drop(self) {
-        let TypePair { old: _, new: _ } = self;
-    }
-}
-
-impl TypePair {
-    /// The old and the new type, moved out.
-    pub fn into_parts(self) -> (Term, Term)
-        ensures { result ≡ record { 0 = self.old; 1 = self.new } }
-    {
-        let TypePair { old, new } = self;
-        (old, new)
-    }
-}
+use go_type_images::pair::TypePair;
 
 /// A pair of types, and the exported object that it is reported for: the path of its package, a dot and its
 /// name.

@@ -1,12 +1,13 @@
 //! The parts under the outermost constructor of a type.
 ghost use Rattle.std.specs.Prelude.{◌≡◌, ◌∷◌, [], ◌++◌, IfOk, OnOk, map};
 ghost use Rattle.go_model.specs.declared.types.term.Term.{out-Term};
-ghost use Rattle.api_correspond.specs.Outermost.{parts, pair, side_by_side, field_type, method_type};
+ghost use Rattle.api_correspond.specs.Outermost.{pair, side_by_side};
+ghost use Rattle.go_type_images.specs.Parts.{parts, field_type, method_type};
 ghost use Rattle.api_correspond.specs.inner.Parts.{type_of};
 
-use crate::pair::TypePair;
 use go_base::memory::NoMemory;
 use go_model::types::term::{Field, Method, Signature, Term};
+use go_type_images::pair::TypePair;
 use std::alloc::Global;
 
 /// A type where it stands, or the function type of a signature that stands somewhere.

@@ -3,9 +3,9 @@ ghost use Rattle.std.specs.Prelude.{◌≡◌, [], IfOk, OnOk};
 ghost use Rattle.api_correspond.specs.inner.Tables.{InStep, AddsPair, AddsAt, ItemAt};
 
 use crate::codes::pair_code;
-use crate::pair::TypePair;
 use go_base::memory::NoMemory;
 use go_base::text::Text;
+use go_type_images::pair::TypePair;
 use indexmap::IndexSet;
 use std::alloc::Global;
 

@@ -6,7 +6,7 @@ use Rattle.go_base.specs.Lists.{Has, Once}
 use Rattle.go_model.specs.worlds.Worlds.{Packages}
 use Rattle.go_model.specs.declared.types.names.TypeName.{TypeName}
 use Rattle.go_model.specs.declared.types.term.Term.{Term, Term-F, out-Term}
-use Rattle.api_correspond.specs.declared.pair.TypePair.{TypePair}
+use Rattle.go_type_images.specs.declared.pair.TypePair.{TypePair}
 use Rattle.api_correspond.specs.declared.pair.OwnedPair.{OwnedPair}
 use Rattle.api_forced.specs.declared.claims.Claim.{Claim}
 use Rattle.api_correspond.specs.Publics.{IsOwner, by_name, by_leader, qualified}

@@ -3,7 +3,7 @@ use Rattle.std.proofs.Common.{◌≡◌, ◌≤◌, ◌+◌, inl, inr, ℕ, Some
 use Rattle.go_base.specs.Lists.{Has}
 use Rattle.go_selectors.proofs.Lists.{has-split}
 use Rattle.go_model.specs.worlds.Worlds.{Packages}
-use Rattle.api_correspond.specs.declared.pair.TypePair.{TypePair}
+use Rattle.go_type_images.specs.declared.pair.TypePair.{TypePair}
 use Rattle.api_correspond.specs.inner.Tables.{At, AddsPairs}
 use Rattle.api_forced.specs.inner.Graphs.{LeadsTo, Followed, IsClosed, FollowedBy, Extends, Reached, at_start, led_on}
 use Rattle.api_correspond.proofs.Tabling.{Adding, adding_none, adding_all}

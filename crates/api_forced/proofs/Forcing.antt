@@ -2,7 +2,7 @@
 use Rattle.std.proofs.Common.{◌≡◌, ℕ, Option, List, [], sym, subst}
 use Rattle.go_base.specs.Lists.{Has, Once}
 use Rattle.go_model.specs.worlds.Worlds.{Packages}
-use Rattle.api_correspond.specs.declared.pair.TypePair.{TypePair}
+use Rattle.go_type_images.specs.declared.pair.TypePair.{TypePair}
 use Rattle.api_correspond.specs.declared.pair.OwnedPair.{OwnedPair}
 use Rattle.api_correspond.specs.OwnedPairs.{FromObject, pair_of}
 use Rattle.api_forced.specs.Ownerships.{IsOwnership}

@@ -11,7 +11,7 @@ use Rattle.go_base.proofs.Ordered.{first_key}
 use Rattle.go_model.specs.worlds.Worlds.{Packages, IsWorld, IsPackage, object_name, object_in, path_of, table_of}
 use Rattle.go_model.specs.declared.types.package.Package.{Package}
 use Rattle.go_model.specs.declared.types.package.Object.{Object}
-use Rattle.api_correspond.specs.declared.pair.TypePair.{TypePair}
+use Rattle.go_type_images.specs.declared.pair.TypePair.{TypePair}
 use Rattle.api_correspond.specs.declared.pair.OwnedPair.{OwnedPair}
 use Rattle.api_correspond.specs.Publics.{package_at, IsPublic, IsExportedName, qualified}
 use Rattle.api_correspond.specs.OwnedPairs.{types_of_entities, FromObject, pair_of}

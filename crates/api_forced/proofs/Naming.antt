@@ -3,7 +3,7 @@ use Rattle.std.proofs.Common.{◌≡◌, ℕ, zero, suc, Option, Some, None, Lis
 use Rattle.go_base.proofs.Lists.{take_past}
 use Rattle.go_model.specs.worlds.Worlds.{Packages}
 use Rattle.go_model.specs.declared.types.term.Term.{Term}
-use Rattle.api_correspond.specs.declared.pair.TypePair.{TypePair}
+use Rattle.go_type_images.specs.declared.pair.TypePair.{TypePair}
 use Rattle.api_correspond.specs.Publics.{qualified}
 use Rattle.api_correspond.specs.inner.Tables.{At, KeepsTexts}
 use Rattle.api_forced.specs.inner.Graphs.{OwnName, OwnNames}

@@ -3,7 +3,7 @@ use Rattle.std.proofs.Common.{◌≡◌, ◌≤◌, ◌<◌, inl, inr, ℕ, List
 use Rattle.go_base.specs.Lists.{Has, Once}
 use Rattle.go_base.proofs.Lists.{take_past}
 use Rattle.go_selectors.proofs.Lists.{has-left, has-right, has-split, has-last, has-back}
-use Rattle.api_correspond.specs.declared.pair.TypePair.{TypePair}
+use Rattle.go_type_images.specs.declared.pair.TypePair.{TypePair}
 use Rattle.api_correspond.specs.declared.pair.OwnedPair.{OwnedPair}
 use Rattle.api_forced.specs.declared.claims.Claim.{Claim}
 use Rattle.api_correspond.specs.OwnedPairs.{pair_of}

@@ -4,13 +4,13 @@ ghost use Rattle.api_forced.specs.inner.Graphs.{OwnNames, OwnName};
 ghost use Rattle.api_forced.specs.inner.Claims.{ClaimAt, IsClaimOf, AddsClaims, LedClaims, RootClaims, LedBy, HoldClaims, owner_by};
 ghost use Rattle.api_correspond.specs.inner.Tables.{ItemAt, KeepsTexts};
 
-use api_correspond::pair::TypePair;
 use api_correspond::publics::{public_name, qualified};
 use api_correspond::table::add_text;
 use go_base::list::List;
 use go_base::memory::NoMemory;
 use go_base::text::Text;
 use go_model::types::world::World;
+use go_type_images::pair::TypePair;
 use indexmap::IndexSet;
 use std::alloc::Global;
 

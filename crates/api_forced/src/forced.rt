@@ -9,13 +9,14 @@ ghost use Rattle.api_correspond.specs.inner.Tables.{InStep, ItemAt, KeepsTexts};
 use crate::claims::{Claim, claims, own_names};
 use crate::graph::{Graph, close};
 use crate::objects::object_pairs;
-use api_correspond::pair::{OwnedPair, TypePair};
+use api_correspond::pair::OwnedPair;
 use api_correspond::table::{PairTable, add_text};
 use go_base::list::List;
 use go_base::memory::NoMemory;
 use go_base::text::Text;
 use go_model::types::world::World;
 use go_selectors::lookup::error_type;
+use go_type_images::pair::TypePair;
 use indexmap::IndexSet;
 use std::alloc::Global;
 

@@ -3,16 +3,16 @@ ghost use Rattle.std.specs.Prelude.{◌≡◌, option_map, IfOk, OnOk};
 ghost use Rattle.go_model.specs.types.Terms.{error_type};
 ghost use Rattle.api_correspond.specs.inner.Tables.{InStep, AddsPairs};
 ghost use Rattle.go_base.specs.Lists.{Has};
-ghost use Rattle.api_correspond.specs.declared.pair.TypePair.{TypePair as Pair};
+ghost use Rattle.go_type_images.specs.declared.pair.TypePair.{TypePair as Pair};
 ghost use Rattle.api_forced.specs.inner.Graphs.{IsClosed, FollowedBy, Extends, Reached};
 
 use api_correspond::leads::leads;
-use api_correspond::pair::TypePair;
 use api_correspond::table::PairTable;
 use go_base::list::List;
 use go_base::memory::NoMemory;
 use go_model::types::package::Defined;
 use go_model::types::world::World;
+use go_type_images::pair::TypePair;
 use std::alloc::Global;
 
 /// Numbered pairs, and for each the numbers of those to which it leads.

@@ -2,7 +2,7 @@
 ghost use Rattle.std.specs.Prelude.{List, ℕ};
 ghost use Rattle.go_model.specs.worlds.Worlds.{Packages};
 ghost use Rattle.api_correspond.specs.OwnedPairs.{HoldsOwned};
-ghost use Rattle.api_correspond.specs.declared.pair.TypePair.{TypePair};
+ghost use Rattle.go_type_images.specs.declared.pair.TypePair.{TypePair};
 ghost use Rattle.api_forced.specs.Ownerships.{IsOwnership};
 ghost use Rattle.api_forced.specs.declared.claims.Claim.{Claim as Owning};
 

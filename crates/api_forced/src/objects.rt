@@ -3,13 +3,14 @@ ghost use Rattle.std.specs.Prelude.{◌≡◌, ◌++◌, ◌∷◌, [], Some, If
 ghost use Rattle.go_base.specs.Growing.{Grows};
 ghost use Rattle.go_base.specs.Lists.{Ascending, Has};
 ghost use Rattle.go_model.specs.worlds.Worlds.{object_name};
-ghost use Rattle.api_correspond.specs.Outermost.{pair, function_type};
+ghost use Rattle.api_correspond.specs.Outermost.{pair};
+ghost use Rattle.go_type_images.specs.Parts.{function_type};
 ghost use Rattle.api_correspond.specs.Publics.{qualified};
 ghost use Rattle.api_correspond.specs.OwnedPairs.{types_of_entities, pair_of, FromObject};
 ghost use Rattle.api_forced.specs.inner.Objects.{IsOfObject, IsOfPackage, IsOfPath, types_of_constants, types_of_function};
 ghost use Rattle.api_correspond.specs.declared.pair.OwnedPair.{OwnedPair};
 
-use api_correspond::pair::{OwnedPair, TypePair};
+use api_correspond::pair::OwnedPair;
 use api_correspond::publics::{is_public, qualified};
 use go_base::boxed::Box;
 use go_base::characters::is_exported;
@@ -18,6 +19,7 @@ use go_base::text::Text;
 use go_model::types::package::{ConstTerm, Entity, Object, Package};
 use go_model::types::term::{Signature, Term};
 use go_model::types::world::World;
+use go_type_images::pair::TypePair;
 use std::alloc::Global;
 
 fn function_type(alloc: Global, signature: &Signature) -> Result<Term, NoMemory>

@@ -5,7 +5,7 @@ use Rattle.go_base.specs.Lists.{Has}
 use Rattle.go_base.proofs.Lists.{take_past}
 use Rattle.go_selectors.proofs.Lists.{has_none}
 use Rattle.go_model.specs.worlds.Worlds.{Packages}
-use Rattle.api_correspond.specs.declared.pair.TypePair.{TypePair}
+use Rattle.go_type_images.specs.declared.pair.TypePair.{TypePair}
 use Rattle.api_correspond.specs.OwnedPairs.{Owned}
 use Rattle.api_correspond.specs.Publics.{IsPublic}
 use Rattle.api_correspond.specs.Rules.{KeepsPath, KeepsPair, KeepsAmong, IsSealedPair, Compatible}

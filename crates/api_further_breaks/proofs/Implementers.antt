@@ -12,8 +12,8 @@ use Rattle.go_model.specs.declared.types.names.Sel.{Sel}
 use Rattle.go_model.specs.declared.types.term.Term.{Term, Term-F}
 use Rattle.go_model.specs.declared.types.term.Method.{Method, out-Method}
 use Rattle.go_selectors.specs.Candidates.{Candidates, HoldMethodSet, AreCandidates}
-use Rattle.api_correspond.specs.declared.pair.TypePair.{TypePair}
-use Rattle.api_correspond.specs.OwnedPairs.{interface_layer}
+use Rattle.go_type_images.specs.declared.pair.TypePair.{TypePair}
+use Rattle.go_type_images.specs.Levels.{interface_layer}
 use Rattle.api_correspond.specs.Publics.{types_of}
 use Rattle.api_correspond.specs.inner.BySel.{PlaceTable, numbers_of, places_at}
 use Rattle.api_correspond.specs.inner.Tables.{At}

@@ -14,7 +14,7 @@ use Rattle.go_model.specs.declared.types.names.Sel.{Sel}
 use Rattle.go_model.specs.declared.types.term.Method.{Method}
 use Rattle.go_selectors.proofs.Lists.{has-left, has-last, has-back}
 use Rattle.go_selectors.proofs.Noting.{sel_self}
-use Rattle.api_correspond.specs.declared.pair.TypePair.{TypePair}
+use Rattle.go_type_images.specs.declared.pair.TypePair.{TypePair}
 use Rattle.api_correspond.specs.Rules.{is_sealing}
 use Rattle.api_correspond.specs.inner.BySel.{PlaceTable, numbers_of, places_at, AddsPlace}
 use Rattle.api_correspond.specs.inner.Tables.{At}

@@ -4,7 +4,7 @@ use Rattle.api_correspond.specs.Rules.{Compatible}
 use Rattle.api_breaks.specs.declared.broken.Break.{Break}
 use Rattle.api_breaks.specs.declared.broken.Lost.{Lost}
 use Rattle.api_correspond.specs.Rules.{KeepsPair, KeepsAmong}
-use Rattle.api_correspond.specs.declared.pair.TypePair.{TypePair}
+use Rattle.go_type_images.specs.declared.pair.TypePair.{TypePair}
 use Rattle.api_breaks.specs.Breaks.{IsPackageBreak, package_gone, package_renamed, object_gone, object_of_other_kind, constant_apart, IsLoss, types_apart, underlying_apart, field_gone, not_selectable, not_comparable, sealing_apart, interface_method_gone, interface_method_new, method_gone, pointer_method_gone, IsLossAmong, not_implementing, pointer_not_implementing, not_apart, IsBreak, of_packages, of_pair, of_pairs}
 
 module _ (old new : Packages) where

@@ -16,7 +16,7 @@ use Rattle.go_model.specs.declared.types.term.Term.{Term, Term-F, out-Term, roll
 use Rattle.go_selectors.proofs.Lists.{has-left, has-last, has-back}
 use Rattle.go_selectors.specs.Answers.{Decides}
 use Rattle.go_selectors.specs.Names.{same_name, same_name_is}
-use Rattle.api_correspond.specs.declared.pair.TypePair.{TypePair}
+use Rattle.go_type_images.specs.declared.pair.TypePair.{TypePair}
 use Rattle.api_correspond.specs.Publics.{module_layer, is_of_module}
 use Rattle.api_correspond.specs.OwnedPairs.{are_of_module}
 use Rattle.api_correspond.specs.Rules.{KeepsApart}

@@ -4,7 +4,7 @@ ghost use Rattle.go_base.specs.Growing.{Grows};
 ghost use Rattle.go_base.specs.Lists.{Has};
 ghost use Rattle.api_correspond.specs.OwnedPairs.{HoldsOwned};
 ghost use Rattle.api_correspond.specs.Rules.{Compatible};
-ghost use Rattle.api_correspond.specs.declared.pair.TypePair.{TypePair};
+ghost use Rattle.go_type_images.specs.declared.pair.TypePair.{TypePair};
 ghost use Rattle.api_correspond.specs.inner.Tables.{ItemAt};
 ghost use Rattle.api_breaks.specs.Breaks.{IsBreak};
 ghost use Rattle.api_breaks.specs.declared.broken.Break.{Break as Broken};

@@ -14,7 +14,6 @@ ghost use Rattle.api_further_breaks.specs.inner.Implementing.{KeepsAt, IsLostAt,
 use crate::sealed::methods_of;
 use api_breaks::broken::Lost;
 use api_correspond::by_sel::places_at;
-use api_correspond::pair::TypePair;
 use go_base::list::List;
 use go_base::memory::NoMemory;
 use go_base::shared::Shared;
@@ -26,6 +25,7 @@ use go_selectors::candidate::Candidate;
 use go_selectors::candidates::{called_at, candidates};
 use go_selectors::identity::same_signature;
 use go_selectors::lookup::Lookup;
+use go_type_images::pair::TypePair;
 use std::alloc::Global;
 use std::collections::BTreeMap;
 

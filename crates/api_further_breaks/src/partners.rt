@@ -7,12 +7,12 @@ ghost use Rattle.api_breaks.specs.inner.Telling.{Tells};
 ghost use Rattle.api_further_breaks.specs.inner.Partners.{AddsName, NameAt, side_of, NotesName, NotesSide, HoldShared, IsShared, HasOthers, KeepsPartners, IsPartnersLoss};
 
 use api_breaks::broken::Lost;
-use api_correspond::pair::TypePair;
 use api_correspond::publics::is_of_module;
 use go_base::memory::NoMemory;
 use go_model::types::term::Term;
 use go_model::types::world::World;
 use go_selectors::name::Name;
+use go_type_images::pair::TypePair;
 use indexmap::IndexSet;
 use std::alloc::Global;
 

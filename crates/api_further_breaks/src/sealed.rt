@@ -4,13 +4,12 @@ ghost use Rattle.go_model.specs.types.Terms.{error_type};
 ghost use Rattle.go_model.specs.types.Underlying.{under, methods_of};
 ghost use Rattle.go_model.specs.declared.types.term.Term.{out-Term};
 ghost use Rattle.go_selectors.specs.Answers.{Decides};
-ghost use Rattle.api_correspond.specs.OwnedPairs.{interface_layer};
+ghost use Rattle.go_type_images.specs.Levels.{interface_layer};
 ghost use Rattle.api_correspond.specs.Publics.{types_of};
 ghost use Rattle.api_correspond.specs.Rules.{is_sealing};
 ghost use Rattle.api_further_breaks.specs.inner.Sealed.{FirstSealing, FirstOfPair, IndexesPair, IsIndex};
 
 use api_correspond::by_sel::add_place;
-use api_correspond::pair::TypePair;
 use api_correspond::publics::has_module_path;
 use go_base::list::List;
 use go_base::memory::NoMemory;
@@ -19,6 +18,7 @@ use go_model::types::package::Defined;
 use go_model::types::term::{Method, Term};
 use go_model::types::world::World;
 use go_selectors::lookup::Lookup;
+use go_type_images::pair::TypePair;
 use std::alloc::Global;
 use std::collections::BTreeMap;
 

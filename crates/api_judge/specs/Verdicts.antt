@@ -15,7 +15,7 @@ use Rattle.api_breaks.specs.declared.broken.Break.{Break}
 use Rattle.api_correspond.specs.OwnedPairs.{HoldsOwned}
 use Rattle.api_correspond.specs.Publics.{package_at}
 use Rattle.api_correspond.specs.Rules.{Compatible}
-use Rattle.api_correspond.specs.declared.pair.TypePair.{TypePair}
+use Rattle.go_type_images.specs.declared.pair.TypePair.{TypePair}
 use Rattle.api_features.specs.Features.{IsFeature}
 use Rattle.api_judge.specs.declared.verdict.Verdict.{Verdict}
 use Rattle.api_lines.specs.Lines.{printed as line_text}

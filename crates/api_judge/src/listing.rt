@@ -7,7 +7,7 @@ ghost use Rattle.go_base.specs.Growing.{Grows};
 ghost use Rattle.go_base.specs.Lists.{Has};
 ghost use Rattle.api_correspond.specs.OwnedPairs.{HoldsOwned};
 ghost use Rattle.api_correspond.specs.Rules.{Compatible};
-ghost use Rattle.api_correspond.specs.declared.pair.TypePair.{TypePair};
+ghost use Rattle.go_type_images.specs.declared.pair.TypePair.{TypePair};
 ghost use Rattle.api_judge.specs.inner.Listings.{IsToldOf, IsListed};
 ghost use Rattle.api_judge.specs.Verdicts.{AreBreaks};
 ghost use Rattle.api_subjects.specs.Told.{IsTold, printed};

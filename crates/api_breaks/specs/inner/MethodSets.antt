@@ -10,8 +10,9 @@ use Rattle.go_model.specs.declared.types.term.Term.{Term}
 use Rattle.go_model.specs.declared.types.term.Method.{Method, out-Method}
 use Rattle.go_model.specs.declared.types.term.Signature.{Signature}
 use Rattle.go_selectors.specs.Candidates.{Candidates, called_at}
-use Rattle.api_correspond.specs.declared.pair.TypePair.{TypePair}
-use Rattle.api_correspond.specs.OwnedPairs.{are_of_module, interface_layer}
+use Rattle.go_type_images.specs.declared.pair.TypePair.{TypePair}
+use Rattle.api_correspond.specs.OwnedPairs.{are_of_module}
+use Rattle.go_type_images.specs.Levels.{interface_layer}
 use Rattle.api_correspond.specs.Publics.{types_of}
 use Rattle.api_correspond.specs.Rules.{is_std_sel, Counts, KeepsInSet, have_method_sets}
 use Rattle.api_correspond.specs.inner.Members.{OfSome}

@@ -9,9 +9,10 @@ use Rattle.go_model.specs.worlds.Worlds.{Packages}
 use Rattle.go_model.specs.declared.types.names.Sel.{Sel}
 use Rattle.go_model.specs.declared.types.term.Term.{roll-Term}
 use Rattle.go_model.specs.declared.types.term.Field.{Field}
-use Rattle.api_correspond.specs.declared.pair.TypePair.{TypePair}
+use Rattle.go_type_images.specs.declared.pair.TypePair.{TypePair}
 use Rattle.api_correspond.specs.Outermost.{Match}
-use Rattle.api_correspond.specs.OwnedPairs.{struct_layer, interface_layer, are_of_module}
+use Rattle.api_correspond.specs.OwnedPairs.{are_of_module}
+use Rattle.go_type_images.specs.Levels.{struct_layer, interface_layer}
 use Rattle.api_correspond.specs.Publics.{types_of, IsExported}
 use Rattle.api_correspond.specs.Rules.{KeepsType, KeepsUnderlying, KeepsField, KeepsComparable, have_structs}
 use Rattle.api_correspond.specs.inner.Members.{OfSome}

@@ -18,12 +18,14 @@ use Rattle.go_model.specs.declared.types.term.Term.{Term}
 use Rattle.go_model.specs.declared.types.term.Field.{Field}
 use Rattle.go_model.specs.declared.types.term.Method.{Method}
 use Rattle.go_model.specs.declared.types.term.Signature.{Signature}
-use Rattle.api_correspond.specs.declared.pair.TypePair.{TypePair}
+use Rattle.go_type_images.specs.declared.pair.TypePair.{TypePair}
 use Rattle.api_correspond.specs.Publics.{IsExported, types_of}
-use Rattle.api_correspond.specs.Outermost.{Match, function_type, field_type, method_type, parts, pair, side_by_side}
+use Rattle.api_correspond.specs.Outermost.{Match, pair, side_by_side}
+use Rattle.go_type_images.specs.Parts.{function_type, field_type, method_type, parts}
 use Rattle.api_correspond.specs.inner.Members.{OfSome}
 use Rattle.api_correspond.specs.inner.Tables.{At}
-use Rattle.api_correspond.specs.OwnedPairs.{receiver, is_structured, are_of_module, have_members}
+use Rattle.api_correspond.specs.OwnedPairs.{receiver, are_of_module, have_members}
+use Rattle.go_type_images.specs.Levels.{is_structured}
 
 -- the parts at one place, where the outermost constructors match
 abbrev pub IsPart : Packages → Packages → Layer → Layer → TypePair → Type 0

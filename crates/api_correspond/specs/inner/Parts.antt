@@ -3,7 +3,7 @@
 use Rattle.go_model.specs.declared.types.term.Term.{Term}
 use Rattle.api_correspond.specs.declared.parts.Part.{Part}
 use Rattle.api_correspond.specs.declared.parts.Part.TheVariants as part
-use Rattle.api_correspond.specs.Outermost.{function_type}
+use Rattle.go_type_images.specs.Parts.{function_type}
 
 abbrev pub type_of : Part → Term
 type_of (part.Type t) = t.now

@@ -4,7 +4,7 @@ use Rattle.std.specs.Prelude.{◌≡◌, ◌⊎◌, ◌<◌, ◌≤◌, ℕ, zer
 use denote.Ref.{Bor}
 use lib.ListN.{get_or}
 use Rattle.go_base.specs.Lists.{Has, Once}
-use Rattle.api_correspond.specs.declared.pair.TypePair.{TypePair}
+use Rattle.go_type_images.specs.declared.pair.TypePair.{TypePair}
 use Rattle.api_correspond.specs.Codes.{Code, code_of_pair}
 
 -- the item stands at the place

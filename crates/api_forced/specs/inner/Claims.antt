@@ -6,7 +6,7 @@ use Rattle.go_base.specs.Lists.{Has, Once}
 use Rattle.go_base.specs.Growing.{Grows}
 use Rattle.api_forced.specs.declared.claims.Claim.{Claim}
 use Rattle.api_correspond.specs.declared.pair.OwnedPair.{OwnedPair}
-use Rattle.api_correspond.specs.declared.pair.TypePair.{TypePair}
+use Rattle.go_type_images.specs.declared.pair.TypePair.{TypePair}
 use Rattle.api_correspond.specs.inner.Members.{OfSome}
 use Rattle.api_correspond.specs.OwnedPairs.{pair_of}
 use Rattle.api_correspond.specs.inner.Tables.{At}

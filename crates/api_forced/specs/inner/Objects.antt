@@ -10,9 +10,10 @@ use Rattle.go_model.specs.declared.types.package.Entity.TheVariants as entity
 use Rattle.go_model.specs.declared.types.package.ConstTerm.{ConstTerm}
 use Rattle.go_model.specs.declared.types.package.ConstTerm.TheVariants as constant
 use Rattle.go_model.specs.declared.types.term.Signature.{Signature}
-use Rattle.api_correspond.specs.declared.pair.TypePair.{TypePair}
+use Rattle.go_type_images.specs.declared.pair.TypePair.{TypePair}
 use Rattle.api_correspond.specs.declared.pair.OwnedPair.{OwnedPair}
-use Rattle.api_correspond.specs.Outermost.{pair, function_type}
+use Rattle.api_correspond.specs.Outermost.{pair}
+use Rattle.go_type_images.specs.Parts.{function_type}
 use Rattle.api_correspond.specs.OwnedPairs.{types_of_entities, pair_of}
 use Rattle.api_correspond.specs.Publics.{package_at, IsPublic, IsExportedName, qualified}
 use Rattle.api_correspond.specs.inner.Members.{OfSome}

@@ -8,7 +8,7 @@ use Rattle.go_model.specs.worlds.Worlds.{Packages}
 use Rattle.go_model.specs.declared.types.term.Term.{Term}
 use Rattle.go_model.specs.declared.types.term.Method.{Method}
 use Rattle.go_selectors.specs.Candidates.{Candidates, AreCandidates}
-use Rattle.api_correspond.specs.declared.pair.TypePair.{TypePair}
+use Rattle.go_type_images.specs.declared.pair.TypePair.{TypePair}
 use Rattle.api_correspond.specs.Publics.{types_of}
 use Rattle.api_correspond.specs.inner.BySel.{PlaceTable, places_at}
 use Rattle.api_correspond.specs.inner.Members.{OfSome}

@@ -5,7 +5,7 @@ use Rattle.go_base.specs.Lists.{Has}
 use Rattle.go_model.specs.worlds.Worlds.{Packages}
 use Rattle.go_model.specs.declared.types.names.TypeName.{TypeName}
 use Rattle.go_model.specs.declared.types.term.Term.{Term, Term-F, out-Term}
-use Rattle.api_correspond.specs.declared.pair.TypePair.{TypePair}
+use Rattle.go_type_images.specs.declared.pair.TypePair.{TypePair}
 use Rattle.api_correspond.specs.OwnedPairs.{are_of_module}
 use Rattle.api_correspond.specs.Rules.{KeepsApart}
 use Rattle.api_correspond.specs.inner.Tables.{At}

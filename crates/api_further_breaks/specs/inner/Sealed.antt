@@ -8,8 +8,8 @@ use Rattle.go_model.specs.types.Underlying.{under, methods_of}
 use Rattle.go_model.specs.worlds.Worlds.{Packages}
 use Rattle.go_model.specs.declared.types.names.Sel.{Sel}
 use Rattle.go_model.specs.declared.types.term.Method.{Method}
-use Rattle.api_correspond.specs.declared.pair.TypePair.{TypePair}
-use Rattle.api_correspond.specs.OwnedPairs.{interface_layer}
+use Rattle.go_type_images.specs.declared.pair.TypePair.{TypePair}
+use Rattle.go_type_images.specs.Levels.{interface_layer}
 use Rattle.api_correspond.specs.Publics.{types_of}
 use Rattle.api_correspond.specs.Rules.{is_sealing, IsSealed}
 use Rattle.api_correspond.specs.inner.BySel.{PlaceTable, places_at, AddsPlace}

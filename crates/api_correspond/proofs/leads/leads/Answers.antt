@@ -1,7 +1,7 @@
 use Rattle.std.proofs.Common.{subst, List}
 use Rattle.go_base.specs.Growing.{Grows}
 use Rattle.go_model.specs.declared.types.term.Term.{out-Term}
-use Rattle.api_correspond.specs.declared.pair.TypePair.{TypePair}
+use Rattle.go_type_images.specs.declared.pair.TypePair.{TypePair}
 use Rattle.api_correspond.specs.inner.Leading.{IsPart}
 use Rattle.api_correspond.proofs.Leading.{leads_exact}
 use Rattle.api_correspond.proofs.leads.leads.Goals as goal

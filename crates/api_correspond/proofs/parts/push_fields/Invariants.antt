@@ -1,5 +1,5 @@
 use Rattle.std.proofs.Common.{◌≡◌, ◌++◌, map, take}
-use Rattle.api_correspond.specs.Outermost.{field_type}
+use Rattle.go_type_images.specs.Parts.{field_type}
 use Rattle.api_correspond.specs.inner.Parts.{type_of}
 use Rattle.api_correspond.proofs.parts.push_fields.Given as goal
 

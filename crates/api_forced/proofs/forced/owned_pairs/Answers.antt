@@ -1,5 +1,5 @@
 use Rattle.std.proofs.Common.{subst, sym, List}
-use Rattle.api_correspond.specs.declared.pair.TypePair.{TypePair}
+use Rattle.go_type_images.specs.declared.pair.TypePair.{TypePair}
 use Rattle.api_forced.specs.Ownerships.{IsOwnership}
 use Rattle.api_forced.proofs.Forcing.{ownership_exact}
 use Rattle.api_forced.proofs.forced.owned_pairs.Goals as goal

@@ -1,5 +1,5 @@
 use Rattle.std.proofs.Common.{subst, sym, List, []}
-use Rattle.api_correspond.specs.declared.pair.TypePair.{TypePair}
+use Rattle.go_type_images.specs.declared.pair.TypePair.{TypePair}
 use Rattle.api_forced.proofs.HeldPairs.{held}
 use Rattle.api_further_breaks.specs.inner.Losses.{AreLosses, HoldOwned}
 use Rattle.api_further_breaks.proofs.AllBreaks.{all_owned, breaks_exact, whole}

@@ -1,5 +1,5 @@
 use Rattle.std.proofs.Common.{ap, get_or, subst}
-use Rattle.api_correspond.specs.declared.pair.TypePair.{TypePair}
+use Rattle.go_type_images.specs.declared.pair.TypePair.{TypePair}
 use Rattle.api_further_breaks.specs.inner.Sealed.{IndexesPair}
 use Rattle.api_correspond.proofs.Places.{at_get}
 use Rattle.api_further_breaks.proofs.Indexing.{index_none, index_more, index_all}

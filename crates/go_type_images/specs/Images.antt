@@ -1,7 +1,6 @@
 -- The image of a type: the type with each name in it replaced by the new name, and each selector by the new selector.
 -- Own: what a client of the old packages has in the new ones.
-use Rattle.std.specs.Prelude.{List, [], ◌∷◌, map, if◌then◌else◌, ◌&&◌, Bool}
-use Rattle.std.specs.Str.{bytes_eq}
+use Rattle.std.specs.Prelude.{map}
 use Rattle.go_model.specs.types.Terms.{Layer}
 use Rattle.go_model.specs.declared.types.names.TypeName.{TypeName}
 use Rattle.go_model.specs.declared.types.names.Sel.{Sel}
@@ -9,13 +8,16 @@ use Rattle.go_model.specs.declared.types.term.Term.{Term, Term-F, out-Term, roll
 use Rattle.go_model.specs.declared.types.term.Field.{Field, Field-F, roll-Field, fold-Field}
 use Rattle.go_model.specs.declared.types.term.Method.{Method, Method-F, roll-Method, fold-Method}
 use Rattle.go_model.specs.declared.types.term.Signature.{Signature, roll-Signature, fold-Signature}
-use Rattle.api_correspond.specs.declared.pair.TypePair.{TypePair}
 
 abbrev pub Naming : Type 0
 Naming = TypeName → TypeName
 
 abbrev pub Selecting : Type 0
 Selecting = Sel → Sel
+
+-- selectors stay as they are
+abbrev pub same_sels : Selecting
+same_sels s = s
 
 abbrev pub image_step : Naming → Layer → Term
 image_step r (Term-F.Named n) = roll-Term (Term-F.Named (r n))
@@ -52,15 +54,3 @@ image_of_layer r s (Term-F.Chan d e) = Term-F.Chan d (image r s e)
 image_of_layer r s (Term-F.Func g) = Term-F.Func (image_of_signature r s g)
 image_of_layer r s (Term-F.Struct fs) = Term-F.Struct (map (image_of_field r s) fs)
 image_of_layer r s (Term-F.Interface ms) = Term-F.Interface (map (image_of_method r s) ms)
-
-abbrev pub same_name : TypeName → TypeName → Bool
-same_name a b = bytes_eq a.path b.path && bytes_eq a.name b.name
-
-abbrev pub new_name_by : Layer → Layer → TypeName → TypeName → TypeName
-new_name_by (Term-F.Named a) (Term-F.Named b) n other = if same_name a n then b else other
-new_name_by k l n other = other
-
--- the new name of a defined type: that of the first pair of names with it, else its own
-abbrev pub new_name : List TypePair → Naming
-new_name [] n = n
-new_name (p ∷ ps) n = new_name_by (out-Term p.old) (out-Term p.new) n (new_name ps n)

@@ -1,0 +1,4 @@
+pub mod Images
+pub mod Levels
+pub mod NewNames
+pub mod Parts
