@@ -1,1 +1,9 @@
+pub mod ByParts
+pub mod ImageLevels
+pub mod ImageParts
+pub mod Leaves
+pub mod NewNames
+pub mod Sizes
+pub mod Through
 pub mod Trees
+pub mod Untagged

@@ -1,5 +1,5 @@
 -- Every type is a finite tree: the form in which other files recurse on types.
-use Rattle.std.proofs.Common.{◌≡◌, ℕ, List, [], ◌∷◌, map, refl, sym, ap, ◌∙◌, subst}
+use Rattle.std.proofs.Common.{◌≡◌, ℕ, List, [], ◌∷◌, map, sym, ap, subst}
 use Rattle.go_model.specs.declared.constants.value.Basic.{Basic}
 use Rattle.go_model.specs.declared.types.names.TypeName.{TypeName}
 use Rattle.go_model.specs.declared.types.term.Direction.{Direction}

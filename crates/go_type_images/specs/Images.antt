@@ -4,7 +4,7 @@ use Rattle.std.specs.Prelude.{map}
 use Rattle.go_model.specs.types.Terms.{Layer}
 use Rattle.go_model.specs.declared.types.names.TypeName.{TypeName}
 use Rattle.go_model.specs.declared.types.names.Sel.{Sel}
-use Rattle.go_model.specs.declared.types.term.Term.{Term, Term-F, out-Term, roll-Term, fold-Term}
+use Rattle.go_model.specs.declared.types.term.Term.{Term, Term-F, roll-Term, fold-Term}
 use Rattle.go_model.specs.declared.types.term.Field.{Field, Field-F, roll-Field, fold-Field}
 use Rattle.go_model.specs.declared.types.term.Method.{Method, Method-F, roll-Method, fold-Method}
 use Rattle.go_model.specs.declared.types.term.Signature.{Signature, roll-Signature, fold-Signature}
