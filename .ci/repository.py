@@ -10,9 +10,9 @@ READ = ("src", "specs", "proofs")
 MADE = ("out", "must-fail")
 
 
-def lines():
+def lines(top=TOP):
     """Returns each crate's line of crates.txt, by the crate's name."""
-    with open(os.path.join(TOP, "crates.txt"), encoding="utf-8") as file:
+    with open(os.path.join(top, "crates.txt"), encoding="utf-8") as file:
         told = [line.partition("#")[0].strip() for line in file]
     return {line.split(":")[0].split()[0]: line for line in told if ":" in line}
 
@@ -38,19 +38,32 @@ def needed(names):
     return found
 
 
-def sources(name):
+def sources(name, top=TOP):
     """Returns the files that a proof of the crate reads of its own."""
-    found = [at + "/" + file for part in READ for at, _, files in os.walk(os.path.join(TOP, "crates", name, part)) for file in files]
+    found = [at + "/" + file for part in READ for at, _, files in os.walk(os.path.join(top, "crates", name, part)) for file in files]
     return sorted(found)
 
 
+def digests(names, top=TOP):
+    """Returns for each of these crates a sum of its own code, definitions and proofs, and of its line in crates.txt."""
+    told, found = lines(top), {}
+    for name in names:
+        total = hashlib.sha256(" ".join(told[name].split()).encode())
+        for path in sources(name, top):
+            with open(path, "rb") as file:
+                total.update(os.path.relpath(path, top).encode() + b"\0" + hashlib.sha256(file.read()).digest())
+        found[name] = total.hexdigest()
+    return found
+
+
 def digest(name):
-    """Returns a sum of the crate's own code, definitions and proofs, and of its line in crates.txt."""
-    total = hashlib.sha256(" ".join(lines()[name].split()).encode())
-    for path in sources(name):
-        with open(path, "rb") as file:
-            total.update(os.path.relpath(path, TOP).encode() + b"\0" + hashlib.sha256(file.read()).digest())
-    return total.hexdigest()[:16]
+    """Returns the beginning of the crate's sum."""
+    return digests([name])[name][:16]
+
+
+def digest_of(sums):
+    """Returns one sum of crates that have these."""
+    return hashlib.sha256("".join("%s %s\n" % it for it in sorted(sums.items())).encode()).hexdigest()
 
 
 def copy(room, names):
@@ -59,6 +72,8 @@ def copy(room, names):
     for name in names:
         skipped = lambda at, inside, top=os.path.join(TOP, "crates", name): [it for it in inside if at == top and it in MADE]
         shutil.copytree(os.path.join(TOP, "crates", name), os.path.join(room, "crates", name), ignore=skipped)
+        # also where nobody may write to the crate itself
+        os.chmod(os.path.join(room, "crates", name), 0o755)
     with open(os.path.join(room, "crates.txt"), "w", encoding="utf-8") as file:
         file.write("".join(told[name] + "\n" for name in names))
     shutil.copy(os.path.join(TOP, "HANDLES"), room)

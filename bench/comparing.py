@@ -1,13 +1,12 @@
 """What the scripts share that run apigate beside Go's own tools over the same trees."""
 import argparse
 import os
-import shutil
 import subprocess
 
 from measuring import TOP, best_of
+import go_programs
 
 MOST_GROWTH = 2.3
-SOURCES = ["bench/compare.go", "conformance/lines.go", "conformance/objects.go", "conformance/terms.go"]
 
 
 def settings(words, top):
@@ -46,12 +45,8 @@ class Comparison:
         subprocess.run([os.path.join(TOP, "apigate"), "--build"], check=True)
         self.program = os.path.join(TOP, "crates/apigate/out/apigate")
         self.comparer, self.cutter = os.path.join(top, "comparer"), os.path.join(top, "cutter")
-        source = os.path.join(top, "source")
-        os.makedirs(source)
-        for path in SOURCES:
-            shutil.copy(os.path.join(TOP, path), source)
-        for made, place in (self.comparer, source), (self.cutter, os.path.join(TOP, "tools", "stdcut")):
-            subprocess.run([words.go, "build", "-o", made, "."], check=True, env=settings(words, top), cwd=place)
+        go_programs.build(words.go, "bench/internal/compare", self.comparer, top, words.gopath)
+        subprocess.run([words.go, "build", "-o", self.cutter, "."], check=True, env=settings(words, top), cwd=os.path.join(TOP, "tools", "stdcut"))
 
     def beside(self, name, words, trees, before=None, most=None):
         """Runs apigate with these words and Go's side over the trees, prints what both take, and gives apigate's run and what Go

@@ -8,6 +8,8 @@ import tempfile
 import time
 
 TOP = os.path.dirname(os.path.dirname(os.path.abspath(__file__)))
+# what scripts share with those of conformance stands there
+sys.path.insert(0, os.path.join(TOP, "conformance"))
 
 Run = collections.namedtuple("Run", "seconds processor peak status output")
 

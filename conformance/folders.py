@@ -6,12 +6,12 @@ import shutil
 import subprocess
 import sys
 
+import go_programs
+
 HERE = os.path.dirname(os.path.abspath(__file__))
 TOP = os.path.dirname(HERE)
 PLATFORMS = """linux-386 linux-arm windows-386 linux-amd64 linux-arm64 linux-riscv64 linux-s390x android-arm64 darwin-amd64 darwin-arm64
 ios-arm64 freebsd-amd64 illumos-amd64 windows-amd64""".split()
-PARTS = """modules.go module_trees.go module_sources.go module_shuffles.go package_answers.go imports.go package_references.go package_trees.go lines.go differences.go
-barred.go oracle/units.go oracle/choosing.go oracle/syntax.go oracle/scanning.go oracle/bodies.go""".split()
 # hosts below which a module's path has three elements, where no go.mod says it
 LONG = ["github.com", "golang.org", "bitbucket.org", "code.google.com", "launchpad.net"]
 PROGRAM = os.path.join(TOP, "crates/apigate/out/apigate")
@@ -37,13 +37,8 @@ class Tools:
         self.settings = dict(os.environ, GO111MODULE="off", GOFLAGS="", GOCACHE=os.environ.get("GOCACHE", os.path.join(folder, "cache")))
         if gopath:
             self.settings["GOPATH"] = gopath
-        place = os.path.join(folder, "parts")
-        os.makedirs(place)
-        for part in PARTS:
-            shutil.copy(os.path.join(HERE, part), place)
         self.asker, self.cutter = os.path.join(folder, "asker"), os.path.join(folder, "cutter")
-        names = [os.path.basename(part) for part in PARTS]
-        subprocess.run([self.go, "build", "-o", self.asker] + names, check=True, env=self.settings, cwd=place)
+        go_programs.build(self.go, "conformance/internal/modules", self.asker, folder)
         subprocess.run([self.go, "build", "-o", self.cutter, "."], check=True, env=dict(self.settings, GO111MODULE="auto"), cwd=words.cutter)
         self.root = subprocess.run([self.go, "env", "GOROOT"], capture_output=True, text=True, check=True).stdout.strip()
 

@@ -4,6 +4,8 @@ import re
 import subprocess
 import tempfile
 
+import go_programs
+
 HERE = os.path.dirname(os.path.abspath(__file__))
 TOP = os.path.dirname(HERE)
 ODD = [b"_", b"0", b"8", b"x", b"e", b".", b"i", b"'", b'"', b"`", b"\\", b"\n", b"\r", b"\0", b"\xff", b"\xef\xbb\xbf", b"/*", b"*/",
@@ -26,12 +28,8 @@ def go_files(go, folders):
 
 
 def build_oracle(go, folder):
-    """The program of the folder oracle, built into this folder."""
-    built = os.path.join(folder, "oracle")
-    settings = dict(os.environ, GO111MODULE="off", GOFLAGS="", GOCACHE=os.path.join(folder, "cache"))
-    parts = sorted(name for name in os.listdir(os.path.join(HERE, "oracle")) if name.endswith(".go"))
-    subprocess.run([go, "build", "-o", built] + parts, check=True, env=settings, cwd=os.path.join(HERE, "oracle"))
-    return built
+    """The program that asks Go's scanner and parser, built into this folder."""
+    return go_programs.build(go, "conformance/internal/oracle", os.path.join(folder, "oracle"), folder)
 
 
 def spoiled_bytes(draw, data):

@@ -67,9 +67,10 @@ def cut(room, platforms, old, new, settings=None):
 
 def gate(room, std, platforms, old, new, api, exceptions, version):
     """Runs the gate; without files of frozen lines the features of the old tree are the promises. Returns its status and report."""
-    built = subprocess.run([PROGRAM, "--build"])
-    if built.returncode:
-        raise Stop("the program can't be built", built.returncode)
+    # the launcher unpacks or builds the program at its first run, and tells of it
+    tried = subprocess.run([PROGRAM, "make", "--seed", "1", "--size", "1"], stdout=subprocess.DEVNULL)
+    if tried.returncode:
+        raise Stop("the program can't be run", tried.returncode)
     common = ["--std", std, "--platforms", platforms]
     if not api:
         api = os.path.join(room, "api.txt")

@@ -15,10 +15,10 @@ type platform struct{ system, architecture string }
 
 // platforms are those that apigate knows, in the order in which it names them.
 var platforms = []platform{
-	{"linux", "386"}, {"linux", "arm"}, {"windows", "386"},
-	{"linux", "amd64"}, {"linux", "arm64"}, {"linux", "riscv64"}, {"linux", "s390x"}, {"android", "arm64"},
-	{"darwin", "amd64"}, {"darwin", "arm64"}, {"ios", "arm64"},
-	{"freebsd", "amd64"}, {"illumos", "amd64"}, {"windows", "amd64"},
+	{"linux", "386"}, {"linux", "arm"}, {"windows", "386"}, {"linux", "amd64"},
+	{"linux", "arm64"}, {"linux", "riscv64"}, {"linux", "s390x"}, {"android", "arm64"},
+	{"darwin", "amd64"}, {"darwin", "arm64"}, {"ios", "arm64"}, {"freebsd", "amd64"},
+	{"illumos", "amd64"}, {"windows", "amd64"},
 }
 
 // satisfies are systems that satisfy another system's tag besides their own.

@@ -29,7 +29,7 @@ pub enum AdviceError {
 }
 
 fn is_release(version: &Version) -> bool
-    ensures { Decides (IsRelease version.now) result }
+    ensures { Decides result (IsRelease version.now) }
 {
     version.pre.is_empty() && version.build.is_empty()
 }

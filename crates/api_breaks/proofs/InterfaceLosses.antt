@@ -47,7 +47,7 @@ is_sealing_method w m = is_sealing w (method_sel m) ≡ true
 pub serves_nowhere : (w : Packages) (ns : List Method) (m : Method) (i : ℕ) → length ns ≤ i → ServesAt w ns m i → ⊥
 serves_nowhere w ns m i l h = let k = at_within ns i h.0 h.1 in absurd (omega (arith, k, l))
 
-pub serves_there : (w : Packages) (ns : List Method) (m n : Method) (i : ℕ) (b : Bool) → i < length ns → n ≡ get_or ns i n → Decides (Serves w m n) b → Decides (ServesAt w ns m i) b
+pub serves_there : (w : Packages) (ns : List Method) (m n : Method) (i : ℕ) (b : Bool) → i < length ns → n ≡ get_or ns i n → Decides b (Serves w m n) → Decides b (ServesAt w ns m i)
 serves_there w ns m n i true l e d = (n, at_get ns i n l e, d)
 serves_there w ns m n i false l e d = λ h. d (subst (Serves w m) (at_same ns i h.0 n h.1 (at_get ns i n l e)) h.2)
 
@@ -66,9 +66,9 @@ no_serving w ns m t places n p e l k h =
     let i = item_placed method_sel ns t (method_sel m) h.0 p h.1 h.2 in
     k (i.0, subst (λ (x : List ℕ). Has x i.0) (sym e ∙ sym (take_past n places l)) i.1, (h.0, i.2, (h.2, h.3)))
 
-pub sel_told : (ms : List Method) (t : PlaceTable) (s : Sel) (places : List ℕ) (b r : Bool) → ArePlaces (map method_sel ms) t → places ≡ places_at t s → Decides (places ≡ []) b → r ≡ not b → Decides (HasSel ms s) r
+pub sel_told : (ms : List Method) (t : PlaceTable) (s : Sel) (places : List ℕ) (b r : Bool) → ArePlaces (map method_sel ms) t → places ≡ places_at t s → Decides b (places ≡ []) → r ≡ not b → Decides r (HasSel ms s)
 sel_told ms t s places b r p e d f =
-    some_told (HasSel ms s) (places_at t s) b r (subst (λ (w : List ℕ). Decides (w ≡ []) b) e d) f
+    some_told (HasSel ms s) (places_at t s) b r (subst (λ (w : List ℕ). Decides b (w ≡ [])) e d) f
     (λ i h. let k = placed_item method_sel ms t s i p h in (k.0, at_has ms i k.0 k.1, k.2))
     (λ h. let k = item_placed method_sel ms t s h.0 p h.1 h.2 in (k.0, k.1))
 
@@ -80,23 +80,23 @@ module _ (w : Packages) (m n : Method) where
   pub serves_any : (b : Bool) → method_sel n ≡ method_sel m → b ≡ is_std_sel w (method_sel m) → b ≡ false → Serves w m n
   serves_any b e i f = (e, λ k. absurd (true≢false (sym k ∙ sym i ∙ f)))
 
-  pub serves_itself : (b r : Bool) → method_sel n ≡ method_sel m → b ≡ is_std_sel w (method_sel m) → b ≡ true → Decides (n ≡ m) r → Decides (Serves w m n) r
+  pub serves_itself : (b r : Bool) → method_sel n ≡ method_sel m → b ≡ is_std_sel w (method_sel m) → b ≡ true → Decides r (n ≡ m) → Decides r (Serves w m n)
   serves_itself b true e i f d = (e, λ k. d)
   serves_itself b false e i f d = λ h. d (h.1 (sym i ∙ f))
 
-pub decided : (A : Type 0) (b : Bool) → ((b ≡ true) → A) → (A → b ≡ true) → Decides A b
+pub decided : (A : Type 0) (b : Bool) → ((b ≡ true) → A) → (A → b ≡ true) → Decides b A
 decided A true f g = f refl
 decided A false f g = λ a. true≢false (sym (g a))
 
 -- what two tests tell of two facts
 module _ (A B : Type 0) where
-  pub alike : (f s : Bool) → Decides A f → Decides B s → f ≡ s → (A → B) × (B → A)
+  pub alike : (f s : Bool) → Decides f A → Decides s B → f ≡ s → (A → B) × (B → A)
   alike true true d e q = ((λ a. e), (λ b. d))
   alike true false d e q = absurd (true≢false q)
   alike false true d e q = absurd (true≢false (sym q))
   alike false false d e q = ((λ a. absurd (d a)), (λ b. absurd (e b)))
 
-  pub alike_back : (f s : Bool) → Decides A f → Decides B s → (A → B) → (B → A) → f ≡ s
+  pub alike_back : (f s : Bool) → Decides f A → Decides s B → (A → B) → (B → A) → f ≡ s
   alike_back true true d e g h = refl
   alike_back true false d e g h = absurd (e (g d))
   alike_back false true d e g h = absurd (d (h e))
@@ -115,10 +115,10 @@ apart_told false true e q = true≢false (sym q)
 apart_told false false e q = true≢false e
 
 module _ (A : Type 0) where
-  pub false_not : (f : Bool) → Decides A f → f ≡ false → A → ⊥
-  false_not f d e = subst (Decides A) e d
+  pub false_not : (f : Bool) → Decides f A → f ≡ false → A → ⊥
+  false_not f d e = subst (λ b. Decides b A) e d
 
-  pub not_false : (f : Bool) → Decides A f → (A → ⊥) → f ≡ false
+  pub not_false : (f : Bool) → Decides f A → (A → ⊥) → f ≡ false
   not_false true d n = absurd (n d)
   not_false false d n = refl
 
@@ -156,7 +156,7 @@ module _ (ls : List Lost) where
   alike_lost grown first second n g = told_lost ls grown lost.Sealing g (n, refl) (λ l s. s.1)
 
 -- the methods of two interfaces
-module _ (old new : Packages) (ms ns : List Method) (first second : Bool) (f : Decides (HasSealing old ms) first) (s : Decides (HasSealing new ns) second) where
+module _ (old new : Packages) (ms ns : List Method) (first second : Bool) (f : Decides first (HasSealing old ms)) (s : Decides second (HasSealing new ns)) where
   pub methods_exact : (a b c d : List Lost) → Tells (first ≡ second) (IsSealedApart first second) a b → Tells (KeptBy (KeepsMethod old ns) ms) (AreMethodsGone old ms ns) b c → Tells (KeepsOpen first second ms ns) (IsNewWhere first second ms ns) c d → Tells (KeepsMethods old new ms ns) (IsOfMethods old new ms ns) a d
   methods_exact a b c d t u v = told_both a b d kept apart late back t (told_both b c d (λ k l. (k, l)) (λ l h. inl h) (λ l h. inr h) (λ l h. h) u v)
     where

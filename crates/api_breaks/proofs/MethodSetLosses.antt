@@ -33,7 +33,7 @@ module _ (w : Packages) (callable : Candidates) (m : Method) where
   pub kept_anyhow : (h : Signature) (b : Bool) → Some h ≡ called_at callable (method_sel m) → b ≡ is_std_sel w (method_sel m) → b ≡ false → KeptIn w callable m
   kept_anyhow h b e i f = (h, sym e, λ k. absurd (true≢false (sym k ∙ sym i ∙ f)))
 
-  pub kept_alike : (h : Signature) (b r : Bool) → Some h ≡ called_at callable (method_sel m) → b ≡ is_std_sel w (method_sel m) → b ≡ true → IsTrue r ↔ (h ≡ (out-Method m).signature) → Decides (KeptIn w callable m) r
+  pub kept_alike : (h : Signature) (b r : Bool) → Some h ≡ called_at callable (method_sel m) → b ≡ is_std_sel w (method_sel m) → b ≡ true → IsTrue r ↔ (h ≡ (out-Method m).signature) → Decides r (KeptIn w callable m)
   kept_alike h b true e i f d = (h, sym e, λ k. d.0 refl)
   kept_alike h b false e i f d = λ k. true≢false (sym (d.1 (called_same h (called_at callable (method_sel m)) k.0 e k.1 ∙ k.2 (sym i ∙ f))))
 

@@ -32,25 +32,25 @@ use Rattle.api_breaks.specs.inner.Telling.{Tells, KeptBy}
 use Rattle.api_breaks.proofs.Telling.{told_kept, told_lost, told_as, told_both}
 
 -- a fact or a test
-pub either_told : (A : Type 0) (f b : Bool) → b ≡ f → (A → ⊥) → Decides (A ⊎ (f ≡ true)) b
+pub either_told : (A : Type 0) (f b : Bool) → b ≡ f → (A → ⊥) → Decides b (A ⊎ (f ≡ true))
 either_told A f true e n = inr (sym e)
 either_told A f false e n = λ h. elim h [ inl a ↦ n a | inr g ↦ true≢false (sym g ∙ sym e) ]
 
 -- what two facts imply, where both hold
-pub implied_told : (M C D : Type 0) (b : Bool) → M → C → Decides D b → Decides (M → C → D) b
+pub implied_told : (M C D : Type 0) (b : Bool) → M → C → Decides b D → Decides b (M → C → D)
 implied_told M C D true m c d = λ x y. d
 implied_told M C D false m c d = λ k. d (k m c)
 
 -- whether a list has an item
-pub some_told : {A : Type 0} (X : Type 0) (xs : List A) (b r : Bool) → Decides (xs ≡ []) b → r ≡ not b → ((x : A) → Has xs x → X) → (X → (x : A) × Has xs x) → Decides X r
-some_told X [] true r d e f g = subst (Decides X) (sym e) (λ x. (g x).1)
+pub some_told : {A : Type 0} (X : Type 0) (xs : List A) (b r : Bool) → Decides b (xs ≡ []) → r ≡ not b → ((x : A) → Has xs x → X) → (X → (x : A) × Has xs x) → Decides r X
+some_told X [] true r d e f g = subst (λ b. Decides b X) (sym e) (λ x. (g x).1)
 some_told X (y ∷ xs) true r d e f g = absurd (cc)
 some_told X [] false r d e f g = absurd (d refl)
-some_told X (y ∷ xs) false r d e f g = subst (Decides X) (sym e) (f y (inl refl))
+some_told X (y ∷ xs) false r d e f g = subst (λ b. Decides b X) (sym e) (f y (inl refl))
 
-pub field_told : (fs : List Field) (m : PlaceTable) (s : Sel) (places : List ℕ) (b r : Bool) → ArePlaces (map field_sel fs) m → places ≡ places_at m s → Decides (places ≡ []) b → r ≡ not b → Decides (HasField fs s) r
+pub field_told : (fs : List Field) (m : PlaceTable) (s : Sel) (places : List ℕ) (b r : Bool) → ArePlaces (map field_sel fs) m → places ≡ places_at m s → Decides b (places ≡ []) → r ≡ not b → Decides r (HasField fs s)
 field_told fs m s places b r p e d f =
-    some_told (HasField fs s) (places_at m s) b r (subst (λ (w : List ℕ). Decides (w ≡ []) b) e d) f
+    some_told (HasField fs s) (places_at m s) b r (subst (λ (w : List ℕ). Decides b (w ≡ [])) e d) f
     (λ i h. let k = placed_item field_sel fs m s i p h in (k.0, at_has fs i k.0 k.1, k.2))
     (λ h. let k = item_placed field_sel fs m s h.0 p h.1 h.2 in (k.0, k.1))
 

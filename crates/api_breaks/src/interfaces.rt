@@ -46,7 +46,7 @@ fn is_sealing(world: &World, sel: &Sel) -> bool
 }
 
 fn has_sealing(world: &World, methods: &[Method]) -> bool
-    ensures { Decides (HasSealing world.now methods.now) result }
+    ensures { Decides result (HasSealing world.now methods.now) }
 {
     for method in methods {
         if is_sealing(world, &method.sel) {
@@ -74,7 +74,7 @@ pub(crate) fn is_std_sel(world: &World, sel: &Sel) -> bool
 
 /// Whether a method counts by itself.
 pub(crate) fn counts(world: &World, sel: &Sel) -> bool
-    ensures { Decides (Counts world.now sel.now) result }
+    ensures { Decides result (Counts world.now sel.now) }
 {
     if is_exported(sel) {
         return true;
@@ -90,7 +90,7 @@ fn is_same(left: &Method, right: &Method) -> bool
 
 // Whether a method stands for another one: an unexported one of the standard library only for itself.
 fn serves(world: &World, other: &Method, method: &Method) -> bool
-    ensures { Decides (Serves world.now method.now other.now) result }
+    ensures { Decides result (Serves world.now method.now other.now) }
 {
     if !same_sel(&other.sel, &method.sel) {
         return false;
@@ -112,7 +112,7 @@ fn method_at(methods: &[Method], at: usize) -> Option<&Method>
 
 // Whether the method at a place stands for another one.
 fn serves_at(world: &World, methods: &[Method], at: usize, method: &Method) -> bool
-    ensures { Decides (ServesAt world.now methods.now method.now at) result }
+    ensures { Decides result (ServesAt world.now methods.now method.now at) }
 {
     match method_at(methods, at) {
         None => false,
@@ -128,7 +128,7 @@ fn has_serving(
     method: &Method,
 ) -> bool
     requires { ArePlaces (map method_sel methods.now) places.now }
-    ensures { Decides (HasServing world.now methods.now method.now) result }
+    ensures { Decides result (HasServing world.now methods.now method.now) }
 {
     let same = places_at(places, &method.sel);
     for at in same {
@@ -142,7 +142,7 @@ fn has_serving(
 // Whether a method of this selector stands among methods.
 fn has_sel(methods: &[Method], places: &BTreeMap<Sel, List<usize>>, sel: &Sel) -> bool
     requires { ArePlaces (map method_sel methods.now) places.now }
-    ensures { Decides (HasSel methods.now sel.now) result }
+    ensures { Decides result (HasSel methods.now sel.now) }
 {
     !is_empty(places_at(places, sel))
 }

@@ -24,7 +24,7 @@ pub(crate) fn sort_of(entity: &Entity) -> Sort
 
 /// Whether an object may become another one.
 pub(crate) fn keeps_kind(before: &Entity, after: &Entity) -> bool
-    ensures { Decides (KeepsKind before.now after.now) result }
+    ensures { Decides result (KeepsKind before.now after.now) }
 {
     match before {
         Entity::Const(_, _) => matches!(after, Entity::Const(_, _)),
@@ -41,7 +41,7 @@ pub(crate) fn is_same(left: &Text, right: &Text) -> bool
 }
 
 fn is_same_value(left: &Value, right: &Value) -> bool
-    ensures { Decides (left.now ≡ right.now) result }
+    ensures { Decides result (left.now ≡ right.now) }
 {
     match left {
         Value::Int(x) => match right {
@@ -60,7 +60,7 @@ fn is_same_value(left: &Value, right: &Value) -> bool
 }
 
 fn keeps_value(before: &ConstTerm, old: &Value, after: &ConstTerm, new: &Value) -> bool
-    ensures { Decides (KeepsConstant (constant before.now old.now) (constant after.now new.now)) result }
+    ensures { Decides result (KeepsConstant (constant before.now old.now) (constant after.now new.now)) }
 {
     match before {
         ConstTerm::OfTerm(_) => match after {
@@ -81,7 +81,7 @@ fn keeps_value(before: &ConstTerm, old: &Value, after: &ConstTerm, new: &Value) 
 
 /// Whether a constant keeps what it is; what is none, does.
 pub(crate) fn keeps_constant(before: &Entity, after: &Entity) -> bool
-    ensures { Decides (KeepsConstant before.now after.now) result }
+    ensures { Decides result (KeepsConstant before.now after.now) }
 {
     match before {
         Entity::Const(first, old) => match after {

@@ -14,10 +14,9 @@ use crate::interfaces::{counts, is_std_sel};
 use crate::pairs::{are_of_module, are_structs, is_interface, under};
 use go_base::list::List;
 use go_base::memory::NoMemory;
-use go_base::shared::Shared;
 use go_model::types::names::Sel;
 use go_model::types::package::Defined;
-use go_model::types::term::{Method, Term};
+use go_model::types::term::{Method, Term, pointer_to};
 use go_model::types::world::World;
 use go_selectors::candidate::Candidate;
 use go_selectors::candidates::{called_at, candidates};
@@ -29,7 +28,7 @@ use std::collections::BTreeMap;
 
 // Whether a method can still be called; an unexported one of the standard library only with its signature.
 fn keeps_method(old: &World, callable: &BTreeMap<Sel, Candidate<'_>>, method: &Method) -> bool
-    ensures { Decides (KeptIn old.now callable.now method.now) result }
+    ensures { Decides result (KeptIn old.now callable.now method.now) }
 {
     match called_at(callable, &method.sel) {
         None => false,
@@ -126,13 +125,6 @@ fn push_set(
     let methods = method_set(alloc, error, old, before)?;
     push_uncalled(alloc, error, old, new, after, methods.items(), losses)?;
     Ok(())
-}
-
-fn pointer_to(alloc: Global, term: &Term) -> Result<Term, NoMemory>
-    ensures { IfOk result (λ pointer. pointer ≡ pointer_to term.now) }
-{
-    let copied = term.copy(alloc)?;
-    Ok(Term::Pointer(Shared::new(alloc, copied)?))
 }
 
 fn push_pointers(

@@ -99,7 +99,7 @@ fn push_types(
 
 // Whether what is underneath types of the module may become this.
 fn keeps_layer(old: &World, new: &World, before: &Term, after: &Term) -> bool
-    ensures { Decides (KeepsLayer old.now new.now (out-Term before.now) (out-Term after.now)) result }
+    ensures { Decides result (KeepsLayer old.now new.now (out-Term before.now) (out-Term after.now)) }
 {
     if types_match(old, new, before, after) {
         return true;
@@ -140,7 +140,7 @@ fn keeps_comparable(
     new: &World,
     pair: &TypePair,
 ) -> Result<bool, NoMemory>
-    ensures { IfOk result (Decides (KeepsComparable old.now new.now pair.now)) }
+    ensures { IfOk result (λ answer. Decides answer (KeepsComparable old.now new.now pair.now)) }
 {
     if !types_match(old, new, &pair.old, &pair.new) {
         return Ok(true);
@@ -173,7 +173,7 @@ fn push_comparable(
 
 /// Whether a selector stands at no place.
 pub(crate) fn is_empty(places: &[usize]) -> bool
-    ensures { Decides (places.now ≡ []) result }
+    ensures { Decides result (places.now ≡ []) }
 {
     places.is_empty()
 }
@@ -181,7 +181,7 @@ pub(crate) fn is_empty(places: &[usize]) -> bool
 // Whether a field of this selector stands among fields.
 fn has_field(fields: &[Field], places: &BTreeMap<Sel, List<usize>>, sel: &Sel) -> bool
     requires { ArePlaces (map field_sel fields.now) places.now }
-    ensures { Decides (HasField fields.now sel.now) result }
+    ensures { Decides result (HasField fields.now sel.now) }
 {
     !is_empty(places_at(places, sel))
 }

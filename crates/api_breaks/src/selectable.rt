@@ -55,7 +55,7 @@ fn field_through<'a>(
 
 // Whether a field that was found through a pointer, or not, may become this.
 fn keeps_pointer(before: bool, after: Option<bool>) -> bool
-    ensures { Decides (KeepsPointer before after) result }
+    ensures { Decides result (KeepsPointer before after) }
 {
     match after {
         None => false,

@@ -93,7 +93,7 @@ fn push_embedded<'a>(
 }
 
 pub fn is_exported(sel: &Sel) -> bool
-    ensures { Decides (IsExported sel.now) result }
+    ensures { Decides result (IsExported sel.now) }
 {
     sel.package.bytes().is_empty()
 }

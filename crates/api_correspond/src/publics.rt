@@ -53,7 +53,7 @@ fn compare(text: &Text, path: &[u8]) -> Ordering
 // Whether a path is among texts in order.
 fn is_among(texts: &[Text], path: &[u8]) -> bool
     requires { Ascending texts.now }
-    ensures { Decides (Has texts.now path.now) result }
+    ensures { Decides result (Has texts.now path.now) }
 {
     let mut low = 0usize;
     let mut high = texts.len();
@@ -71,14 +71,14 @@ fn is_among(texts: &[Text], path: &[u8]) -> bool
 
 /// Whether the package of a path is public.
 pub fn is_public(world: &World, path: &[u8]) -> bool
-    ensures { Decides (IsPublic world.now path.now) result }
+    ensures { Decides result (IsPublic world.now path.now) }
 {
     let _packages = world.packages();
     is_among(world.public(), path)
 }
 
 fn is_public_name(world: &World, name: &TypeName) -> bool
-    ensures { Decides (IsPublicName world.now name.now) result }
+    ensures { Decides result (IsPublicName world.now name.now) }
 {
     if !has_module_path(world, &name.path) {
         return false;

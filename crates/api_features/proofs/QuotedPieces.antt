@@ -1,5 +1,5 @@
 -- The pieces of a quoted text, and values that are appended.
-use Rattle.std.proofs.Common.{◌≡◌, ℕ, ℤ, Bool, ◌+◌, ◌-◌, ◌<◌, ◌≤◌, List, [], ◌∷◌, ◌++◌, length, take, drop, get_or, refl, sym, ap, ◌∙◌, subst, arith, append_assoc, length-append, length-drop}
+use Rattle.std.proofs.Common.{◌≡◌, ℕ, ℤ, Bool, ◌+◌, ◌-◌, ◌<◌, ◌≤◌, List, [], ◌∷◌, ◌++◌, length, take, drop, get_or, refl, sym, ap, ◌∙◌, subst, arith, append_assoc, length-append, length-drop, append-nil}
 use Rattle.std.specs.Prelude.{codes}
 use Rattle.std.specs.Char.{IsScalar, encode_utf8, len_utf8}
 use Rattle.std.specs.Fmt.{signed_decimal}
@@ -47,11 +47,7 @@ quoting_smaller bytes old now new at count q p = omega (arith, piece_fits bytes 
 pub quoting_all : (bytes old now : List ℕ) (at : ℕ) → length bytes ≤ at → Quoting bytes old now at → AppendsQuoted bytes old now
 quoting_all bytes old now at h q =
     let d : IsQuoted (drop at bytes) [] = subst (λ (w : List ℕ). IsQuoted w []) (sym (drop_all at bytes h)) quoted_none in
-    (q.front ++ [], q.whole [] d, q.is ∙ ap (λ (w : List ℕ). old ++ w) (nothing q.front))
-  where
-    nothing : (xs : List ℕ) → xs ≡ xs ++ []
-    nothing [] = refl
-    nothing (x ∷ xs) = ap (λ (w : List ℕ). x ∷ w) (nothing xs)
+    (q.front ++ [], q.whole [] d, q.is ∙ ap (λ (w : List ℕ). old ++ w) (sym (append-nil q.front)))
 
 -- a string between its quotes
 pub string_appended : (bytes old one two new : List ℕ) → one ≡ old ++ 34 ∷ [] → AppendsQuoted bytes one two → new ≡ two ++ 34 ∷ [] → AppendsValue (value.Str bytes) old new

@@ -1,5 +1,5 @@
 -- A value has one text.
-use Rattle.std.proofs.Common.{◌≡◌, ℕ, ◌+◌, ◌≤◌, List, [], ◌∷◌, ◌++◌, length, drop, refl, sym, ap, ◌∙◌, subst, arith, append_assoc, length-append}
+use Rattle.std.proofs.Common.{◌≡◌, ℕ, ◌+◌, ◌≤◌, List, [], ◌∷◌, ◌++◌, length, drop, refl, sym, ap, ◌∙◌, subst, arith, append_assoc, length-append, append-nil}
 use Rattle.std.specs.Prelude.{codes}
 use Rattle.std.specs.Char.{encode_utf8}
 use Rattle.std.proofs.lemmas.Str.{encode_same, length-encode, len_utf8_bounds}
@@ -43,12 +43,8 @@ pub record Quoting (bytes old now : List ℕ) (at : ℕ) : Type 0 where
   pub is : now ≡ old ++ front
   pub whole : (text : List ℕ) → IsQuoted (drop at bytes) text → IsQuoted bytes (front ++ text)
 
-append_nothing : (xs : List ℕ) → xs ≡ xs ++ []
-append_nothing [] = refl
-append_nothing (x ∷ xs) = ap (λ (w : List ℕ). x ∷ w) (append_nothing xs)
-
 pub quoting_none : (bytes old : List ℕ) → Quoting bytes old old 0
-quoting_none bytes old = record { within = omega arith; front = []; is = append_nothing old; whole = λ text d. d }
+quoting_none bytes old = record { within = omega arith; front = []; is = sym (append-nil old); whole = λ text d. d }
 
 pub quoting_more : (bytes old now new : List ℕ) (at count : ℕ) → Quoting bytes old now at → AppendsPiece (drop at bytes) now new count → at + count ≤ length bytes → Quoting bytes old new (at + count)
 quoting_more bytes old now new at count q p fits = record {

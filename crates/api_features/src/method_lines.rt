@@ -4,7 +4,6 @@ ghost use Rattle.std.specs.BTreeMap.{keys};
 ghost use Rattle.go_base.specs.Growing.{Grows};
 ghost use Rattle.go_base.specs.Lists.{Each};
 ghost use Rattle.go_model.specs.declared.types.term.Term.{out-Term};
-ghost use Rattle.go_model.specs.types.Terms.{pointer_to};
 ghost use Rattle.go_model.specs.worlds.Worlds.{table_of};
 ghost use Rattle.api_features.specs.Features.{IsMethodRest, defined_term};
 ghost use Rattle.api_features.specs.TypeTexts.{signature_text};
@@ -15,10 +14,9 @@ use crate::subject::{Subject, add, begun};
 use crate::types::push_signature;
 use api_lines::lines::Lines;
 use go_base::memory::NoMemory;
-use go_base::shared::Shared;
 use go_model::types::names::Sel;
 use go_model::types::package::{Defined, MethodOf};
-use go_model::types::term::{Field, Signature, Term};
+use go_model::types::term::{Field, Signature, Term, pointer_to};
 use go_selectors::candidate::Candidate;
 use go_selectors::candidates::{called_at, candidates};
 use go_selectors::lookup::{Lookup, error_type};
@@ -172,13 +170,6 @@ fn add_each_called(
     Ok(())
 }
 
-fn pointer_of(alloc: Global, term: &Term) -> Result<Term, NoMemory>
-    ensures { IfOk result (λ pointer. pointer ≡ pointer_to term.now) }
-{
-    let base = Shared::new(alloc, term.copy(alloc)?)?;
-    Ok(Term::Pointer(base))
-}
-
 /// Adds the lines of the methods of a type and of its pointer.
 pub(crate) fn add_methods(
     alloc: Global,
@@ -189,7 +180,7 @@ pub(crate) fn add_methods(
     ensures { OnOk result (Grows (IsLineIn (IsMethodRest of.now.world.now.packages of.now.path.now of.now.name.now (table_of of.now.world.now.packages) term.now) of.now.path.now) lines.old lines.new) }
 {
     let error = error_type(alloc)?;
-    let pointer = pointer_of(alloc, term)?;
+    let pointer = pointer_to(alloc, term)?;
     let lookup = Lookup::new(of.world, &error);
     let none = BTreeMap::new(alloc);
     let values = candidates(alloc, &lookup, term)?;

@@ -39,7 +39,7 @@ added ks new k false e f = (f, λ h. true≢false (sym (has_found same_name name
 pub name_added : (ks new : List TypeName) (k : TypeName) (fresh : Bool) → new ≡ insert_key same_name ks k → fresh ≡ not (list_any (same_name k) ks) → AddsName ks new k fresh
 name_added ks new k fresh e f = subst (AddsName ks new k) (sym f) (added ks new k (list_any (same_name k) ks) refl e)
 
-pub name_told : (ks : List TypeName) (k : TypeName) (b : Bool) → b ≡ list_any (same_name k) ks → Decides (Has ks k) b
+pub name_told : (ks : List TypeName) (k : TypeName) (b : Bool) → b ≡ list_any (same_name k) ks → Decides b (Has ks k)
 name_told ks k true e = found_has same_name same_name_is ks k (sym e)
 name_told ks k false e = λ h. true≢false (sym (has_found same_name name_itself ks k h) ∙ sym e)
 
@@ -120,17 +120,17 @@ module _ (side : Bool) (pairs : List TypePair) where
   }
 
 -- whether a type is one of the names
-pub shared_named : (names : List TypeName) (t : Term) (n k : TypeName) (b : Bool) → IsName t n → k ≡ n → Decides (Has names k) b → Decides (IsShared names t) b
+pub shared_named : (names : List TypeName) (t : Term) (n k : TypeName) (b : Bool) → IsName t n → k ≡ n → Decides b (Has names k) → Decides b (IsShared names t)
 shared_named names t n k true e s d = (n, e, subst (Has names) s d)
 shared_named names t n k false e s d = λ h. d (subst (Has names) (sym (s ∙ same_names t n h.0 e h.1)) h.2)
 
 pub shared_unnamed : (names : List TypeName) (t : Term) → ((n : TypeName) → IsName t n → ⊥) → IsShared names t → ⊥
 shared_unnamed names t none h = none h.0 h.1
 
-pub others_told : (olds news : List TypeName) (p : TypePair) (a b r : Bool) → Decides (IsShared olds p.old) a → Decides (IsShared news p.new) b → r ≡ (a || b) → Decides (HasOthers olds news p) r
-others_told olds news p true b r d e f = subst (Decides (HasOthers olds news p)) (sym f) (inl d)
-others_told olds news p false true r d e f = subst (Decides (HasOthers olds news p)) (sym f) (inr e)
-others_told olds news p false false r d e f = subst (Decides (HasOthers olds news p)) (sym f) (λ h. elim h [ inl x ↦ d x | inr y ↦ e y ])
+pub others_told : (olds news : List TypeName) (p : TypePair) (a b r : Bool) → Decides a (IsShared olds p.old) → Decides b (IsShared news p.new) → r ≡ (a || b) → Decides r (HasOthers olds news p)
+others_told olds news p true b r d e f = subst (λ b. Decides b (HasOthers olds news p)) (sym f) (inl d)
+others_told olds news p false true r d e f = subst (λ b. Decides b (HasOthers olds news p)) (sym f) (inr e)
+others_told olds news p false false r d e f = subst (λ b. Decides b (HasOthers olds news p)) (sym f) (λ h. elim h [ inl x ↦ d x | inr y ↦ e y ])
 
 -- types of the module are names
 module_named : (w : Packages) (l : Layer) → module_layer w l ≡ true → (n : TypeName) × (l ≡ Term-F.Named n)

@@ -16,10 +16,9 @@ use api_breaks::broken::Lost;
 use api_correspond::by_sel::places_at;
 use go_base::list::List;
 use go_base::memory::NoMemory;
-use go_base::shared::Shared;
 use go_model::types::names::Sel;
 use go_model::types::package::Defined;
-use go_model::types::term::{Method, Term};
+use go_model::types::term::{Method, Term, pointer_to};
 use go_model::types::world::World;
 use go_selectors::candidate::Candidate;
 use go_selectors::candidates::{called_at, candidates};
@@ -30,7 +29,7 @@ use std::alloc::Global;
 use std::collections::BTreeMap;
 
 fn is_candidate(callable: &BTreeMap<Sel, Candidate<'_>>, method: &Method) -> bool
-    ensures { Decides (IsCandidate callable.now method.now) result }
+    ensures { Decides result (IsCandidate callable.now method.now) }
 {
     match called_at(callable, &method.sel) {
         Some(signature) => same_signature(signature, &method.signature),
@@ -40,7 +39,7 @@ fn is_candidate(callable: &BTreeMap<Sel, Candidate<'_>>, method: &Method) -> boo
 
 // Whether these methods can be called, with identical signatures.
 fn are_candidates(callable: &BTreeMap<Sel, Candidate<'_>>, methods: &[Method]) -> bool
-    ensures { Decides (AreCandidates callable.now methods.now) result }
+    ensures { Decides result (AreCandidates callable.now methods.now) }
 {
     for method in methods {
         if !is_candidate(callable, method) {
@@ -226,13 +225,6 @@ fn push_set(
         losses,
     )?;
     Ok(())
-}
-
-fn pointer_to(alloc: Global, term: &Term) -> Result<Term, NoMemory>
-    ensures { IfOk result (λ pointer. pointer ≡ pointer_to term.now) }
-{
-    let copied = term.copy(alloc)?;
-    Ok(Term::Pointer(Shared::new(alloc, copied)?))
 }
 
 fn push_pointers(

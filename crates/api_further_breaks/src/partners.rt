@@ -84,14 +84,14 @@ pub(crate) fn shared<'a>(
 }
 
 fn has<'a>(names: &IndexSet<Name<'a>>, name: &Name<'a>) -> bool
-    ensures { Decides (Has names.now.keys name.now) result }
+    ensures { Decides result (Has names.now.keys name.now) }
 {
     names.contains(name)
 }
 
 // Whether a type is one of these names.
 fn is_shared<'a>(names: &IndexSet<Name<'a>>, term: &'a Term) -> bool
-    ensures { Decides (IsShared names.now.keys term.now) result }
+    ensures { Decides result (IsShared names.now.keys term.now) }
 {
     match term {
         Term::Named(name) => has(names, &Name::new(name)),
@@ -107,7 +107,7 @@ fn are_of_module(old: &World, new: &World, pair: &TypePair) -> bool
 
 // Whether the old type of a pair stands in several, or the new one.
 fn has_others<'a>(olds: &IndexSet<Name<'a>>, news: &IndexSet<Name<'a>>, pair: &'a TypePair) -> bool
-    ensures { Decides (HasOthers olds.now.keys news.now.keys pair.now) result }
+    ensures { Decides result (HasOthers olds.now.keys news.now.keys pair.now) }
 {
     is_shared(olds, &pair.old) || is_shared(news, &pair.new)
 }

@@ -1,5 +1,5 @@
 -- Lines that are read file by file, and counts of faults.
-use Rattle.std.proofs.Common.{◌≡◌, ◌+◌, ◌<◌, ◌≤◌, ℕ, Option, None, List, [], ◌∷◌, ◌++◌, length, get_or, drop, Err, refl, sym, ap, ◌∙◌, subst, append_assoc, arith}
+use Rattle.std.proofs.Common.{◌≡◌, ◌+◌, ◌<◌, ◌≤◌, ℕ, Option, None, List, [], ◌∷◌, ◌++◌, length, get_or, drop, Err, refl, sym, ap, ◌∙◌, subst, append_assoc, arith, append-nil}
 use denote.Ref.{Bor}
 use Rattle.std.proofs.lemmas.List.{drop_more}
 use Rattle.std.specs.Option.{option_copied}
@@ -27,10 +27,6 @@ never_fell a b c n m = omega (arith, n, m)
 
 -- ---- files
 
-append_none : {A : Type 0} (xs : List A) → xs ++ [] ≡ xs
-append_none [] = refl
-append_none (x ∷ xs) = ap (λ ys. x ∷ ys) (append_none xs)
-
 module _ (told : Option Contents) where
   -- the lines so far are those of the files before the rest
   pub record ReadTo (paths rest lines : List (List ℕ)) : Type 0 where
@@ -51,7 +47,7 @@ module _ (told : Option Contents) where
       from_here = drop_more paths i path h ∙ ap (λ (p : List ℕ). p ∷ drop (i + 1) paths) (sym is)
 
   pub read_all : (paths : List (List ℕ)) (i : ℕ) (lines : List (List ℕ)) → length paths ≤ i → ReadTo paths (drop i paths) lines → AreLines told paths lines
-  read_all paths i lines h r = subst (AreLines told paths) (append_none lines) (r.forth [] (subst (λ (w : List (List ℕ)). AreLines told w []) (sym (drop_past i paths h)) lines_none))
+  read_all paths i lines h r = subst (AreLines told paths) (append-nil lines) (r.forth [] (subst (λ (w : List (List ℕ)). AreLines told w []) (sym (drop_past i paths h)) lines_none))
 
   -- why a file in its place gives no lines
   error_at : (paths rest : List (List ℕ)) (path : List ℕ) (before mid now : ℕ) (e : FileError) (x : InputError) → ((f : FrozenFault) → HasFault told path f → IsFirstFault told paths path f) → NeverFell before mid
@@ -73,7 +69,7 @@ module _ (told : Option Contents) where
       n a told_as
 
   pub one_file : (path : List ℕ) (lines : List (List ℕ)) → GivesLines told path lines → AreLines told (path ∷ []) lines
-  one_file path lines g = subst (AreLines told (path ∷ [])) (append_none lines) (lines_more g lines_none)
+  one_file path lines g = subst (AreLines told (path ∷ [])) (append-nil lines) (lines_more g lines_none)
 
   pub no_file : (path : Option (Bor (List ℕ))) (lines : List (List ℕ)) → path ≡ None → lines ≡ [] → AreLines told (optional (option_copied path)) lines
   no_file path lines e f = subst (λ (p : Option (Bor (List ℕ))). AreLines told (optional (option_copied p)) lines) (sym e) (subst (AreLines told []) (sym f) lines_none)

@@ -19,23 +19,6 @@ order = slice_cmp nat_cmp
 pub tie_is : (a b : List ℕ) → order a b ≡ Equal → a ≡ b
 tie_is a b e = slice_cmp-IsAntisymmetric nat_cmp-IsAntisymmetric a b e
 
-inserted_by : (y : List ℕ) (ys : List (List ℕ)) (k : List ℕ) (o : Ordering) → order k y ≡ o → Grows (λ x. k ≡ x) ys (insert_key order ys k) → Grows (λ x. k ≡ x) (y ∷ ys) (match_ordering o (k ∷ y ∷ ys) (y ∷ ys) (y ∷ insert_key order ys k))
-inserted_by y ys k Less e g = record { sound = λ x h. elim h [ inl s ↦ inr s | inr r ↦ inl r ]; kept = λ x h. inr h; complete = λ x h. inl h }
-inserted_by y ys k Equal e g = record { sound = λ x h. inl h; kept = λ x h. h; complete = λ x h. inl (sym (tie_is k y e) ∙ h) }
-inserted_by y ys k Greater e g = record {
-  sound = λ x h. elim h [ inl s ↦ inl (inl s) | inr r ↦ elim (g.sound x r) [ inl a ↦ inl (inr a) | inr b ↦ inr b ] ];
-  kept = λ x h. elim h [ inl s ↦ inl s | inr r ↦ inr (g.kept x r) ];
-  complete = λ x h. inr (g.complete x h);
-}
-
-inserted : (ks : List (List ℕ)) (k : List ℕ) → Grows (λ x. k ≡ x) ks (insert_key order ks k)
-inserted [] k = record { sound = λ x h. elim h [ inl s ↦ inr s | inr r ↦ absurd r ]; kept = λ x h. absurd h; complete = λ x h. inl h }
-inserted (y ∷ ys) k = inserted_by y ys k (order k y) refl (inserted ys k)
-
--- a text is put into a set
-pub grows_inserted : (old new : List (List ℕ)) (k : List ℕ) → new ≡ insert_key order old k → Grows (λ x. k ≡ x) old new
-grows_inserted old new k e = subst (Grows (λ x. k ≡ x) old) (sym e) (inserted old k)
-
 abbrev same_text : List ℕ → List ℕ → Bool
 same_text a b = is_eq (order a b)
 

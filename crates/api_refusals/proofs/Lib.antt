@@ -1,3 +1,2 @@
 pub mod FileBytes
 pub mod LinesAndColumns
-pub mod ListRests

@@ -1,8 +1,8 @@
 -- Lines and columns that are counted byte by byte.
 use Rattle.std.proofs.Common.{◌≡◌, ℕ, zero, suc, ◌+◌, ◌<◌, ◌≤◌, Bool, true, false, List, [], ◌∷◌, length, drop, get_or, refl, sym, ap, ◌∙◌, arith, if◌then◌else◌}
+use Rattle.std.proofs.lemmas.List.{drop_all, drop_more}
 use Rattle.std.specs.List.{filter, list_any}
 use Rattle.api_refusals.specs.Places.{is_newline, last_line}
-use Rattle.api_refusals.proofs.ListRests.{next_drop, past_all}
 
 -- the newlines so far and those that are left are all
 abbrev pub Counted : List ℕ → ℕ → ℕ → Type 0
@@ -14,14 +14,14 @@ counted_by b bs n false e = rw e refl
 
 pub counted_more : (xs : List ℕ) (i b n more : ℕ) → i < length xs → b ≡ get_or xs i b → is_newline b ≡ true → more ≡ n + 1 → Counted xs i n → Counted xs (i + 1) more
 counted_more xs i b n more h e t m c =
-    (c.0 ∙ ap (λ (ys : List ℕ). n + length (filter is_newline ys)) (next_drop xs i b h e) ∙ counted_by b (drop (i + 1) xs) n true t ∙ ap (λ k. k + length (filter is_newline (drop (i + 1) xs))) (sym m), omega (arith, c.1, m))
+    (c.0 ∙ ap (λ (ys : List ℕ). n + length (filter is_newline ys)) (drop_more xs i b h ∙ ap (λ (c : ℕ). c ∷ drop (i + 1) xs) (sym e)) ∙ counted_by b (drop (i + 1) xs) n true t ∙ ap (λ k. k + length (filter is_newline (drop (i + 1) xs))) (sym m), omega (arith, c.1, m))
 
 pub counted_same : (xs : List ℕ) (i b n more : ℕ) → i < length xs → b ≡ get_or xs i b → is_newline b ≡ false → more ≡ n → Counted xs i n → Counted xs (i + 1) more
 counted_same xs i b n more h e f m c =
-    (c.0 ∙ ap (λ (ys : List ℕ). n + length (filter is_newline ys)) (next_drop xs i b h e) ∙ counted_by b (drop (i + 1) xs) n false f ∙ ap (λ k. k + length (filter is_newline (drop (i + 1) xs))) (sym m), omega (arith, c.1, m))
+    (c.0 ∙ ap (λ (ys : List ℕ). n + length (filter is_newline ys)) (drop_more xs i b h ∙ ap (λ (c : ℕ). c ∷ drop (i + 1) xs) (sym e)) ∙ counted_by b (drop (i + 1) xs) n false f ∙ ap (λ k. k + length (filter is_newline (drop (i + 1) xs))) (sym m), omega (arith, c.1, m))
 
 pub counted_all : (xs : List ℕ) (i n : ℕ) → length xs ≡ i → Counted xs i n → n ≡ length (filter is_newline xs)
-counted_all xs i n h c = sym (c.0 ∙ ap (λ (ys : List ℕ). n + length (filter is_newline ys)) (past_all i xs h) ∙ omega arith)
+counted_all xs i n h c = sym (c.0 ∙ ap (λ (ys : List ℕ). n + length (filter is_newline ys)) (drop_all i xs (omega (arith, h))) ∙ omega arith)
 
 -- the length of the last line of so many bytes without a newline and of what is left
 abbrev pub line_with : ℕ → List ℕ → ℕ
@@ -56,22 +56,13 @@ Lined xs i n = (length (last_line xs) ≡ line_with n (drop i xs)) × (n ≤ i)
 pub lined_first : (xs : List ℕ) → Lined xs 0 0
 lined_first xs = (line_none xs, omega arith)
 
--- the byte at an offset, and what is left behind it
-at_place : (xs : List ℕ) (i d : ℕ) → i < length xs → drop i xs ≡ get_or xs i d ∷ drop (i + 1) xs
-at_place xs i d h = next_drop xs i (get_or xs i d) h (same xs i h)
-  where
-    same : (xs : List ℕ) (i : ℕ) → i < length xs → get_or xs i d ≡ get_or xs i (get_or xs i d)
-    same [] i h = absurd (omega arith)
-    same (x ∷ xs) zero h = refl
-    same (x ∷ xs) (suc i) h = same xs i (omega arith)
-
 pub lined_newline : (xs : List ℕ) (i d n more : ℕ) → i < length xs → is_newline (get_or xs i d) ≡ true → more ≡ 0 → Lined xs i n → Lined xs (i + 1) more
 lined_newline xs i d n more h t m l =
-    (l.0 ∙ ap (line_with n) (at_place xs i d h) ∙ line_newline (get_or xs i d) (drop (i + 1) xs) n t ∙ ap (λ k. line_with k (drop (i + 1) xs)) (sym m), omega (arith, m))
+    (l.0 ∙ ap (line_with n) (drop_more xs i d h) ∙ line_newline (get_or xs i d) (drop (i + 1) xs) n t ∙ ap (λ k. line_with k (drop (i + 1) xs)) (sym m), omega (arith, m))
 
 pub lined_other : (xs : List ℕ) (i d n more : ℕ) → i < length xs → is_newline (get_or xs i d) ≡ false → more ≡ n + 1 → Lined xs i n → Lined xs (i + 1) more
 lined_other xs i d n more h f m l =
-    (l.0 ∙ ap (line_with n) (at_place xs i d h) ∙ line_other (get_or xs i d) (drop (i + 1) xs) n f ∙ ap (λ k. line_with k (drop (i + 1) xs)) (sym m), omega (arith, l.1, m))
+    (l.0 ∙ ap (line_with n) (drop_more xs i d h) ∙ line_other (get_or xs i d) (drop (i + 1) xs) n f ∙ ap (λ k. line_with k (drop (i + 1) xs)) (sym m), omega (arith, l.1, m))
 
 pub lined_all : (xs : List ℕ) (i n : ℕ) → length xs ≡ i → Lined xs i n → n ≡ length (last_line xs)
-lined_all xs i n h l = sym (l.0 ∙ ap (line_with n) (past_all i xs h) ∙ omega arith)
+lined_all xs i n h l = sym (l.0 ∙ ap (line_with n) (drop_all i xs (omega (arith, h))) ∙ omega arith)

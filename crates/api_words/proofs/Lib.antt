@@ -1,5 +1,4 @@
 pub mod GivenOptions
-pub mod ListRests
 pub mod Names
 pub mod NumberWords
 pub mod OneRequest

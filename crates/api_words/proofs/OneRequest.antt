@@ -2,6 +2,7 @@
 use Rattle.std.specs.Prelude.{IfOk, MatchOption}
 use Rattle.std.proofs.Common.{◌≡◌, ◌-◌, ◌≤◌, Result, Ok, Err, ℕ, zero, suc, List, [], ◌∷◌, length, length-drop, take, drop, get_or, map, Option, Some, None, refl, sym, ap, ◌∙◌, subst, arith}
 use Rattle.std.proofs.lemmas.Fmt.{decimal_injective}
+use Rattle.std.proofs.lemmas.List.{drop_more}
 use Rattle.go_base.specs.declared.memory.NoMemory.{NoMemory}
 use Rattle.go_base.specs.Lists.{Once}
 use Rattle.go_model.specs.declared.files.platform.Platform.{Platform}
@@ -20,7 +21,6 @@ use Rattle.api_words.specs.declared.request.MadeTrees.{MadeTrees}
 use Rattle.api_words.specs.declared.request.Request.{Request}
 use Rattle.api_words.specs.declared.settings.Setting.{Setting}
 use Rattle.api_words.proofs.GivenOptions.{one_given, one_meaning}
-use Rattle.api_words.proofs.ListRests.{next_drop}
 use Rattle.api_words.proofs.Searches.{map_once}
 
 -- ---- the settings that words are
@@ -171,7 +171,7 @@ take_whole (suc n) [] h = absurd (omega arith)
 take_whole (suc n) (x ∷ xs) h = ap (λ ys. x ∷ ys) (take_whole n xs (omega arith))
 
 pub first_word : {A B : Type 0} (f : A → B) (xs : List A) (x : A) → 1 ≤ length xs → x ≡ get_or xs 0 x → map f xs ≡ f x ∷ map f (take (length xs - 1) (drop 1 xs))
-first_word f xs x h e = ap (map f) (next_drop xs 0 x (omega arith) e) ∙ ap (λ ys. f x ∷ map f ys) (sym (take_whole (length xs - 1) (drop 1 xs) (length-drop 1 xs)))
+first_word {A = A} f xs x h e = ap (map f) (drop_more xs 0 x (omega arith) ∙ ap (λ (y : A). y ∷ drop 1 xs) (sym e)) ∙ ap (λ ys. f x ∷ map f ys) (sym (take_whole (length xs - 1) (drop 1 xs) (length-drop 1 xs)))
 
 pub request_told : (words rest : List (List ℕ)) (items settings : List Setting) (m : Mode) (r : Result (Option Request) NoMemory) → words ≡ word_of m ∷ rest → AreSettings rest settings → items ≡ settings
     → IfOk r (λ o. MatchOption o ((q : Request) → AsksInMode m items q → ⊥) (AsksInMode m items)) → IfOk r (λ o. MatchOption o ((q : Request) → IsRequest words q → ⊥) (IsRequest words))

@@ -1,9 +1,9 @@
 -- Settings that are read from words.
-use Rattle.std.proofs.Common.{◌≡◌, ℕ, zero, suc, ◌+◌, ◌-◌, ◌<◌, List, [], ◌∷◌, ◌++◌, length, drop, get_or, map, refl, sym, ap, ◌∙◌, subst, append_assoc, arith, inl, inr}
+use Rattle.std.proofs.Common.{◌≡◌, ℕ, zero, suc, ◌+◌, ◌-◌, ◌<◌, List, [], ◌∷◌, ◌++◌, length, drop, get_or, map, refl, sym, ap, ◌∙◌, subst, append_assoc, append-nil, arith, inl, inr}
+use Rattle.std.proofs.lemmas.List.{drop_all, drop_more}
 use Rattle.go_base.specs.Lists.{Has}
 use Rattle.api_words.specs.declared.settings.Setting.{Setting}
 use Rattle.api_words.specs.Words.{AreSettings, IsSetting}
-use Rattle.api_words.proofs.ListRests.{next_drop, past_all, append_nothing}
 
 -- the settings so far, read from the prefix of the words: more of them go on in the rest
 pub record ReadTo (words rest : List (List ℕ)) (settings : List Setting) : Type 0 where
@@ -40,7 +40,7 @@ read_odd words rest settings one r all h = odd rest (r.back all h).0 one (r.back
     odd (w ∷ v ∷ ws) ss e a = absurd (omega arith)
 
 pub read_all : (words : List (List ℕ)) (settings : List Setting) → ReadTo words [] settings → AreSettings words settings
-read_all words settings r = subst (AreSettings words) (append_nothing settings) (r.forth [] tt)
+read_all words settings r = subst (AreSettings words) (append-nil settings) (r.forth [] tt)
 
 -- the words as the code has them
 pub setting_as : {word word' value value' : List ℕ} {s : Setting} → word ≡ word' → value ≡ value' → IsSetting word value s → IsSetting word' value' s
@@ -53,8 +53,8 @@ no_setting_as e f none s h = none s (setting_as (sym e) (sym f) h)
 pub two_more : {A B : Type 0} (f : A → B) (xs : List A) (i : ℕ) (x y : A) → i + 1 < length xs → x ≡ get_or xs i x → y ≡ get_or xs (i + 1) y → map f (drop i xs) ≡ f x ∷ f y ∷ map f (drop (i + 2) xs)
 two_more {A = A} f xs i x y h e g =
     let two : i + 1 + 1 ≡ i + 2 = omega arith in
-    let second : drop (i + 1) xs ≡ y ∷ drop (i + 2) xs = subst (λ (n : ℕ). drop (i + 1) xs ≡ y ∷ drop n xs) two (next_drop xs (i + 1) y h g) in
-    ap (map f) (next_drop xs i x (omega arith) e ∙ ap (λ (ys : List A). x ∷ ys) second)
+    let second : drop (i + 1) xs ≡ y ∷ drop (i + 2) xs = subst (λ (n : ℕ). drop (i + 1) xs ≡ y ∷ drop n xs) two (drop_more xs (i + 1) y h ∙ ap (λ (z : A). z ∷ drop (i + 1 + 1) xs) (sym g)) in
+    ap (map f) (drop_more xs i x (omega arith) ∙ ap (λ (z : A). z ∷ drop (i + 1) xs) (sym e) ∙ ap (λ (ys : List A). x ∷ ys) second)
 
 length_map_drop : {A B : Type 0} (f : A → B) (xs : List A) (i : ℕ) → length (map f (drop i xs)) ≡ length xs - i
 length_map_drop f [] zero = refl
@@ -66,7 +66,7 @@ pub one_left : {A B : Type 0} (f : A → B) (xs : List A) (i : ℕ) → length x
 one_left f xs i h = length_map_drop f xs i ∙ h
 
 pub none_left : {A B : Type 0} (f : A → B) (xs : List A) (i : ℕ) → length xs ≡ i → map f (drop i xs) ≡ []
-none_left f xs i h = ap (map f) (past_all i xs h)
+none_left f xs i h = ap (map f) (drop_all i xs (omega (arith, h)))
 
 -- the value of a setting is one of the words
 pub value_among : (words : List (List ℕ)) (settings : List Setting) (s : Setting) → AreSettings words settings → Has settings s → Has words s.value

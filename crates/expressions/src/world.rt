@@ -41,7 +41,7 @@ fn read_line(
         return Ok(Some(Making::new(alloc, words)?));
     };
     if line == "end" {
-        add(world, package.package())?;
+        add(world, package.package(alloc)?)?;
         return Ok(None);
     }
     let (kind, words) = split(line)?;

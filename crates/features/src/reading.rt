@@ -51,7 +51,7 @@ impl Reading {
             return Ok(());
         };
         if line == "end" {
-            return add(&mut self.world, package.package());
+            return add(&mut self.world, package.package(alloc)?);
         }
         let (kind, words) = split(line)?;
         package.declare(alloc, &mut self.stack, kind, words)?;

@@ -36,7 +36,7 @@ none_told {A = A} F e s t = subst (λ (x : ExprError). Tells {A = A} F (Err x)) 
 -- ---- which types
 
 module _ (E : Env) (star : Bool) (t : Term) where
-  pub stands_decided : Entered E t → MayStandUnder star (under E.table t) → (b : Bool) → Decides (MayEmbed E t) b → Decides (StandsAsField E star t) b
+  pub stands_decided : Entered E t → MayStandUnder star (under E.table t) → (b : Bool) → Decides b (MayEmbed E t) → Decides b (StandsAsField E star t)
   stands_decided e s true p = (e, s, p)
   stands_decided e s false none = λ h. none h.2
 
@@ -44,14 +44,14 @@ module _ (E : Env) (t : Term) where
   pub outside_profile : (b : Bool) → b ≡ false → b ≡ E.profile → MayEmbed E t
   outside_profile b f s p = absurd (true_false (sym p ∙ sym s ∙ f))
 
-  pub inside_profile : (b : Bool) → b ≡ true → b ≡ E.profile → (c : Bool) → Decides (IsOwnLayer (out-Term t)) c → Decides (MayEmbed E t) c
+  pub inside_profile : (b : Bool) → b ≡ true → b ≡ E.profile → (c : Bool) → Decides c (IsOwnLayer (out-Term t)) → Decides c (MayEmbed E t)
   inside_profile b y s true own = λ p. own
   inside_profile b y s false none = λ h. none (h (sym s ∙ y))
 
 -- ---- names
 
 -- whether the fact holds of the one type that the operand is
-pub with_type : (P : Term → Type 0) (o : Operand) (t : Term) → o ≡ type_name t → (b : Bool) → Decides (P t) b → Decides (IsTypeWith P o) b
+pub with_type : (P : Term → Type 0) (o : Operand) (t : Term) → o ≡ type_name t → (b : Bool) → Decides b (P t) → Decides b (IsTypeWith P o)
 with_type P o t e true p = (t, e, p)
 with_type P o t e false none = λ h. none (subst P (one_name (sym h.1 ∙ e)) h.2)
 
@@ -72,7 +72,7 @@ module _ (E : Env) (q : QualifiedName) where
 
   -- ---- fields
 
-  pub field_decided : (star : Bool) (o : Operand) → NameDenotes E q o → (b : Bool) → Decides (IsTypeWith (StandsAsField E star) o) b → Decides (EmbedsField E star q) b
+  pub field_decided : (star : Bool) (o : Operand) → NameDenotes E q o → (b : Bool) → Decides b (IsTypeWith (StandsAsField E star) o) → Decides b (EmbedsField E star q)
   field_decided star o d true w = record { embedded = w.0; names = typed o w.0 d w.1; entered = w.2.0; stands = w.2.1; permitted = w.2.2 }
   field_decided star o d false none = λ f. none (f.embedded, is_type o f.embedded d f.names, (f.entered, f.stands, f.permitted))
 
@@ -81,7 +81,7 @@ module _ (E : Env) (q : QualifiedName) where
 
   -- ---- interfaces
 
-  pub interface_decided : (o : Operand) → NameDenotes E q o → (b : Bool) → Decides (IsTypeWith (MayEmbed E) o) b → Decides (EmbedsInterface E q) b
+  pub interface_decided : (o : Operand) → NameDenotes E q o → (b : Bool) → Decides b (IsTypeWith (MayEmbed E) o) → Decides b (EmbedsInterface E q)
   interface_decided o d true w = record { embedded = w.0; names = typed o w.0 d w.1; permitted = w.2 }
   interface_decided o d false none = λ f. none (f.embedded, is_type o f.embedded d f.names, f.permitted)
 

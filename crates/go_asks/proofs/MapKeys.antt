@@ -12,7 +12,7 @@ module _ (E : Env) (key : Typ) where
   abbrev pub KeyCompares : Type 0
   KeyCompares = (u : Term) × OfType E key u × Compares E u
 
-  pub key_decided : (u : Term) → OfType E key u → (b : Bool) → Decides (Compares E u) b → Decides KeyCompares b
+  pub key_decided : (u : Term) → OfType E key u → (b : Bool) → Decides b (Compares E u) → Decides b KeyCompares
   key_decided u t true c = (u, t, c)
   key_decided u t false none = λ k. none (subst (Compares E) (type_once E k.1 t) k.2)
 

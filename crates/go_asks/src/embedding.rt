@@ -2,13 +2,12 @@
 ghost use Rattle.std.specs.Prelude.{◌≡◌, IfOk};
 ghost use Rattle.go_asks.specs.inner.Embedding.{IsTypeWith, NameDenotes, StandsAsField};
 ghost use Rattle.go_model.specs.declared.types.term.Term.{out-Term};
-ghost use Rattle.go_model.specs.types.Imports.{is_imported};
 ghost use Rattle.go_rules.specs.Asks.{EmbedsField, EmbedsInterface, IsOwnLayer, MayEmbed, MayStandUnder};
 ghost use Rattle.go_selectors.specs.Answers.{Decides};
 ghost use Rattle.go_type_terms.specs.Answers.{Tells, env_in};
 
 use go_base::memory::NoMemory;
-use go_model::types::names::TypeName;
+use go_model::types::names::is_imported;
 use go_model::types::term::Term;
 use go_operations::names::{imported, named};
 use go_operators::values::type_in;
@@ -30,7 +29,7 @@ fn denoted(context: &Context<'_>, alloc: Global, name: &QualifiedName) -> Result
 
 // Whether an embedded type has this level underneath, behind a star or not.
 fn may_stand_under(star: bool, level: &Term) -> bool
-    ensures { Decides (MayStandUnder star (out-Term level.now)) result }
+    ensures { Decides result (MayStandUnder star (out-Term level.now)) }
 {
     match level {
         Term::Pointer(_) => false,
@@ -39,15 +38,9 @@ fn may_stand_under(star: bool, level: &Term) -> bool
     }
 }
 
-fn is_imported(name: &TypeName) -> bool
-    ensures { result ≡ is_imported name.now }
-{
-    name.path.bytes() != b"".as_slice() && name.path.bytes() != b"-client".as_slice()
-}
-
 // Whether a type is a client's own or predeclared.
 fn is_own(term: &Term) -> bool
-    ensures { Decides (IsOwnLayer (out-Term term.now)) result }
+    ensures { Decides result (IsOwnLayer (out-Term term.now)) }
 {
     match term {
         Term::Named(name) => !is_imported(name),
@@ -59,7 +52,7 @@ fn is_own(term: &Term) -> bool
 
 // Whether a type may be embedded at all.
 fn may_embed(context: &Context<'_>, term: &Term) -> bool
-    ensures { Decides (MayEmbed (env_in context.now) term.now) result }
+    ensures { Decides result (MayEmbed (env_in context.now) term.now) }
 {
     if !context.env.is_profile() {
         return true;
@@ -69,7 +62,7 @@ fn may_embed(context: &Context<'_>, term: &Term) -> bool
 
 // Whether a type may be embedded as a field, behind a star or not.
 fn stands_as_field(context: &Context<'_>, star: bool, term: &Term) -> bool
-    ensures { Decides (StandsAsField (env_in context.now) star term.now) result }
+    ensures { Decides result (StandsAsField (env_in context.now) star term.now) }
 {
     if !context.is_entered(term) {
         return false;
@@ -82,7 +75,7 @@ fn stands_as_field(context: &Context<'_>, star: bool, term: &Term) -> bool
 
 // Whether an operand is a type that may be embedded as a field, behind a star or not.
 fn is_field_type(context: &Context<'_>, star: bool, operand: &Operand) -> bool
-    ensures { Decides (IsTypeWith (StandsAsField (env_in context.now) star) operand.now) result }
+    ensures { Decides result (IsTypeWith (StandsAsField (env_in context.now) star) operand.now) }
 {
     match type_in(operand) {
         Some(term) => stands_as_field(context, star, term),
@@ -97,7 +90,7 @@ pub(crate) fn embeds_field(
     star: bool,
     name: &QualifiedName,
 ) -> Result<bool, NoMemory>
-    ensures { IfOk result (Decides (EmbedsField (env_in context.now) star name.now)) }
+    ensures { IfOk result (λ answer. Decides answer (EmbedsField (env_in context.now) star name.now)) }
 {
     match denoted(context, alloc, name) {
         Ok(operand) => Ok(is_field_type(context, star, &operand)),
@@ -108,7 +101,7 @@ pub(crate) fn embeds_field(
 
 // Whether an operand is a type that may be embedded in an interface.
 fn is_interface_type(context: &Context<'_>, operand: &Operand) -> bool
-    ensures { Decides (IsTypeWith (MayEmbed (env_in context.now)) operand.now) result }
+    ensures { Decides result (IsTypeWith (MayEmbed (env_in context.now)) operand.now) }
 {
     match type_in(operand) {
         Some(term) => may_embed(context, term),
@@ -122,7 +115,7 @@ pub(crate) fn embeds_interface(
     alloc: Global,
     name: &QualifiedName,
 ) -> Result<bool, NoMemory>
-    ensures { IfOk result (Decides (EmbedsInterface (env_in context.now) name.now)) }
+    ensures { IfOk result (λ answer. Decides answer (EmbedsInterface (env_in context.now) name.now)) }
 {
     match denoted(context, alloc, name) {
         Ok(operand) => Ok(is_interface_type(context, &operand)),

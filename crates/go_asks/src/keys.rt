@@ -17,7 +17,7 @@ use std::alloc::Global;
 
 // Whether values of a type can be compared.
 fn term_compares(context: &Context<'_>, alloc: Global, term: &Term) -> Result<bool, NoMemory>
-    ensures { IfOk result (Decides (Compares (env_in context.now) term.now)) }
+    ensures { IfOk result (λ answer. Decides answer (Compares (env_in context.now) term.now)) }
 {
     compares(context, alloc, term)
 }
@@ -28,7 +28,7 @@ pub(crate) fn key_compares(
     alloc: Global,
     key: &Type,
 ) -> Result<bool, NoMemory>
-    ensures { IfOk result (Decides ((u : Term) × OfType (env_in context.now) key.now u × Compares (env_in context.now) u)) }
+    ensures { IfOk result (λ answer. Decides answer ((u : Term) × OfType (env_in context.now) key.now u × Compares (env_in context.now) u)) }
 {
     match type_of(context, alloc, key) {
         Ok(term) => {

@@ -21,7 +21,7 @@ use std::alloc::Global;
 
 // Whether a type form by itself meets what it is asked.
 fn type_meets(context: &Context<'_>, alloc: Global, form: &Type) -> Result<bool, NoMemory>
-    ensures { IfOk result (Decides (TypeMeets (env_in context.now) (out-Typ form.now))) }
+    ensures { IfOk result (λ answer. Decides answer (TypeMeets (env_in context.now) (out-Typ form.now))) }
 {
     match form {
         Type::Map(key, _) => key_compares(context, alloc, key.value()),
@@ -33,7 +33,7 @@ fn type_meets(context: &Context<'_>, alloc: Global, form: &Type) -> Result<bool,
 
 // Whether the names of parameters and results are distinct.
 fn signature_meets(alloc: Global, signature: &Signature) -> Result<bool, NoMemory>
-    ensures { IfOk result (Decides (AreDistinctNames (signature_names signature.now))) }
+    ensures { IfOk result (λ answer. Decides answer (AreDistinctNames (signature_names signature.now))) }
 {
     let names = signature_names(alloc, signature)?;
     let distinct = are_distinct(alloc, names.items())?;
@@ -42,7 +42,7 @@ fn signature_meets(alloc: Global, signature: &Signature) -> Result<bool, NoMemor
 
 // Whether a tree by itself meets what it is asked.
 fn meets_here(context: &Context<'_>, alloc: Global, tree: Tree<'_>) -> Result<bool, NoMemory>
-    ensures { IfOk result (Decides (MeetsHere (env_in context.now) (node_of tree.entry))) }
+    ensures { IfOk result (λ answer. Decides answer (MeetsHere (env_in context.now) (node_of tree.entry))) }
 {
     match tree {
         Tree::Expr(_) => Ok(true),
@@ -55,7 +55,7 @@ fn meets_here(context: &Context<'_>, alloc: Global, tree: Tree<'_>) -> Result<bo
 
 /// Whether all that is asked in each of these trees is met.
 pub fn meet(context: &Context<'_>, alloc: Global, mut trees: Trees<'_>) -> Result<bool, NoMemory>
-    ensures { IfOk result (Decides (Each (Meets (env_in context.now)) (nodes_in trees.entry))) }
+    ensures { IfOk result (λ answer. Decides answer (Each (Meets (env_in context.now)) (nodes_in trees.entry))) }
 {
     for _ in 0..usize::MAX {
         match trees.pop() {
@@ -74,7 +74,7 @@ pub fn meet(context: &Context<'_>, alloc: Global, mut trees: Trees<'_>) -> Resul
 /// Whether all that is asked in a tree is met: that the keys of maps can be compared, that what is
 /// embedded may be, and that names are distinct where they have to be.
 pub fn meets(context: &Context<'_>, alloc: Global, tree: Tree<'_>) -> Result<bool, NoMemory>
-    ensures { IfOk result (Decides (Meets (env_in context.now) (node_of tree.entry))) }
+    ensures { IfOk result (λ answer. Decides answer (Meets (env_in context.now) (node_of tree.entry))) }
 {
     let mut trees = Trees::new(alloc);
     trees.push(tree)?;

@@ -9,14 +9,15 @@ ghost use Rattle.go_type_terms.specs.Answers.{env_in};
 
 use crate::embedding::{embeds_field, embeds_interface};
 use go_base::memory::NoMemory;
-use go_nodes::distinct::{are_distinct, are_once, is_blank};
+use go_nodes::distinct::{are_distinct, are_once};
 use go_nodes::names::{fields_names, methods_names};
+use go_rules::blank::is_blank;
 use go_syntax::types::{FieldDecl, InterfaceElem};
 use go_usability::context::Context;
 use std::alloc::Global;
 
 fn field_meets(context: &Context<'_>, alloc: Global, decl: &FieldDecl) -> Result<bool, NoMemory>
-    ensures { IfOk result (Decides (FieldMeets (env_in context.now) (out-FieldDecl decl.now))) }
+    ensures { IfOk result (λ answer. Decides answer (FieldMeets (env_in context.now) (out-FieldDecl decl.now))) }
 {
     match decl {
         FieldDecl::Named(_, _, _) => Ok(true),
@@ -25,7 +26,7 @@ fn field_meets(context: &Context<'_>, alloc: Global, decl: &FieldDecl) -> Result
 }
 
 fn fields_meet(context: &Context<'_>, alloc: Global, decls: &[FieldDecl]) -> Result<bool, NoMemory>
-    ensures { IfOk result (Decides (Each (λ d. FieldMeets (env_in context.now) (out-FieldDecl d)) decls.now)) }
+    ensures { IfOk result (λ answer. Decides answer (Each (λ d. FieldMeets (env_in context.now) (out-FieldDecl d)) decls.now)) }
 {
     for decl in decls {
         if !field_meets(context, alloc, decl)? {
@@ -41,7 +42,7 @@ pub(crate) fn structure_meets(
     alloc: Global,
     decls: &[FieldDecl],
 ) -> Result<bool, NoMemory>
-    ensures { IfOk result (Decides (AreDistinctNames (fields_names decls.now) × Each (λ d. FieldMeets (env_in context.now) (out-FieldDecl d)) decls.now)) }
+    ensures { IfOk result (λ answer. Decides answer (AreDistinctNames (fields_names decls.now) × Each (λ d. FieldMeets (env_in context.now) (out-FieldDecl d)) decls.now)) }
 {
     let names = fields_names(alloc, decls)?;
     if !are_distinct(alloc, names.items())? {
@@ -56,10 +57,10 @@ fn element_meets(
     alloc: Global,
     element: &InterfaceElem,
 ) -> Result<bool, NoMemory>
-    ensures { IfOk result (Decides (ElementMeets (env_in context.now) (out-InterfaceElem element.now))) }
+    ensures { IfOk result (λ answer. Decides answer (ElementMeets (env_in context.now) (out-InterfaceElem element.now))) }
 {
     match element {
-        InterfaceElem::Method(name, _) => Ok(!is_blank(&name.text)),
+        InterfaceElem::Method(name, _) => Ok(!is_blank(name.text.bytes())),
         InterfaceElem::Embedded(name) => embeds_interface(context, alloc, name),
     }
 }
@@ -69,7 +70,7 @@ fn elements_meet(
     alloc: Global,
     elements: &[InterfaceElem],
 ) -> Result<bool, NoMemory>
-    ensures { IfOk result (Decides (Each (λ x. ElementMeets (env_in context.now) (out-InterfaceElem x)) elements.now)) }
+    ensures { IfOk result (λ answer. Decides answer (Each (λ x. ElementMeets (env_in context.now) (out-InterfaceElem x)) elements.now)) }
 {
     for element in elements {
         if !element_meets(context, alloc, element)? {
@@ -86,7 +87,7 @@ pub(crate) fn interface_meets(
     alloc: Global,
     elements: &[InterfaceElem],
 ) -> Result<bool, NoMemory>
-    ensures { IfOk result (Decides (Once (methods_names elements.now) × Each (λ x. ElementMeets (env_in context.now) (out-InterfaceElem x)) elements.now)) }
+    ensures { IfOk result (λ answer. Decides answer (Once (methods_names elements.now) × Each (λ x. ElementMeets (env_in context.now) (out-InterfaceElem x)) elements.now)) }
 {
     let names = methods_names(alloc, elements)?;
     if !are_once(alloc, names.items())? {

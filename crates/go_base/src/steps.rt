@@ -43,6 +43,11 @@ impl<L: Copy + Send> Steps<L> {
         self.count
     }
 
+    /// Its owner, by which a thread makes a counter of its own.
+    pub fn owner(&self) -> L {
+        self.owner
+    }
+
     /// A new counter at 0 of the same owner. This one stays as it is.
     pub fn split(&mut self) -> Steps<L>
         ensures apart { result ≡ 0 }

@@ -5,7 +5,8 @@ use Rattle.go_model.specs.declared.constants.value.Basic.TheVariants as basic
 use Rattle.go_model.specs.declared.types.term.Term.{Term, Term-F}
 use Rattle.go_model.specs.types.Underlying.{under}
 use Rattle.go_rules.specs.Environments.{Env}
-use Rattle.go_rules.specs.Expressions.{IsString, slice_of}
+use Rattle.go_model.specs.types.Terms.{slice_of}
+use Rattle.go_rules.specs.Expressions.{IsString}
 use Rattle.go_rules.specs.Operands.{IsTyped, basic_term, plain}
 use Rattle.go_rules.specs.Usability.{UsableAs}
 use Rattle.go_rules.specs.declared.operand.Operand.{Operand}
@@ -17,7 +18,7 @@ use Rattle.go_calls.specs.inner.Appended.{IsBytesFrom, MayAppend, append_bytes, 
 use Rattle.go_operators.proofs.Answers.{given, false_true}
 use Rattle.go_calls.proofs.LevelParts.{same_element}
 
-pub decide : (P : Type 0) (b : Bool) → (IsTrue b ↔ P) → Decides P b
+pub decide : (P : Type 0) (b : Bool) → (IsTrue b ↔ P) → Decides b P
 decide P true i = i.0 refl
 decide P false i = λ p. false_true (i.1 p)
 
@@ -29,32 +30,32 @@ module _ (E : Env) where
   of_bytes (append_bytes b) none = absurd (none b)
   of_bytes (append_same u) none = u
 
-  pub append_decides : (e : Term) (o : Operand) (b : Bool) → (IsBytesFrom E e o → ⊥) → Decides (UsableAs E o (slice_of e)) b → Decides (MayAppend E e o) b
+  pub append_decides : (e : Term) (o : Operand) (b : Bool) → (IsBytesFrom E e o → ⊥) → Decides b (UsableAs E o (slice_of e)) → Decides b (MayAppend E e o)
   append_decides e o true none d = append_same d
   append_decides e o false none d = λ x. d (of_bytes x none)
 
   each_of : {e : Term} {os : List Operand} → MayAppendAll E e os false → Each (λ o. UsableAs E o e) os
   each_of (append_each u) = u
 
-  pub all_decides : (e : Term) (os : List Operand) (b : Bool) → Decides (Each (λ o. UsableAs E o e) os) b → Decides (MayAppendAll E e os false) b
+  pub all_decides : (e : Term) (os : List Operand) (b : Bool) → Decides b (Each (λ o. UsableAs E o e) os) → Decides b (MayAppendAll E e os false)
   all_decides e os true d = append_each d
   all_decides e os false d = λ x. d (each_of x)
 
   last_of : {e : Term} {os : List Operand} → MayAppendAll E e os true → (o : Operand) × (os ≡ o ∷ []) × MayAppend E e o
   last_of (append_last m) = (_, refl, m)
 
-  pub last_decides : (e : Term) (os : List Operand) (o : Operand) (b : Bool) → os ≡ o ∷ [] → Decides (MayAppend E e o) b → Decides (MayAppendAll E e os true) b
+  pub last_decides : (e : Term) (os : List Operand) (o : Operand) (b : Bool) → os ≡ o ∷ [] → Decides b (MayAppend E e o) → Decides b (MayAppendAll E e os true)
   last_decides e os o true p d = subst (λ (x : List Operand). MayAppendAll E e x true) (sym p) (append_last d)
   last_decides e os o false p d = λ x. d (subst (MayAppend E e) (head_same (sym (last_of x).1 ∙ p)) (last_of x).2)
 
   pub last_none : (e : Term) (os : List Operand) → ((o : Operand) → os ≡ o ∷ [] → ⊥) → MayAppendAll E e os true → ⊥
   last_none e os none x = none _ (last_of x).1
 
-  pub dots_none : (e : Term) (os : List Operand) (dots : Bool) (b : Bool) → dots ≡ false → Decides (Each (λ o. UsableAs E o e) os) b → Decides (MayAppendAll E e os dots) b
-  dots_none e os dots b f d = subst (λ (x : Bool). Decides (MayAppendAll E e os x) b) (sym f) (all_decides e os b d)
+  pub dots_none : (e : Term) (os : List Operand) (dots : Bool) (b : Bool) → dots ≡ false → Decides b (Each (λ o. UsableAs E o e) os) → Decides b (MayAppendAll E e os dots)
+  dots_none e os dots b f d = subst (λ (x : Bool). Decides b (MayAppendAll E e os x)) (sym f) (all_decides e os b d)
 
-  pub dots_last : (e : Term) (os : List Operand) (dots : Bool) (o : Operand) (b : Bool) → dots ≡ true → os ≡ o ∷ [] → Decides (MayAppend E e o) b → Decides (MayAppendAll E e os dots) b
-  dots_last e os dots o b f p d = subst (λ (x : Bool). Decides (MayAppendAll E e os x) b) (sym f) (last_decides e os o b p d)
+  pub dots_last : (e : Term) (os : List Operand) (dots : Bool) (o : Operand) (b : Bool) → dots ≡ true → os ≡ o ∷ [] → Decides b (MayAppend E e o) → Decides b (MayAppendAll E e os dots)
+  dots_last e os dots o b f p d = subst (λ (x : Bool). Decides b (MayAppendAll E e os x)) (sym f) (last_decides e os o b p d)
 
   pub dots_no_last : (e : Term) (os : List Operand) (dots : Bool) → dots ≡ true → ((o : Operand) → os ≡ o ∷ [] → ⊥) → MayAppendAll E e os dots → ⊥
   dots_no_last e os dots f none x = last_none e os none (subst (MayAppendAll E e os) f x)
@@ -83,7 +84,7 @@ module _ (E : Env) where
   appends_all h e (append_each u) = appends_elements h e u
   appends_all h e (append_last m) = appends_last h e m
 
-  pub append_gives : (o : Operand) (os : List Operand) (dots : Bool) (t u : Term) (b : Bool) → IsTyped o t → under E.table t ≡ Term-F.Slice u → Decides (MayAppendAll E u os dots) b → Gives (Appends E (o ∷ os) dots) (if b then Some (plain t) else None)
+  pub append_gives : (o : Operand) (os : List Operand) (dots : Bool) (t u : Term) (b : Bool) → IsTyped o t → under E.table t ≡ Term-F.Slice u → Decides b (MayAppendAll E u os dots) → Gives (Appends E (o ∷ os) dots) (if b then Some (plain t) else None)
   append_gives o os dots t u b h e d =
       given (Appends E (o ∷ os) dots) (MayAppendAll E u os dots) b (plain t) d (λ m. appends_all h e m)
       (λ r x. subst (λ (y : Term). MayAppendAll E y os dots) (same_element (sym (appended x).3 ∙ ap (under E.table) (one_type (appended x).2 h) ∙ e)) (appended x).4)
@@ -117,7 +118,7 @@ module _ (E : Env) where
   copies h e (copy_bytes b) = copies_bytes h e b
   copies h e (copy_same g f) = copies_slice h e g f
 
-  pub copy_gives : (o q : Operand) (t u : Term) (b : Bool) → IsTyped o t → under E.table t ≡ Term-F.Slice u → Decides (MayCopy E u q) b → Gives (Copies E o q) (if b then Some int_value else None)
+  pub copy_gives : (o q : Operand) (t u : Term) (b : Bool) → IsTyped o t → under E.table t ≡ Term-F.Slice u → Decides b (MayCopy E u q) → Gives (Copies E o q) (if b then Some int_value else None)
   copy_gives o q t u b h e d =
       given (Copies E o q) (MayCopy E u q) b int_value d (λ m. copies h e m)
       (λ r x. subst (λ (y : Term). MayCopy E y q) (same_element (sym (copied x).3 ∙ ap (under E.table) (one_type (copied x).2 h) ∙ e)) (copied x).4)
@@ -132,7 +133,7 @@ module _ (E : Env) where
   pub copy_not_slice : (e : Term) (o : Operand) (t : Term) → (IsBytesFrom E e o → ⊥) → IsTyped o t → ((u : Term) → under E.table t ≡ Term-F.Slice u → ⊥) → MayCopy E e o → ⊥
   copy_not_slice e o t none h never x = never _ (ap (under E.table) (one_type h (may_copy_same none x).1) ∙ (may_copy_same none x).2)
 
-  pub copy_decides : (e : Term) (o : Operand) (t u : Term) (b : Bool) → (IsBytesFrom E e o → ⊥) → IsTyped o t → under E.table t ≡ Term-F.Slice u → Decides (e ≡ u) b → Decides (MayCopy E e o) b
+  pub copy_decides : (e : Term) (o : Operand) (t u : Term) (b : Bool) → (IsBytesFrom E e o → ⊥) → IsTyped o t → under E.table t ≡ Term-F.Slice u → Decides b (e ≡ u) → Decides b (MayCopy E e o)
   copy_decides e o t u true none h f d = copy_same h (f ∙ ap Term-F.Slice (sym d))
   copy_decides e o t u false none h f d = λ x. d (same_element (sym (may_copy_same none x).2 ∙ ap (under E.table) (one_type (may_copy_same none x).1 h) ∙ f))
 
@@ -147,5 +148,5 @@ module _ (E : Env) where
   pub no_string : (e : Term) (o : Operand) → ((n : Option ℕ) → IsString E o n → ⊥) → IsBytesFrom E e o → ⊥
   no_string e o none x = none _ x.string
 
-  pub slice_like : (e t : Term) (o : Operand) (b : Bool) → t ≡ slice_of e → Decides (UsableAs E o t) b → Decides (UsableAs E o (slice_of e)) b
-  slice_like e t o b f d = subst (λ (x : Term). Decides (UsableAs E o x) b) f d
+  pub slice_like : (e t : Term) (o : Operand) (b : Bool) → t ≡ slice_of e → Decides b (UsableAs E o t) → Decides b (UsableAs E o (slice_of e))
+  slice_like e t o b f d = subst (λ (x : Term). Decides b (UsableAs E o x)) f d

@@ -49,7 +49,7 @@ module _ (E : Env) where
   pub delete_no_map : (o q : Operand) (t : Term) → IsTyped o t → ((k u : Term) → under E.table t ≡ Term-F.Map k u → ⊥) → (r : Operand) → Deletes E o q r → ⊥
   delete_no_map o q t h none r x = none _ _ (ap (under E.table) (one_type h (deleted x).3) ∙ (deleted x).4)
 
-  pub delete_gives : (o q : Operand) (t k u : Term) (b : Bool) → IsTyped o t → under E.table t ≡ Term-F.Map k u → Decides (UsableAs E q k) b → Gives (Deletes E o q) (if b then Some no_value else None)
+  pub delete_gives : (o q : Operand) (t k u : Term) (b : Bool) → IsTyped o t → under E.table t ≡ Term-F.Map k u → Decides b (UsableAs E q k) → Gives (Deletes E o q) (if b then Some no_value else None)
   delete_gives o q t k u b h e d =
       given (Deletes E o q) (UsableAs E q k) b no_value d (λ p. deletes h e p)
       (λ r x. subst (UsableAs E q) (same_key (sym (deleted x).4 ∙ ap (under E.table) (one_type (deleted x).3 h) ∙ e)) (deleted x).5)
@@ -57,8 +57,8 @@ module _ (E : Env) where
   panicked : {o r : Operand} → Panics E o r → UsableAs E o any_term
   panicked (panics p) = p
 
-  pub panic_gives : (o : Operand) (t : Term) (b : Bool) → t ≡ any_term → Decides (UsableAs E o t) b → Gives (Panics E o) (if b then Some no_value else None)
-  panic_gives o t b e d = given (Panics E o) (UsableAs E o any_term) b no_value (subst (λ (x : Term). Decides (UsableAs E o x) b) e d) (λ p. panics p) (λ r x. panicked x)
+  pub panic_gives : (o : Operand) (t : Term) (b : Bool) → t ≡ any_term → Decides b (UsableAs E o t) → Gives (Panics E o) (if b then Some no_value else None)
+  panic_gives o t b e d = given (Panics E o) (UsableAs E o any_term) b no_value (subst (λ (x : Term). Decides b (UsableAs E o x)) e d) (λ p. panics p) (λ r x. panicked x)
 
   -- ---- print
 
@@ -69,14 +69,14 @@ module _ (E : Env) where
   printed_default (printed_typed h) = elim h [ ]
   printed_default (printed_constant d) = d
 
-  constant_prints : (k : Untyped) (v : Value) (b : Bool) → Decides (DefaultHolds E k v) b → Decides (IsPrinted E (constant_of (constant.OfKind k) v)) b
+  constant_prints : (k : Untyped) (v : Value) (b : Bool) → Decides b (DefaultHolds E k v) → Decides b (IsPrinted E (constant_of (constant.OfKind k) v))
   constant_prints k v true d = printed_constant d
   constant_prints k v false d = λ x. d (printed_default x)
 
-  pub constant_printed : (o : Operand) (k : Untyped) (v : Value) (b : Bool) → o ≡ constant_of (constant.OfKind k) v → Decides (DefaultHolds E k v) b → Decides (IsPrinted E o) b
-  constant_printed o k v b e d = subst (λ (x : Operand). Decides (IsPrinted E x) b) (sym e) (constant_prints k v b d)
+  pub constant_printed : (o : Operand) (k : Untyped) (v : Value) (b : Bool) → o ≡ constant_of (constant.OfKind k) v → Decides b (DefaultHolds E k v) → Decides b (IsPrinted E o)
+  constant_printed o k v b e d = subst (λ (x : Operand). Decides b (IsPrinted E x)) (sym e) (constant_prints k v b d)
 
-  pub kind_printed : (o : Operand) (c : ConstTerm) (v : Value) (k : Untyped) (b : Bool) → o ≡ constant_of c v → c ≡ constant.OfKind k → Decides (DefaultHolds E k v) b → Decides (IsPrinted E o) b
+  pub kind_printed : (o : Operand) (c : ConstTerm) (v : Value) (k : Untyped) (b : Bool) → o ≡ constant_of c v → c ≡ constant.OfKind k → Decides b (DefaultHolds E k v) → Decides b (IsPrinted E o)
   kind_printed o c v k b e f d = constant_printed o k v b (e ∙ ap (λ (x : ConstTerm). constant_of x v) f) d
 
   pub term_printed : (o : Operand) (c : ConstTerm) (v : Value) (t : Term) → o ≡ constant_of c v → c ≡ constant.OfTerm t → ((u : Term) → IsTyped o u → ⊥) → IsPrinted E o → ⊥
@@ -99,7 +99,7 @@ module _ (E : Env) where
   prints_all : {os : List Operand} {r : Operand} → Prints E os r → Each (IsPrinted E) os
   prints_all (prints_each p) = p
 
-  pub print_gives : (os : List Operand) (b : Bool) → Decides (Each (IsPrinted E) os) b → Gives (Prints E os) (if b then Some no_value else None)
+  pub print_gives : (os : List Operand) (b : Bool) → Decides b (Each (IsPrinted E) os) → Gives (Prints E os) (if b then Some no_value else None)
   print_gives os b d = given (Prints E os) (Each (IsPrinted E) os) b no_value d (λ p. prints_each p) (λ r x. prints_all x)
 
 -- ---- the number of operands

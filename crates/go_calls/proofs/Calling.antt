@@ -54,15 +54,15 @@ module _ (E : Env) where
   pub fixed_dots : (ts : List Term) (os : List Operand) → ArgumentsFit E false true ts os → ⊥
   fixed_dots ts os x = no_dots x
 
-  pub fixed_decides : (ts : List Term) (os : List Operand) (b : Bool) → Decides (UsableEach E os ts) b → Decides (ArgumentsFit E false false ts os) b
+  pub fixed_decides : (ts : List Term) (os : List Operand) (b : Bool) → Decides b (UsableEach E os ts) → Decides b (ArgumentsFit E false false ts os)
   fixed_decides ts os true d = each_fits os ts d
   fixed_decides ts os false d = λ x. d (fits_each x)
 
   pub no_dots_fixed : (variadic dots : Bool) (ts : List Term) (os : List Operand) → variadic ≡ false → dots ≡ true → ArgumentsFit E variadic dots ts os → ⊥
   no_dots_fixed variadic dots ts os e f x = fixed_dots ts os (subst (λ (b : Bool). ArgumentsFit E false b ts os) f (subst (λ (b : Bool). ArgumentsFit E b dots ts os) e x))
 
-  pub fixed_each : (variadic dots : Bool) (ts : List Term) (os : List Operand) (b : Bool) → variadic ≡ false → dots ≡ false → Decides (UsableEach E os ts) b → Decides (ArgumentsFit E variadic dots ts os) b
-  fixed_each variadic dots ts os b e f d = subst (λ (v : Bool). Decides (ArgumentsFit E v dots ts os) b) (sym e) (subst (λ (v : Bool). Decides (ArgumentsFit E false v ts os) b) (sym f) (fixed_decides ts os b d))
+  pub fixed_each : (variadic dots : Bool) (ts : List Term) (os : List Operand) (b : Bool) → variadic ≡ false → dots ≡ false → Decides b (UsableEach E os ts) → Decides b (ArgumentsFit E variadic dots ts os)
+  fixed_each variadic dots ts os b e f d = subst (λ (v : Bool). Decides b (ArgumentsFit E v dots ts os)) (sym e) (subst (λ (v : Bool). Decides b (ArgumentsFit E false v ts os)) (sym f) (fixed_decides ts os b d))
 
   -- of a variadic one
 
@@ -130,19 +130,19 @@ module _ (E : Env) where
   pub variadic_no_fixed : (dots : Bool) (every os qs : List Operand) (all ts : List Term) (t : Term) → all ≡ ts ++ t ∷ [] → every ≡ os ++ qs → length os ≡ length ts → (UsableEach E os ts → ⊥) → ArgumentsFit E true dots all every → ⊥
   variadic_no_fixed dots every os qs all ts t e g h none f = none (parts_of dots every os qs all ts t e g h f).0
 
-  pub variadic_decides : (dots : Bool) (every os qs : List Operand) (all ts : List Term) (t : Term) (b : Bool) → all ≡ ts ++ t ∷ [] → every ≡ os ++ qs → length os ≡ length ts → UsableEach E os ts → Decides (RestFits E dots t qs) b → Decides (ArgumentsFit E true dots all every) b
+  pub variadic_decides : (dots : Bool) (every os qs : List Operand) (all ts : List Term) (t : Term) (b : Bool) → all ≡ ts ++ t ∷ [] → every ≡ os ++ qs → length os ≡ length ts → UsableEach E os ts → Decides b (RestFits E dots t qs) → Decides b (ArgumentsFit E true dots all every)
   variadic_decides dots every os qs all ts t true e g h u d = of_parts dots every os qs all ts t e g u d
   variadic_decides dots every os qs all ts t false e g h u d = λ f. d (parts_of dots every os qs all ts t e g h f).1
 
   rest_one : {t : Term} {os : List Operand} → RestFits E true t os → (o : Operand) × (os ≡ o ∷ []) × UsableAs E o t
   rest_one (rest_slice u) = (_, refl, u)
 
-  one_decides : (t : Term) (os : List Operand) (o : Operand) (b : Bool) → os ≡ o ∷ [] → Decides (UsableAs E o t) b → Decides (RestFits E true t os) b
+  one_decides : (t : Term) (os : List Operand) (o : Operand) (b : Bool) → os ≡ o ∷ [] → Decides b (UsableAs E o t) → Decides b (RestFits E true t os)
   one_decides t os o true e d = subst (RestFits E true t) (sym e) (rest_slice d)
   one_decides t os o false e d = λ x. d (subst (λ (y : Operand). UsableAs E y t) (head_same (sym (rest_one x).1 ∙ e)) (rest_one x).2)
 
-  pub rest_decides : (dots : Bool) (t : Term) (os : List Operand) (o : Operand) (b : Bool) → dots ≡ true → os ≡ o ∷ [] → Decides (UsableAs E o t) b → Decides (RestFits E dots t os) b
-  rest_decides dots t os o b f e d = subst (λ (x : Bool). Decides (RestFits E x t os) b) (sym f) (one_decides t os o b e d)
+  pub rest_decides : (dots : Bool) (t : Term) (os : List Operand) (o : Operand) (b : Bool) → dots ≡ true → os ≡ o ∷ [] → Decides b (UsableAs E o t) → Decides b (RestFits E dots t os)
+  rest_decides dots t os o b f e d = subst (λ (x : Bool). Decides b (RestFits E x t os)) (sym f) (one_decides t os o b e d)
 
   pub rest_none : (dots : Bool) (t : Term) (os : List Operand) → dots ≡ true → ((o : Operand) → os ≡ o ∷ [] → ⊥) → RestFits E dots t os → ⊥
   rest_none dots t os f none x = none _ (rest_one (subst (λ (b : Bool). RestFits E b t os) f x)).1
@@ -150,12 +150,12 @@ module _ (E : Env) where
   rest_each : {t : Term} {os : List Operand} → RestFits E false t os → (e : Term) × (out-Term t ≡ Term-F.Slice e) × Each (λ o. UsableAs E o e) os
   rest_each (rest_elements e u) = (_, e, u)
 
-  each_decides : (t : Term) (os : List Operand) (e : Term) (b : Bool) → out-Term t ≡ Term-F.Slice e → Decides (Each (λ o. UsableAs E o e) os) b → Decides (RestFits E false t os) b
+  each_decides : (t : Term) (os : List Operand) (e : Term) (b : Bool) → out-Term t ≡ Term-F.Slice e → Decides b (Each (λ o. UsableAs E o e) os) → Decides b (RestFits E false t os)
   each_decides t os e true f d = rest_elements f d
   each_decides t os e false f d = λ x. d (subst (λ (y : Term). Each (λ o. UsableAs E o y) os) (same_element (sym (rest_each x).1 ∙ f)) (rest_each x).2)
 
-  pub elements_decides : (dots : Bool) (t : Term) (os : List Operand) (e : Term) (b : Bool) → dots ≡ false → out-Term t ≡ Term-F.Slice e → Decides (Each (λ o. UsableAs E o e) os) b → Decides (RestFits E dots t os) b
-  elements_decides dots t os e b g f d = subst (λ (x : Bool). Decides (RestFits E x t os) b) (sym g) (each_decides t os e b f d)
+  pub elements_decides : (dots : Bool) (t : Term) (os : List Operand) (e : Term) (b : Bool) → dots ≡ false → out-Term t ≡ Term-F.Slice e → Decides b (Each (λ o. UsableAs E o e) os) → Decides b (RestFits E dots t os)
+  elements_decides dots t os e b g f d = subst (λ (x : Bool). Decides b (RestFits E x t os)) (sym g) (each_decides t os e b f d)
 
   pub elements_none : (dots : Bool) (t : Term) (os : List Operand) → dots ≡ false → ((e : Term) → out-Term t ≡ Term-F.Slice e → ⊥) → RestFits E dots t os → ⊥
   elements_none dots t os g none x = none _ (rest_each (subst (λ (b : Bool). RestFits E b t os) g x)).1
@@ -173,10 +173,10 @@ module _ (E : Env) where
 
   -- by equal parameters and results
 
-  pub call_unfit : (dots : Bool) (g : Signature) (os : List Operand) (ps : List Term) (b : Bool) → ps ≡ (out-Signature g).params → b ≡ false → Decides (ArgumentsFit E (out-Signature g).variadic dots ps os) b → (r : Operand) → CallsSignature E dots g os r → ⊥
+  pub call_unfit : (dots : Bool) (g : Signature) (os : List Operand) (ps : List Term) (b : Bool) → ps ≡ (out-Signature g).params → b ≡ false → Decides b (ArgumentsFit E (out-Signature g).variadic dots ps os) → (r : Operand) → CallsSignature E dots g os r → ⊥
   call_unfit dots g os ps b e f d = call_not_fit dots g os (λ x. decided_false (ArgumentsFit E (out-Signature g).variadic dots ps os) b f d (subst (λ (y : List Term). ArgumentsFit E (out-Signature g).variadic dots y os) (sym e) x))
 
-  pub call_fit : (dots : Bool) (g : Signature) (os : List Operand) (ps ts : List Term) (b : Bool) (r : Operand) → ps ≡ (out-Signature g).params → b ≡ true → Decides (ArgumentsFit E (out-Signature g).variadic dots ps os) b → ts ≡ (out-Signature g).results → r ≡ results_of ts → CallsSignature E dots g os r
+  pub call_fit : (dots : Bool) (g : Signature) (os : List Operand) (ps ts : List Term) (b : Bool) (r : Operand) → ps ≡ (out-Signature g).params → b ≡ true → Decides b (ArgumentsFit E (out-Signature g).variadic dots ps os) → ts ≡ (out-Signature g).results → r ≡ results_of ts → CallsSignature E dots g os r
   call_fit dots g os ps ts b r e f d h i = call_fits dots g os r (subst (λ (y : List Term). ArgumentsFit E (out-Signature g).variadic dots y os) e (decided_true (ArgumentsFit E (out-Signature g).variadic dots ps os) b f d)) (i ∙ ap results_of h)
 
   -- the results of a call by themselves are no argument

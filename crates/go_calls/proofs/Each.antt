@@ -15,11 +15,11 @@ each_last P [] x e p = (p, tt)
 each_last P (y ∷ xs) x e p = (e.0, each_last P xs x e.1 p)
 
 module _ {A : Type 0} (P : A → Type 0) (xs : List A) (i : ℕ) (x : A) (answer : Bool) (h : i < length xs) (e : x ≡ get_or xs i x) where
-  pub each_lacks : answer ≡ false → Decides (P x) answer → Each P xs → ⊥
-  each_lacks f d all = (subst (Decides (P x)) f d) (each_has P xs x all (item_has xs i x h e))
+  pub each_lacks : answer ≡ false → Decides answer (P x) → Each P xs → ⊥
+  each_lacks f d all = (subst (λ b. Decides b (P x)) f d) (each_has P xs x all (item_has xs i x h e))
 
-  pub each_next : answer ≡ true → Decides (P x) answer → Each P (take i xs) → Each P (take (i + 1) xs)
-  each_next f d all = subst (Each P) (sym (taken_next xs i x h e)) (each_last P (take i xs) x all (subst (Decides (P x)) f d))
+  pub each_next : answer ≡ true → Decides answer (P x) → Each P (take i xs) → Each P (take (i + 1) xs)
+  each_next f d all = subst (Each P) (sym (taken_next xs i x h e)) (each_last P (take i xs) x all (subst (λ b. Decides b (P x)) f d))
 
 -- ---- operands and types, pair by pair
 
@@ -43,10 +43,10 @@ module _ (E : Env) where
   usable_lengths (o ∷ os) [] u = elim u [ ]
 
   module _ (os : List Operand) (ts : List Term) (i : ℕ) (o : Operand) (t : Term) (answer : Bool) (h : i < length os) (same : length os ≡ length ts) (e : o ≡ get_or os i o) (f : t ≡ get_or ts i t) where
-    pub usable_lacks : answer ≡ false → Decides (UsableAs E o t) answer → UsableEach E os ts → ⊥
-    usable_lacks g d u = (subst (Decides (UsableAs E o t)) g d) (subst (λ (x : Operand). UsableAs E x t) (sym e) (subst (UsableAs E (get_or os i o)) (sym f) (usable_at os ts i o t h u)))
+    pub usable_lacks : answer ≡ false → Decides answer (UsableAs E o t) → UsableEach E os ts → ⊥
+    usable_lacks g d u = (subst (λ b. Decides b (UsableAs E o t)) g d) (subst (λ (x : Operand). UsableAs E x t) (sym e) (subst (UsableAs E (get_or os i o)) (sym f) (usable_at os ts i o t h u)))
 
-    pub usable_next : answer ≡ true → Decides (UsableAs E o t) answer → UsableEach E (take i os) (take i ts) → UsableEach E (take (i + 1) os) (take (i + 1) ts)
+    pub usable_next : answer ≡ true → Decides answer (UsableAs E o t) → UsableEach E (take i os) (take i ts) → UsableEach E (take (i + 1) os) (take (i + 1) ts)
     usable_next g d u =
         subst (λ (x : List Operand). UsableEach E x (take (i + 1) ts)) (sym (taken_next os i o h e))
-        (subst (UsableEach E (take i os ++ o ∷ [])) (sym (taken_next ts i t (omega arith) f)) (usable_last (take i os) (take i ts) o t u (subst (Decides (UsableAs E o t)) g d)))
+        (subst (UsableEach E (take i os ++ o ∷ [])) (sym (taken_next ts i t (omega arith) f)) (usable_last (take i os) (take i ts) o t u (subst (λ b. Decides b (UsableAs E o t)) g d)))

@@ -46,18 +46,18 @@ to_channel : {d : Direction} {e : Term} {n : ℕ} → Makes (Term-F.Chan d e) n 
 to_channel makes_channel = inl refl
 to_channel makes_channel_with_buffer = inr refl
 
-like : (P Q : Type 0) (b : Bool) → (P → Q) → (Q → P) → Decides P b → Decides Q b
+like : (P Q : Type 0) (b : Bool) → (P → Q) → (Q → P) → Decides b P → Decides b Q
 like P Q true f g d = f d
 like P Q false f g d = λ q. d (g q)
 
-pub slice_decides : (v e : Term) (n : ℕ) (b : Bool) → v ≡ term.Slice e → Decides ((n ≡ 1) ⊎ (n ≡ 2)) b → Decides (Makes (out-Term v) n) b
-slice_decides v e n b f d = subst (λ (l : Layer). Decides (Makes l n) b) (sym (at_slice v (out-Term v) refl e f)) (like ((n ≡ 1) ⊎ (n ≡ 2)) (Makes (Term-F.Slice e) n) b (λ x. of_slice x) (λ x. to_slice x) d)
+pub slice_decides : (v e : Term) (n : ℕ) (b : Bool) → v ≡ term.Slice e → Decides b ((n ≡ 1) ⊎ (n ≡ 2)) → Decides b (Makes (out-Term v) n)
+slice_decides v e n b f d = subst (λ (l : Layer). Decides b (Makes l n)) (sym (at_slice v (out-Term v) refl e f)) (like ((n ≡ 1) ⊎ (n ≡ 2)) (Makes (Term-F.Slice e) n) b (λ x. of_slice x) (λ x. to_slice x) d)
 
-pub map_decides : (v k e : Term) (n : ℕ) (b : Bool) → v ≡ term.Map k e → Decides ((n ≡ 0) ⊎ (n ≡ 1)) b → Decides (Makes (out-Term v) n) b
-map_decides v k e n b f d = subst (λ (l : Layer). Decides (Makes l n) b) (sym (at_map v (out-Term v) refl k e f)) (like ((n ≡ 0) ⊎ (n ≡ 1)) (Makes (Term-F.Map k e) n) b (λ x. of_map x) (λ x. to_map x) d)
+pub map_decides : (v k e : Term) (n : ℕ) (b : Bool) → v ≡ term.Map k e → Decides b ((n ≡ 0) ⊎ (n ≡ 1)) → Decides b (Makes (out-Term v) n)
+map_decides v k e n b f d = subst (λ (l : Layer). Decides b (Makes l n)) (sym (at_map v (out-Term v) refl k e f)) (like ((n ≡ 0) ⊎ (n ≡ 1)) (Makes (Term-F.Map k e) n) b (λ x. of_map x) (λ x. to_map x) d)
 
-pub channel_decides : (v : Term) (r : Direction) (e : Term) (n : ℕ) (b : Bool) → v ≡ term.Chan r e → Decides ((n ≡ 0) ⊎ (n ≡ 1)) b → Decides (Makes (out-Term v) n) b
-channel_decides v r e n b f d = subst (λ (l : Layer). Decides (Makes l n) b) (sym (at_chan v (out-Term v) refl r e f)) (like ((n ≡ 0) ⊎ (n ≡ 1)) (Makes (Term-F.Chan r e) n) b (λ x. of_channel x) (λ x. to_channel x) d)
+pub channel_decides : (v : Term) (r : Direction) (e : Term) (n : ℕ) (b : Bool) → v ≡ term.Chan r e → Decides b ((n ≡ 0) ⊎ (n ≡ 1)) → Decides b (Makes (out-Term v) n)
+channel_decides v r e n b f d = subst (λ (l : Layer). Decides b (Makes l n)) (sym (at_chan v (out-Term v) refl r e f)) (like ((n ≡ 0) ⊎ (n ≡ 1)) (Makes (Term-F.Chan r e) n) b (λ x. of_channel x) (λ x. to_channel x) d)
 
 -- ---- sizes
 
@@ -91,7 +91,7 @@ module _ (E : Env) where
       let a = sizes_some x.sizes in let b = sizes_some a.4 in
       subst (λ (k : Option ℕ). UpTo k n) (one_index a.3 i) (subst (λ (k : Option ℕ). UpTo a.0 k) (one_index b.3 j) (two_sizes x.numbers a.1 b.1 a.0 b.0 a.2 b.2 (sizes_end b.4) x.fit))
 
-  pub fit_decides : (o q : Operand) (m n : Option ℕ) (b : Bool) → IsIndex E o m → IsIndex E q n → Decides (UpTo m n) b → Decides (FitSizes E (o ∷ q ∷ [])) b
+  pub fit_decides : (o q : Operand) (m n : Option ℕ) (b : Bool) → IsIndex E o m → IsIndex E q n → Decides b (UpTo m n) → Decides b (FitSizes E (o ∷ q ∷ []))
   fit_decides o q m n true i j d = fits i j d
   fit_decides o q m n false i j d = λ x. d (up_to i j x)
 
@@ -107,11 +107,11 @@ module _ (E : Env) where
   pub fit_too_many : (o q : Operand) (rest os : List Operand) → rest ≡ q ∷ os → (os ≡ [] → ⊥) → FitSizes E (o ∷ rest) → ⊥
   fit_too_many o q rest os e none x = too_many o q os none (subst (λ (y : List Operand). FitSizes E (o ∷ y)) e x)
 
-  pub fit_second : (o q : Operand) (rest os : List Operand) (b : Bool) → rest ≡ q ∷ os → os ≡ [] → Decides (FitSizes E (o ∷ q ∷ [])) b → Decides (FitSizes E (o ∷ rest)) b
-  fit_second o q rest os b e f d = subst (λ (y : List Operand). Decides (FitSizes E (o ∷ y)) b) (sym (e ∙ ap (λ (y : List Operand). q ∷ y) f)) d
+  pub fit_second : (o q : Operand) (rest os : List Operand) (b : Bool) → rest ≡ q ∷ os → os ≡ [] → Decides b (FitSizes E (o ∷ q ∷ [])) → Decides b (FitSizes E (o ∷ rest))
+  fit_second o q rest os b e f d = subst (λ (y : List Operand). Decides b (FitSizes E (o ∷ y))) (sym (e ∙ ap (λ (y : List Operand). q ∷ y) f)) d
 
-  pub fit_alone : (o : Operand) (rest : List Operand) (b : Bool) → rest ≡ [] → Decides (FitSizes E (o ∷ [])) b → Decides (FitSizes E (o ∷ rest)) b
-  fit_alone o rest b e d = subst (λ (y : List Operand). Decides (FitSizes E (o ∷ y)) b) (sym e) d
+  pub fit_alone : (o : Operand) (rest : List Operand) (b : Bool) → rest ≡ [] → Decides b (FitSizes E (o ∷ [])) → Decides b (FitSizes E (o ∷ rest))
+  fit_alone o rest b e d = subst (λ (y : List Operand). Decides b (FitSizes E (o ∷ y))) (sym e) d
 
   -- ---- the result
 
@@ -137,7 +137,7 @@ module _ (E : Env) where
   makes : {o : Operand} {os : List Operand} {t : Term} → o ≡ type_name t → Makes (under E.table t) (length os) → FitSizes E os → MakesOf E o os (plain t)
   makes {os = os} {t = t} e m f = subst (λ (x : Operand). MakesOf E x os (plain t)) (sym e) (makes_of f.sizes (subst (λ (k : ℕ). Makes (under E.table t) k) (sym (same_length f.sizes)) m) f.fit)
 
-  pub make_gives : (o : Operand) (os : List Operand) (t : Term) (b : Bool) → o ≡ type_name t → Makes (under E.table t) (length os) → Decides (FitSizes E os) b → Gives (MakesOf E o os) (if b then Some (plain t) else None)
+  pub make_gives : (o : Operand) (os : List Operand) (t : Term) (b : Bool) → o ≡ type_name t → Makes (under E.table t) (length os) → Decides b (FitSizes E os) → Gives (MakesOf E o os) (if b then Some (plain t) else None)
   make_gives o os t b e m d = given (MakesOf E o os) (FitSizes E os) b (plain t) d (λ f. makes e m f) (λ r x. (made x).3)
 
   not_empty : (os : List Operand) → false ≡ (length os == 0) → os ≡ [] → ⊥
@@ -153,7 +153,7 @@ module _ (E : Env) where
   pub make_not_taken : (o : Operand) (os : List Operand) (t : Term) (l : Layer) (n : ℕ) → o ≡ type_name t → l ≡ under E.table t → n ≡ length os → (Makes l n → ⊥) → (r : Operand) → MakesOf E o os r → ⊥
   make_not_taken o os t l n e f g none r x = make_not_sizes o os t e (λ m. none (subst (λ (k : ℕ). Makes l k) (sym g) (subst (λ (y : Layer). Makes y (length os)) (sym f) m))) r x
 
-  pub make_like : (o : Operand) (os : List Operand) (t : Term) (l : Layer) (n : ℕ) (b : Bool) → o ≡ type_name t → l ≡ under E.table t → n ≡ length os → Makes l n → Decides (FitSizes E os) b → Gives (MakesOf E o os) (if b then Some (plain t) else None)
+  pub make_like : (o : Operand) (os : List Operand) (t : Term) (l : Layer) (n : ℕ) (b : Bool) → o ≡ type_name t → l ≡ under E.table t → n ≡ length os → Makes l n → Decides b (FitSizes E os) → Gives (MakesOf E o os) (if b then Some (plain t) else None)
   make_like o os t l n b e f g m d = make_gives o os t b e (subst (λ (y : Layer). Makes y (length os)) f (subst (λ (k : ℕ). Makes l k) g m)) d
 
 -- ---- new

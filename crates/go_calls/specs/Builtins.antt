@@ -7,10 +7,10 @@ use Rattle.go_model.specs.declared.constants.value.Basic.TheVariants as basic
 use Rattle.go_model.specs.declared.constants.value.Value.TheVariants as value
 use Rattle.go_model.specs.declared.types.term.Direction.{Direction}
 use Rattle.go_model.specs.declared.types.term.Term.{Term, Term-F}
-use Rattle.go_model.specs.types.Terms.{pointer_to}
+use Rattle.go_model.specs.types.Terms.{pointer_to, slice_of}
 use Rattle.go_model.specs.types.Underlying.{under}
 use Rattle.go_rules.specs.Environments.{Env}
-use Rattle.go_rules.specs.Expressions.{IsArray, IsIndex, IsPrinted, IsString, Makes, Sizes, int_constant, is_constant, measures, sends, slice_of}
+use Rattle.go_rules.specs.Expressions.{IsArray, IsIndex, IsPrinted, IsString, Makes, Sizes, int_constant, is_constant, measures, sends}
 use Rattle.go_rules.specs.Operands.{IsTyped, any_term, basic_term, no_value, plain, type_name}
 use Rattle.go_rules.specs.Usability.{UsableAs}
 use Rattle.go_rules.specs.declared.operand.Operand.{Operand}

@@ -1,7 +1,6 @@
 //! `append` and `copy`.
 ghost use Rattle.std.specs.Prelude.{◌≡◌, ◌∷◌, IfOk};
 ghost use Rattle.go_model.specs.declared.constants.value.Basic.TheVariants as basic;
-ghost use Rattle.go_rules.specs.Expressions.{slice_of};
 ghost use Rattle.go_rules.specs.Operands.{basic_term};
 ghost use Rattle.go_rules.specs.Scopes.{env_of};
 ghost use Rattle.go_selectors.specs.Answers.{Decides};
@@ -11,10 +10,9 @@ ghost use Rattle.go_calls.specs.inner.Appended.{IsBytesFrom, MayAppend, MayAppen
 
 use crate::arguments::{sole, usable_all};
 use go_base::memory::NoMemory;
-use go_base::shared::Shared;
 use go_elements::strings::string_length;
 use go_model::constants::value::Basic;
-use go_model::types::term::Term;
+use go_model::types::term::{Term, slice_of};
 use go_operators::levels::slice_under;
 use go_operators::operands::{int_where, plain_where};
 use go_operators::values::{is_usable, type_of};
@@ -23,22 +21,15 @@ use go_selectors::identity::identical;
 use go_usability::context::Context;
 use std::alloc::Global;
 
-// The slice type of an equal element.
-fn slice_of(alloc: Global, element: &Term) -> Result<Term, NoMemory>
-    ensures { IfOk result (λ slice. slice ≡ slice_of element.now) }
-{
-    Ok(Term::Slice(Shared::new(alloc, element.copy(alloc)?)?))
-}
-
 fn is_byte(element: &Term) -> bool
-    ensures { Decides (element.now ≡ basic_term basic.Uint8) result }
+    ensures { Decides result (element.now ≡ basic_term basic.Uint8) }
 {
     matches!(element, Term::Plain(Basic::Uint8))
 }
 
 // Whether an operand is a string, and the elements that it goes to are bytes.
 fn is_bytes_from(context: &Context<'_>, element: &Term, operand: &Operand) -> bool
-    ensures { Decides (IsBytesFrom (env_of context.now.env.now) element.now operand.now) result }
+    ensures { Decides result (IsBytesFrom (env_of context.now.env.now) element.now operand.now) }
 {
     if !is_byte(element) {
         return false;
@@ -56,7 +47,7 @@ fn may_append(
     element: &Term,
     operand: &Operand,
 ) -> Result<bool, NoMemory>
-    ensures { IfOk result (Decides (MayAppend (env_of context.now.env.now) element.now operand.now)) }
+    ensures { IfOk result (λ answer. Decides answer (MayAppend (env_of context.now.env.now) element.now operand.now)) }
 {
     if is_bytes_from(context, element, operand) {
         return Ok(true);
@@ -74,7 +65,7 @@ fn may_append_all(
     operands: &[Operand],
     dots: bool,
 ) -> Result<bool, NoMemory>
-    ensures { IfOk result (Decides (MayAppendAll (env_of context.now.env.now) element.now operands.now dots)) }
+    ensures { IfOk result (λ answer. Decides answer (MayAppendAll (env_of context.now.env.now) element.now operands.now dots)) }
 {
     if !dots {
         let all = usable_all(context, alloc, operands, element)?;
@@ -132,7 +123,7 @@ pub(crate) fn append(
 
 // Whether an operand may be copied to elements of this type.
 fn may_copy(context: &Context<'_>, element: &Term, operand: &Operand) -> bool
-    ensures { Decides (MayCopy (env_of context.now.env.now) element.now operand.now) result }
+    ensures { Decides result (MayCopy (env_of context.now.env.now) element.now operand.now) }
 {
     if is_bytes_from(context, element, operand) {
         return true;

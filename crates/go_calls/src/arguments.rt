@@ -33,7 +33,7 @@ pub(crate) fn sole(operands: &[Operand]) -> Option<&Operand>
 
 /// Whether there is no operand, and no `...`.
 pub(crate) fn is_none(operands: &[Operand], dots: bool) -> bool
-    ensures { Decides ((operands.now ≡ []) × (dots ≡ false)) result }
+    ensures { Decides result ((operands.now ≡ []) × (dots ≡ false)) }
 {
     operands.is_empty() && !dots
 }
@@ -73,7 +73,7 @@ fn usable_each(
     operands: &[Operand],
     terms: &[Term],
 ) -> Result<bool, NoMemory>
-    ensures { IfOk result (Decides (UsableEach (env_of context.now.env.now) operands.now terms.now)) }
+    ensures { IfOk result (λ answer. Decides answer (UsableEach (env_of context.now.env.now) operands.now terms.now)) }
 {
     let same = operands.len() == terms.len();
     if !same {
@@ -95,7 +95,7 @@ pub(crate) fn usable_all(
     operands: &[Operand],
     term: &Term,
 ) -> Result<bool, NoMemory>
-    ensures { IfOk result (Decides (Each (λ o. UsableAs (env_of context.now.env.now) o term.now) operands.now)) }
+    ensures { IfOk result (λ answer. Decides answer (Each (λ o. UsableAs (env_of context.now.env.now) o term.now) operands.now)) }
 {
     for operand in operands {
         let fits = is_usable(context, alloc, operand, term)?;
@@ -124,7 +124,7 @@ fn rest_fits(
     term: &Term,
     operands: &[Operand],
 ) -> Result<bool, NoMemory>
-    ensures { IfOk result (Decides (RestFits (env_of context.now.env.now) dots term.now operands.now)) }
+    ensures { IfOk result (λ answer. Decides answer (RestFits (env_of context.now.env.now) dots term.now operands.now)) }
 {
     if dots {
         return match sole(operands) {
@@ -155,7 +155,7 @@ fn fit_variadic(
     operands: &[Operand],
 ) -> Result<bool, NoMemory>
     requires { params.now ≡ first.now ++ last.now ∷ [] }
-    ensures { IfOk result (Decides (ArgumentsFit (env_of context.now.env.now) true dots params.now operands.now)) }
+    ensures { IfOk result (λ answer. Decides answer (ArgumentsFit (env_of context.now.env.now) true dots params.now operands.now)) }
 {
     let few = operands.len() < first.len();
     if few {
@@ -179,7 +179,7 @@ pub(crate) fn arguments_fit(
     params: &[Term],
     operands: &[Operand],
 ) -> Result<bool, NoMemory>
-    ensures { IfOk result (Decides (ArgumentsFit (env_of context.now.env.now) variadic dots params.now operands.now)) }
+    ensures { IfOk result (λ answer. Decides answer (ArgumentsFit (env_of context.now.env.now) variadic dots params.now operands.now)) }
 {
     if !variadic {
         if dots {

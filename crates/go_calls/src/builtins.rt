@@ -96,7 +96,7 @@ fn is_constant_printed(
 ) -> bool
     requires constant { operand.now ≡ constant_of of.now value.now }
     requires untyped { (t : Term) → IsTyped operand.now t → ⊥ }
-    ensures { Decides (IsPrinted (env_of context.now.env.now) operand.now) result }
+    ensures { Decides result (IsPrinted (env_of context.now.env.now) operand.now) }
 {
     match of {
         ConstTerm::OfKind(kind) => default_holds(context, *kind, value),
@@ -107,7 +107,7 @@ fn is_constant_printed(
 // Whether an operand without a type is a value that in the end has one.
 fn is_untyped_printed(context: &Context<'_>, operand: &Operand) -> bool
     requires { (t : Term) → IsTyped operand.now t → ⊥ }
-    ensures { Decides (IsPrinted (env_of context.now.env.now) operand.now) result }
+    ensures { Decides result (IsPrinted (env_of context.now.env.now) operand.now) }
 {
     if let Some((of, value)) = constant_of(operand) {
         return is_constant_printed(context, operand, of, value);
@@ -120,7 +120,7 @@ fn is_untyped_printed(context: &Context<'_>, operand: &Operand) -> bool
 
 // Whether an operand is a value that in the end has a type.
 fn is_printed(context: &Context<'_>, operand: &Operand) -> bool
-    ensures { Decides (IsPrinted (env_of context.now.env.now) operand.now) result }
+    ensures { Decides result (IsPrinted (env_of context.now.env.now) operand.now) }
 {
     match type_of(operand) {
         Some(_) => true,
@@ -129,7 +129,7 @@ fn is_printed(context: &Context<'_>, operand: &Operand) -> bool
 }
 
 fn are_printed(context: &Context<'_>, operands: &[Operand]) -> bool
-    ensures { Decides (Each (IsPrinted (env_of context.now.env.now)) operands.now) result }
+    ensures { Decides result (Each (IsPrinted (env_of context.now.env.now)) operands.now) }
 {
     for operand in operands {
         if !is_printed(context, operand) {

@@ -98,7 +98,7 @@ fn measure_typed(
 }
 
 fn is_len(function: Predeclared) -> bool
-    ensures { Decides (function ≡ Predeclared.Len) result }
+    ensures { Decides result (function ≡ Predeclared.Len) }
 {
     matches!(function, Predeclared::Len)
 }

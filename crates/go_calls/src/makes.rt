@@ -10,9 +10,8 @@ ghost use Rattle.go_calls.specs.inner.Made.{FitSizes};
 
 use go_base::memory::NoMemory;
 use go_elements::indices::index_of;
-use go_model::types::term::Term;
+use go_model::types::term::{Term, pointer_to};
 use go_operators::operands::{plain, plain_where};
-use go_operators::prefixes::pointer_to;
 use go_operators::values::type_in;
 use go_rules::operand::Operand;
 use go_usability::context::Context;
@@ -20,7 +19,7 @@ use std::alloc::Global;
 
 // Whether the first constant value isn't above the second.
 fn is_up_to(number: Option<u64>, limit: Option<u64>) -> bool
-    ensures { Decides (UpTo number limit) result }
+    ensures { Decides result (UpTo number limit) }
 {
     match (number, limit) {
         (Some(number), Some(limit)) => number <= limit,
@@ -29,7 +28,7 @@ fn is_up_to(number: Option<u64>, limit: Option<u64>) -> bool
 }
 
 fn is_one_of(number: usize, first: usize, second: usize) -> bool
-    ensures { Decides ((number ≡ first) ⊎ (number ≡ second)) result }
+    ensures { Decides result ((number ≡ first) ⊎ (number ≡ second)) }
 {
     if number == first {
         return true;
@@ -39,7 +38,7 @@ fn is_one_of(number: usize, first: usize, second: usize) -> bool
 
 // Whether an underlying type takes so many sizes.
 fn takes_sizes(under: &Term, count: usize) -> bool
-    ensures { Decides (Makes (out-Term under.now) count) result }
+    ensures { Decides result (Makes (out-Term under.now) count) }
 {
     match under {
         Term::Slice(_) => is_one_of(count, 1, 2),
@@ -51,7 +50,7 @@ fn takes_sizes(under: &Term, count: usize) -> bool
 
 // Whether an operand is a size.
 fn fits_one(context: &Context<'_>, size: &Operand) -> bool
-    ensures { Decides (FitSizes (env_of context.now.env.now) (size.now ∷ [])) result }
+    ensures { Decides result (FitSizes (env_of context.now.env.now) (size.now ∷ [])) }
 {
     match index_of(context, size) {
         Some(_) => true,
@@ -61,7 +60,7 @@ fn fits_one(context: &Context<'_>, size: &Operand) -> bool
 
 // Whether two operands are sizes, of which no constant first is above a constant second.
 fn fit_two(context: &Context<'_>, size: &Operand, capacity: &Operand) -> bool
-    ensures { Decides (FitSizes (env_of context.now.env.now) (size.now ∷ capacity.now ∷ [])) result }
+    ensures { Decides result (FitSizes (env_of context.now.env.now) (size.now ∷ capacity.now ∷ [])) }
 {
     let number = match index_of(context, size) {
         Some(number) => number,
@@ -75,7 +74,7 @@ fn fit_two(context: &Context<'_>, size: &Operand, capacity: &Operand) -> bool
 
 // The same of one operand and others.
 fn fit_more(context: &Context<'_>, size: &Operand, operands: &[Operand]) -> bool
-    ensures { Decides (FitSizes (env_of context.now.env.now) (size.now ∷ operands.now)) result }
+    ensures { Decides result (FitSizes (env_of context.now.env.now) (size.now ∷ operands.now)) }
 {
     match operands.split_first() {
         Some((capacity, more)) => {
@@ -90,7 +89,7 @@ fn fit_more(context: &Context<'_>, size: &Operand, operands: &[Operand]) -> bool
 
 // Whether operands are sizes, of which no constant first is above a constant second.
 fn fit_sizes(context: &Context<'_>, operands: &[Operand]) -> bool
-    ensures { Decides (FitSizes (env_of context.now.env.now) operands.now) result }
+    ensures { Decides result (FitSizes (env_of context.now.env.now) operands.now) }
 {
     match operands.split_first() {
         Some((size, rest)) => fit_more(context, size, rest),

@@ -17,7 +17,7 @@ negated : (b : Bool) → false ≡ not b → b ≡ true
 negated true h = refl
 negated false h = absurd (cc)
 
-pub other_text : (a b : List ℕ) (r : Bool) → r ≡ not (bytes_eq a b) → Decides (a ≢ b) r
+pub other_text : (a b : List ℕ) (r : Bool) → r ≡ not (bytes_eq a b) → Decides r (a ≢ b)
 other_text a b true e = λ s. true≢false (e ∙ ap not ((bytes_decides a b).1 s))
 other_text a b false e = λ f. f ((bytes_decides a b).0 (negated (bytes_eq a b) e))
 
@@ -25,9 +25,9 @@ each_of : {A : Type 0} (P : A → Type 0) (xs : List A) → ((x : A) → Has xs 
 each_of P [] f = tt
 each_of P (x ∷ xs) f = (f x (inl refl), each_of P xs (λ y h. f y (inr h)))
 
-pub apart_decided : (fs : List Field) (name : List ℕ) (b : Bool) → Decides (Each (HasOtherName name) fs) b → Decides ((x : Field) → Has fs x → (out-Field x).sel.name ≢ name) b
+pub apart_decided : (fs : List Field) (name : List ℕ) (b : Bool) → Decides b (Each (HasOtherName name) fs) → Decides b ((x : Field) → Has fs x → (out-Field x).sel.name ≢ name)
 apart_decided fs name true e = λ x h. each_has (HasOtherName name) fs x e h
 apart_decided fs name false none = λ f. none (each_of (HasOtherName name) fs f)
 
-pub apart_by : (l : Layer) (fs : List Field) (name : List ℕ) → fs ≡ fields_of l → (b : Bool) → Decides (Each (HasOtherName name) fs) b → Decides (IsApart l name) b
-apart_by l fs name e b d = apart_decided (fields_of l) name b (subst (λ (xs : List Field). Decides (Each (HasOtherName name) xs) b) e d)
+pub apart_by : (l : Layer) (fs : List Field) (name : List ℕ) → fs ≡ fields_of l → (b : Bool) → Decides b (Each (HasOtherName name) fs) → Decides b (IsApart l name)
+apart_by l fs name e b d = apart_decided (fields_of l) name b (subst (λ (xs : List Field). Decides b (Each (HasOtherName name) xs)) e d)

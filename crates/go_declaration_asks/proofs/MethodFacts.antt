@@ -24,14 +24,14 @@ module _ (b : Base) (l : Layer) (name : List ℕ) where
   pub not_only : (c : Bool) → c ≡ false → c ≡ is_blank name → b.is_only ≡ false → IsFreeIn b l name → ⊥
   not_only c f s o h = true_false (sym (h.0 (sym s ∙ f)) ∙ o)
 
-  pub only_apart : (c : Bool) → c ≡ false → c ≡ is_blank name → b.is_only ≡ true → (a : Bool) → Decides (IsApart l name) a → Decides (IsFreeIn b l name) a
+  pub only_apart : (c : Bool) → c ≡ false → c ≡ is_blank name → b.is_only ≡ true → (a : Bool) → Decides a (IsApart l name) → Decides a (IsFreeIn b l name)
   only_apart c f s o true a = ((λ e. o), (λ e. a))
   only_apart c f s o false none = λ h. none (h.1 (sym s ∙ f))
 
   pub barred : (c : Bool) → c ≡ true → c ≡ bars_methods l → PermitsMethod b l name → ⊥
   barred c t s h = true_false (sym t ∙ s ∙ h.0)
 
-  pub permitted : (c : Bool) → c ≡ false → c ≡ bars_methods l → (a : Bool) → Decides (IsFreeIn b l name) a → Decides (PermitsMethod b l name) a
+  pub permitted : (c : Bool) → c ≡ false → c ≡ bars_methods l → (a : Bool) → Decides a (IsFreeIn b l name) → Decides a (PermitsMethod b l name)
   permitted c f s true a = (sym s ∙ f, a)
   permitted c f s false none = λ h. none h.1
 
@@ -41,14 +41,14 @@ module _ (E : Env) (b : Base) (receiver : ParameterDecl) (f : Func) (r : Option 
   pub method_undefined : r ≡ None → IsMethodOf E b receiver f → ⊥
   method_undefined e m = none_some (sym e ∙ table ∙ m.entry)
 
-  pub method_barred : (d : Defined) → r ≡ Some d → (c : Bool) → c ≡ false → Decides (PermitsMethod b (out-Term d.underlying) f.name.text) c → IsMethodOf E b receiver f → ⊥
+  pub method_barred : (d : Defined) → r ≡ Some d → (c : Bool) → c ≡ false → Decides c (PermitsMethod b (out-Term d.underlying) f.name.text) → IsMethodOf E b receiver f → ⊥
   method_barred d e c t p m =
-      let none : PermitsMethod b (out-Term d.underlying) f.name.text → ⊥ = subst (Decides (PermitsMethod b (out-Term d.underlying) f.name.text)) t p in
+      let none : PermitsMethod b (out-Term d.underlying) f.name.text → ⊥ = subst (λ answer. Decides answer (PermitsMethod b (out-Term d.underlying) f.name.text)) t p in
       none (subst (λ (x : Defined). PermitsMethod b (out-Term x.underlying) f.name.text) (one_some (sym m.entry ∙ sym table ∙ e)) m.permits)
 
-  method_made : (d : Defined) → r ≡ Some d → PermitsMethod b (out-Term d.underlying) f.name.text → (n : Bool) → Decides (HasDistinctNames receiver f) n → Decides (IsMethodOf E b receiver f) n
+  method_made : (d : Defined) → r ≡ Some d → PermitsMethod b (out-Term d.underlying) f.name.text → (n : Bool) → Decides n (HasDistinctNames receiver f) → Decides n (IsMethodOf E b receiver f)
   method_made d e p true a = record { defined = d; entry = sym table ∙ e; permits = p; distinct = a }
   method_made d e p false none = λ m. none m.distinct
 
-  pub method_decided : (d : Defined) → r ≡ Some d → (c : Bool) → c ≡ true → Decides (PermitsMethod b (out-Term d.underlying) f.name.text) c → (n : Bool) → Decides (HasDistinctNames receiver f) n → Decides (IsMethodOf E b receiver f) n
-  method_decided d e c t p n a = method_made d e (subst (Decides (PermitsMethod b (out-Term d.underlying) f.name.text)) t p) n a
+  pub method_decided : (d : Defined) → r ≡ Some d → (c : Bool) → c ≡ true → Decides c (PermitsMethod b (out-Term d.underlying) f.name.text) → (n : Bool) → Decides n (HasDistinctNames receiver f) → Decides n (IsMethodOf E b receiver f)
+  method_decided d e c t p n a = method_made d e (subst (λ answer. Decides answer (PermitsMethod b (out-Term d.underlying) f.name.text)) t p) n a

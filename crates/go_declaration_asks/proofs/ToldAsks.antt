@@ -22,7 +22,7 @@ each_more : {A : Type 0} (P Q : A → Type 0) (xs : List A) → ((x : A) → P x
 each_more P Q [] f h = tt
 each_more P Q (x ∷ xs) f h = (f x h.0, each_more P Q xs f h.1)
 
-told_true : (P : Type 0) (b : Bool) → Decides P b → P → b ≡ true
+told_true : (P : Type 0) (b : Bool) → Decides b P → P → b ≡ true
 told_true P true d p = refl
 told_true P false d p = absurd (d p)
 
@@ -46,7 +46,7 @@ module _ (E : Env) (u : PackageSource) (number : ℕ) (p : List ℕ) (named : u.
     defined = m.defined;
     entry = ap (λ q. E.table (record { path = q; name = b.name.now })) placed ∙ m.entry;
     permits_methods = m.permits.0;
-    only = λ h. subst (Decides (IsOnly u number b.name.now f.name.text)) (m.permits.1.0 h) told.1;
+    only = λ h. subst (λ answer. Decides answer (IsOnly u number b.name.now f.name.text)) (m.permits.1.0 h) told.1;
     apart = m.permits.1.1;
     distinct = m.distinct;
   }
@@ -85,14 +85,14 @@ module _ (E : Env) (u : PackageSource) (number : ℕ) (p : List ℕ) (named : u.
   asks_form b (function f) told a = bare f a
   asks_form b (method receiver f) told a = method_told b receiver f told a
 
-  all_asked : (f : Form) → FormAsks E u number f → (c : Bool) → Decides (Each (Meets E) (nodes f)) c → Decides (Asks E u number f) c
+  all_asked : (f : Form) → FormAsks E u number f → (c : Bool) → Decides c (Each (Meets E) (nodes f)) → Decides c (Asks E u number f)
   all_asked f a true m = record { form = a; meets = m }
   all_asked f a false none = λ h. none h.meets
 
   -- by kind it is met, and the trees decide
-  pub asks_decided : (b : Option Base) (f : Form) → TellsBase u number f b → (a c : Bool) → a ≡ true → Decides (AsksTold E p b f) a → Decides (Each (Meets E) (nodes f)) c → Decides (Asks E u number f) c
-  asks_decided b f told a c t d m = all_asked f (form_asks b f told (subst (Decides (AsksTold E p b f)) t d)) c m
+  pub asks_decided : (b : Option Base) (f : Form) → TellsBase u number f b → (a c : Bool) → a ≡ true → Decides a (AsksTold E p b f) → Decides c (Each (Meets E) (nodes f)) → Decides c (Asks E u number f)
+  asks_decided b f told a c t d m = all_asked f (form_asks b f told (subst (λ answer. Decides answer (AsksTold E p b f)) t d)) c m
 
   -- by kind it isn't met
-  pub asks_not : (b : Option Base) (f : Form) → TellsBase u number f b → (a : Bool) → a ≡ false → Decides (AsksTold E p b f) a → Asks E u number f → ⊥
-  asks_not b f told a t d h = (let none : AsksTold E p b f → ⊥ = subst (Decides (AsksTold E p b f)) t d in none) (asks_form b f told h.form)
+  pub asks_not : (b : Option Base) (f : Form) → TellsBase u number f b → (a : Bool) → a ≡ false → Decides a (AsksTold E p b f) → Asks E u number f → ⊥
+  asks_not b f told a t d h = (let none : AsksTold E p b f → ⊥ = subst (λ answer. Decides answer (AsksTold E p b f)) t d in none) (asks_form b f told h.form)

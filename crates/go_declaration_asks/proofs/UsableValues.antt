@@ -16,7 +16,7 @@ use Rattle.go_typings.proofs.OneEntry.{initialize_once}
 use Rattle.go_declaration_asks.specs.inner.Values.{GivesValues}
 
 module _ (E : Env) (t : Typ) (n : ℕ) where
-  usable_some : (e : Expr) (es : List Expr) (v : Term) (os : List Operand) → OfType E t v → Initialize E n (e ∷ es) os → (b : Bool) → Decides (Each (λ o. UsableAs E o v) os) b → Decides (AreUsable E t n (e ∷ es)) b
+  usable_some : (e : Expr) (es : List Expr) (v : Term) (os : List Operand) → OfType E t v → Initialize E n (e ∷ es) os → (b : Bool) → Decides b (Each (λ o. UsableAs E o v) os) → Decides b (AreUsable E t n (e ∷ es))
   usable_some e es v os a i true d = (v, os, a, i, d)
   usable_some e es v os a i false none = λ h. none (subst (λ (ps : List Operand). Each (λ o. UsableAs E o v) ps) (initialize_once E h.3 i) (subst (λ (w : Term). Each (λ o. UsableAs E o w) h.1) (type_once E h.2 a) h.4))
 
@@ -24,7 +24,7 @@ module _ (E : Env) (t : Typ) (n : ℕ) where
   usable_empty es e = subst (AreUsable E t n) (sym e) tt
 
   -- there are values, and these are given
-  pub usable_given : (es : List Expr) → (es ≡ [] → ⊥) → (v : Term) (os : List Operand) → OfType E t v → Initialize E n es os → (b : Bool) → Decides (Each (λ o. UsableAs E o v) os) b → Decides (AreUsable E t n es) b
+  pub usable_given : (es : List Expr) → (es ≡ [] → ⊥) → (v : Term) (os : List Operand) → OfType E t v → Initialize E n es os → (b : Bool) → Decides b (Each (λ o. UsableAs E o v) os) → Decides b (AreUsable E t n es)
   usable_given [] some v os a i b d = absurd (some refl)
   usable_given (e ∷ es) some v os a i b d = usable_some e es v os a i b d
 

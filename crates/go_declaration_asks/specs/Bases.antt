@@ -13,7 +13,7 @@ use Rattle.go_declaration_asks.specs.declared.base.Base.{Base}
 -- the base type of the receiver, where it has one, and whether no other method of that type has the method's name
 abbrev pub TellsReceiver : PackageSource → ℕ → ParameterDecl → Func → Option Base → Type 0
 TellsReceiver u number receiver f None = base (declarations u) receiver ≡ None
-TellsReceiver u number receiver f (Some b) = (base (declarations u) receiver ≡ Some b.name.now) × Decides (IsOnly u number b.name.now f.name.text) b.is_only
+TellsReceiver u number receiver f (Some b) = (base (declarations u) receiver ≡ Some b.name.now) × Decides b.is_only (IsOnly u number b.name.now f.name.text)
 
 -- the same, where the declaration declares a method
 abbrev pub TellsBase : PackageSource → ℕ → Form → Option Base → Type 0

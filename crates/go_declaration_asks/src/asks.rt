@@ -22,7 +22,7 @@ use std::alloc::Global;
 
 // Whether all that is asked in the types, values and signatures of a declaration is met.
 fn nodes_meet(context: &Context<'_>, alloc: Global, form: Form<'_>) -> Result<bool, NoMemory>
-    ensures { IfOk result (Decides (Each (Meets (env_in context.now)) (nodes (form_of form.entry)))) }
+    ensures { IfOk result (λ answer. Decides answer (Each (Meets (env_in context.now)) (nodes (form_of form.entry)))) }
 {
     let mut trees = Trees::new(alloc);
     push_nodes(&mut trees, form)?;
@@ -40,7 +40,7 @@ pub fn asks(
     base: Option<Base<'_>>,
     form: Form<'_>,
 ) -> Result<bool, NoMemory>
-    ensures { IfOk result (λ answer. (u : PackageSource) (number : ℕ) → u.name ≡ package_name.now → u.path ≡ (env_in context.now).path → TellsBase u number (form_of form.entry) base.entry → Decides (Asks (env_in context.now) u number (form_of form.entry)) answer) }
+    ensures { IfOk result (λ answer. (u : PackageSource) (number : ℕ) → u.name ≡ package_name.now → u.path ≡ (env_in context.now).path → TellsBase u number (form_of form.entry) base.entry → Decides answer (Asks (env_in context.now) u number (form_of form.entry))) }
 {
     if !form_meets(context, alloc, package_name, base, form)? {
         return Ok(false);

@@ -30,7 +30,7 @@ fn variables_meet(
     names: &[Name],
     values: &[Expr],
 ) -> Result<bool, NoMemory>
-    ensures { IfOk result (Decides (Each (IsFreeName package_name.now) names.now × ValuesFit (env_in context.now) form.now (length names.now) values.now)) }
+    ensures { IfOk result (λ answer. Decides answer (Each (IsFreeName package_name.now) names.now × ValuesFit (env_in context.now) form.now (length names.now) values.now)) }
 {
     if !are_free(package_name, names) {
         return Ok(false);
@@ -47,7 +47,7 @@ fn method_meets(
     receiver: &ParameterDecl,
     func: &Func,
 ) -> Result<bool, NoMemory>
-    ensures { IfOk result (Decides (IsMethodTold (env_in context.now) base.entry receiver.now func.now)) }
+    ensures { IfOk result (λ answer. Decides answer (IsMethodTold (env_in context.now) base.entry receiver.now func.now)) }
 {
     match base {
         Some(base) => is_method_of(context.env, alloc, &base, receiver, func),
@@ -63,7 +63,7 @@ pub(crate) fn form_meets(
     base: Option<Base<'_>>,
     form: Form<'_>,
 ) -> Result<bool, NoMemory>
-    ensures { IfOk result (Decides (AsksTold (env_in context.now) package_name.now base.entry (form_of form.entry))) }
+    ensures { IfOk result (λ answer. Decides answer (AsksTold (env_in context.now) package_name.now base.entry (form_of form.entry))) }
 {
     match form {
         Form::Constants(spec) => Ok(are_free(package_name, spec.names)),

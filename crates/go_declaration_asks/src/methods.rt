@@ -21,8 +21,9 @@ use go_model::types::names::TypeName;
 use go_model::types::package::Defined;
 use go_model::types::table::TypeTable;
 use go_model::types::term::{Field, Term};
-use go_nodes::distinct::{are_distinct, is_blank};
+use go_nodes::distinct::are_distinct;
 use go_nodes::names::{push_names, push_signature};
+use go_rules::blank::is_blank;
 use go_rules::env::Env;
 use go_syntax::declaration::Func;
 use go_syntax::types::ParameterDecl;
@@ -62,14 +63,14 @@ fn bars_methods(level: &Term) -> bool
 
 // Whether a field has another name.
 fn has_other_name(field: &Field, name: &Text) -> bool
-    ensures { Decides (HasOtherName name.now field.now) result }
+    ensures { Decides result (HasOtherName name.now field.now) }
 {
     field.sel.name != *name
 }
 
 // Whether none of the fields has the name.
 fn are_apart(fields: &[Field], name: &Text) -> bool
-    ensures { Decides (Each (HasOtherName name.now) fields.now) result }
+    ensures { Decides result (Each (HasOtherName name.now) fields.now) }
 {
     for field in fields {
         if !has_other_name(field, name) {
@@ -90,15 +91,15 @@ fn fields_in(level: &Term) -> &[Field]
 
 // Whether no field of the level has the name.
 fn is_apart(level: &Term, name: &Text) -> bool
-    ensures { Decides (IsApart (out-Term level.now) name.now) result }
+    ensures { Decides result (IsApart (out-Term level.now) name.now) }
 {
     are_apart(fields_in(level), name)
 }
 
 fn is_free_in(base: &Base<'_>, level: &Term, name: &Text) -> bool
-    ensures { Decides (IsFreeIn base.now (out-Term level.now) name.now) result }
+    ensures { Decides result (IsFreeIn base.now (out-Term level.now) name.now) }
 {
-    if is_blank(name) {
+    if is_blank(name.bytes()) {
         return true;
     }
     if !base.is_only {
@@ -108,7 +109,7 @@ fn is_free_in(base: &Base<'_>, level: &Term, name: &Text) -> bool
 }
 
 fn permits_method(base: &Base<'_>, level: &Term, name: &Text) -> bool
-    ensures { Decides (PermitsMethod base.now (out-Term level.now) name.now) result }
+    ensures { Decides result (PermitsMethod base.now (out-Term level.now) name.now) }
 {
     if bars_methods(level) {
         return false;
@@ -135,7 +136,7 @@ fn has_distinct_names(
     receiver: &ParameterDecl,
     func: &Func,
 ) -> Result<bool, NoMemory>
-    ensures { IfOk result (Decides (HasDistinctNames receiver.now func.now)) }
+    ensures { IfOk result (λ answer. Decides answer (HasDistinctNames receiver.now func.now)) }
 {
     let names = names_of(alloc, receiver, func)?;
     let distinct = are_distinct(alloc, names.items())?;
@@ -150,7 +151,7 @@ pub(crate) fn is_method_of(
     receiver: &ParameterDecl,
     func: &Func,
 ) -> Result<bool, NoMemory>
-    ensures { IfOk result (Decides (IsMethodOf (env_of env.now) base.now receiver.now func.now)) }
+    ensures { IfOk result (λ answer. Decides answer (IsMethodOf (env_of env.now) base.now receiver.now func.now)) }
 {
     let found = defined_of(env, alloc, base.name)?;
     let defined = match found {

@@ -26,7 +26,7 @@ fn is_main_of(package_name: &[u8], name: &Text) -> bool
 
 /// Whether in a package of this name more than functions may be named so.
 pub(crate) fn is_free(package_name: &[u8], name: &Name) -> bool
-    ensures { Decides (IsFreeName package_name.now name.now) result }
+    ensures { Decides result (IsFreeName package_name.now name.now) }
 {
     if is_init(&name.text) {
         return false;
@@ -36,7 +36,7 @@ pub(crate) fn is_free(package_name: &[u8], name: &Name) -> bool
 
 /// The same of several names.
 pub(crate) fn are_free(package_name: &[u8], names: &[Name]) -> bool
-    ensures { Decides (Each (IsFreeName package_name.now) names.now) result }
+    ensures { Decides result (Each (IsFreeName package_name.now) names.now) }
 {
     for name in names {
         if !is_free(package_name, name) {
@@ -47,7 +47,7 @@ pub(crate) fn are_free(package_name: &[u8], names: &[Name]) -> bool
 }
 
 fn is_bare(signature: &Signature) -> bool
-    ensures { Decides (IsBare signature.now) result }
+    ensures { Decides result (IsBare signature.now) }
 {
     signature.parameters.items().is_empty() && signature.result.is_none()
 }
@@ -62,7 +62,7 @@ fn is_special(package_name: &[u8], name: &Text) -> bool
 /// Whether in a package of this name a function has neither parameters nor results, where it is called by
 /// itself.
 pub(crate) fn is_bare_where_special(package_name: &[u8], func: &Func) -> bool
-    ensures { Decides (IsBareWhereSpecial package_name.now func.now) result }
+    ensures { Decides result (IsBareWhereSpecial package_name.now func.now) }
 {
     if !is_special(package_name, &func.name.text) {
         return true;

@@ -27,7 +27,7 @@ fn are_usable(
     operands: &[Operand],
     term: &Term,
 ) -> Result<bool, NoMemory>
-    ensures { IfOk result (Decides (Each (λ o. UsableAs (env_in context.now) o term.now) operands.now)) }
+    ensures { IfOk result (λ answer. Decides answer (Each (λ o. UsableAs (env_in context.now) o term.now) operands.now)) }
 {
     for operand in operands {
         if !usable(context, alloc, operand, term)? {
@@ -53,7 +53,7 @@ fn type_and_values(
 }
 
 fn has_none(values: &[Expr]) -> bool
-    ensures { Decides (values.now ≡ []) result }
+    ensures { Decides result (values.now ≡ []) }
 {
     values.is_empty()
 }
@@ -66,7 +66,7 @@ fn are_usable_as(
     count: usize,
     values: &[Expr],
 ) -> Result<bool, NoMemory>
-    ensures { IfOk result (Decides (AreUsable (env_in context.now) form.now count values.now)) }
+    ensures { IfOk result (λ answer. Decides answer (AreUsable (env_in context.now) form.now count values.now)) }
 {
     if has_none(values) {
         return Ok(true);
@@ -89,7 +89,7 @@ pub(crate) fn values_fit(
     count: usize,
     values: &[Expr],
 ) -> Result<bool, NoMemory>
-    ensures { IfOk result (Decides (ValuesFit (env_in context.now) form.now count values.now)) }
+    ensures { IfOk result (λ answer. Decides answer (ValuesFit (env_in context.now) form.now count values.now)) }
 {
     match form {
         Some(form) => are_usable_as(context, alloc, form, count, values),

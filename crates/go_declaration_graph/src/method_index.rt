@@ -3,7 +3,6 @@ ghost use Rattle.std.specs.Prelude.{◌≡◌, ◌++◌, ◌∷◌, [], map, IfO
 ghost use Rattle.go_declarations.specs.Forms.{form_of};
 ghost use Rattle.go_declarations.specs.Listings.{declarations_of};
 ghost use Rattle.go_declared.specs.MethodTables.{method_name, name_by};
-ghost use Rattle.go_rules.specs.Expressions.{is_blank};
 ghost use Rattle.go_rules.specs.Names.{items_at, with_value};
 ghost use Rattle.go_declaration_graph.specs.inner.MethodNumbers.{numbers_at, table_by, tables_from, tables_of, with_number, with_methods};
 
@@ -15,6 +14,7 @@ use go_declarations::form::Form;
 use go_declarations::listing::Declaration;
 use go_declared::methods::{DeclaredMethods, MethodRow};
 use go_declared::names::DeclaredNames;
+use go_rules::blank::is_blank;
 use std::alloc::Global;
 use std::collections::BTreeMap;
 use std::marker::Model;
@@ -50,12 +50,6 @@ impl Drop for MethodIndex {
     fn drop(self) {
         let MethodIndex { tables: _ } = self;
     }
-}
-
-fn is_blank(name: &[u8]) -> bool
-    ensures { result ≡ is_blank name.now }
-{
-    name == b"_".as_slice()
 }
 
 fn name_of(form: Form<'_>) -> &[u8]

@@ -16,6 +16,7 @@ use go_base::memory::NoMemory;
 use go_base::text::Text;
 use go_declarations::form::Form;
 use go_declarations::listing::Declaration;
+use go_rules::blank::is_blank;
 use go_syntax::name::Name;
 use std::alloc::Global;
 use std::marker::Model;
@@ -66,7 +67,7 @@ impl Model for DeclaredNames {
 fn is_left_out(name: &[u8]) -> bool
     ensures { result ≡ (is_blank name.now || is_init name.now) }
 {
-    name == b"_".as_slice() || name == b"init".as_slice()
+    is_blank(name) || name == b"init".as_slice()
 }
 
 fn add(
@@ -196,7 +197,7 @@ fn listed(
 ) -> Result<List<ListedName<'_>>, NoMemory>
     ensures { IfOk result (λ names. entries_of names ≡ entries.now) }
 {
-    let mut names = List::from_vec(Vec::with_capacity(alloc, entries.len())?);
+    let mut names = List::with_room(alloc, entries.len())?;
     for entry in entries {
         names.push(ListedName {
             name: entry.0.text(),

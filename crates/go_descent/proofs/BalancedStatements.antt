@@ -21,7 +21,7 @@ use Rattle.go_syntax.specs.grammar.Declarations.{IsSpecs, specs_none, specs_more
 use Rattle.go_syntax.specs.declared.statement.LiteralBlock.{LiteralBlock}
 use Rattle.go_syntax.specs.grammar.ParsedBodies.{IsBody, body_of, LiteralBodies}
 use Rattle.go_syntax.specs.grammar.Statements.{step_operator, assign_operator}
-use Rattle.go_syntax.specs.grammar.Statements.{IsSimple, simple_expr, simple_send, simple_step, simple_assign, simple_operation, simple_define, IsClause, clause_none, clause_some, IsInit, init_none, init_empty, init_some, IsReceive, receive, IsCommunication, communication_send, communication_receive, communication_assign, communication_define, IsMoreTypes, types_none, types_more, IsLabel, label_none, label_some, IsBinding, binding_none, binding_some, IsBlock, block_of, IsStmts, stmts_none, stmts_more, stmts_last, IsStmt, stmt_at, IsStmtKind, stmt_empty, stmt_simple, stmt_const, stmt_var, stmt_labeled, stmt_go, stmt_defer, stmt_return_none, stmt_return, stmt_break, stmt_break_alone, stmt_continue, stmt_continue_alone, stmt_goto, stmt_fallthrough, stmt_block, stmt_if, stmt_switch, stmt_type_switch, stmt_select, stmt_while, stmt_for, stmt_range, stmt_range_assign, stmt_range_define, IsIf, if_alone, if_else_if, if_else, IsCases, cases_none, cases_values, cases_default, IsTypeCases, type_cases_none, type_cases_types, type_cases_default, IsSelectCases, select_cases_none, select_cases_communication, select_cases_default}
+use Rattle.go_syntax.specs.grammar.Statements.{IsSimple, simple_expr, simple_send, simple_step, simple_assign, simple_operation, simple_define, IsClause, clause_none, clause_some, IsInit, init_none, init_empty, init_some, IsReceive, receive, receive_paren, IsCommunication, communication_send, communication_receive, communication_assign, communication_define, IsMoreTypes, types_none, types_more, IsLabel, label_none, label_some, IsBinding, binding_none, binding_some, IsBlock, block_of, IsStmts, stmts_none, stmts_more, stmts_last, IsStmt, stmt_at, IsStmtKind, stmt_empty, stmt_simple, stmt_const, stmt_var, stmt_labeled, stmt_go, stmt_defer, stmt_return_none, stmt_return, stmt_break, stmt_break_alone, stmt_continue, stmt_continue_alone, stmt_goto, stmt_fallthrough, stmt_block, stmt_if, stmt_switch, stmt_type_switch, stmt_select, stmt_while, stmt_for, stmt_range, stmt_range_assign, stmt_range_define, IsIf, if_alone, if_else_if, if_else, IsCases, cases_none, cases_values, cases_default, IsTypeCases, type_cases_none, type_cases_types, type_cases_default, IsSelectCases, select_cases_none, select_cases_communication, select_cases_default}
 use Rattle.go_syntax.specs.grammar.Symbols.{Rule}
 use Rattle.go_syntax.specs.grammar.Terminals.{Terminal}
 use Rattle.go_descent.proofs.Balanced.{Balances, takes_run, takes_name_run, ends_run, nest_run, names_run, type_run, expr_run, exprs_run, optional_run, unary_run, primary_run}
@@ -92,6 +92,7 @@ module _ {Body : ℕ → Rule BodyRange} (balanced : Balances Body) where
 
   pub receive_run : {h : ℕ} {ts : List Terminal} {a : Expr} {rest : List Terminal} → IsReceive Body h ts a rest → IsRun ts rest
   receive_run (receive a b) = unary_run balanced b
+  receive_run (receive_paren a b c) = nest_run refl a (receive_run b) c
 
   pub communication_run : {h : ℕ} {ts : List Terminal} {a : StmtKind} {rest : List Terminal} → IsCommunication Body h ts a rest → IsRun ts rest
   communication_run (communication_send a b c) = run_and (expr_run balanced a) (run_and (takes_run refl b) (expr_run balanced c))

@@ -21,7 +21,7 @@ module _ (E : Env) where
   pub holds_interface : (t u : Term) → IsInterface u → MayHold E t u
   holds_interface t u i = inl i
 
-  pub holds_decides : (t u : Term) (b : Bool) → (IsInterface u → ⊥) → Decides (Implements E u t) b → Decides (MayHold E t u) b
+  pub holds_decides : (t u : Term) (b : Bool) → (IsInterface u → ⊥) → Decides b (Implements E u t) → Decides b (MayHold E t u)
   holds_decides t u true none d = inr d
   holds_decides t u false none d = λ x. elim x [ inl i ↦ none i | inr m ↦ d m ]
 
@@ -34,5 +34,5 @@ module _ (E : Env) where
   pub assert_no_interface : (o : Operand) (t u : Term) → IsTyped o t → (IsInterface t → ⊥) → (r : Operand) → Asserts E o u r → ⊥
   assert_no_interface o t u h none r x = none (subst IsInterface (one_type (asserted x).1 h) (asserted x).2)
 
-  pub assert_gives : (o : Operand) (t u : Term) (b : Bool) → IsTyped o t → IsInterface t → Decides (MayHold E t u) b → Gives (Asserts E o u) (if b then Some (plain u) else None)
+  pub assert_gives : (o : Operand) (t u : Term) (b : Bool) → IsTyped o t → IsInterface t → Decides b (MayHold E t u) → Gives (Asserts E o u) (if b then Some (plain u) else None)
   assert_gives o t u b h i d = given (Asserts E o u) (MayHold E t u) b (plain u) d (λ m. asserts h i.1 m) (λ r x. subst (λ (y : Term). MayHold E y u) (one_type (asserted x).1 h) (asserted x).3)

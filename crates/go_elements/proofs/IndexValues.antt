@@ -68,8 +68,8 @@ module _ (E : Env) where
   constant_index_gives c v (Some n) i g = of_int c v n i g
   constant_index_gives c v None i g = λ m x. g m (to_int x)
 
-  pub kind_decides : (c : ConstTerm) (t : Term) (b : Bool) → c ≡ constant.OfTerm t → Decides (IsIntegerType E t) b → Decides (IsIntegerKind E c) b
-  kind_decides c t b e d = subst (λ (x : ConstTerm). Decides (IsIntegerKind E x) b) (sym e) d
+  pub kind_decides : (c : ConstTerm) (t : Term) (b : Bool) → c ≡ constant.OfTerm t → Decides b (IsIntegerType E t) → Decides b (IsIntegerKind E c)
+  kind_decides c t b e d = subst (λ (x : ConstTerm). Decides b (IsIntegerKind E x)) (sym e) d
 
   pub kind_untyped : (c : ConstTerm) (k : Untyped) → c ≡ constant.OfKind k → IsIntegerKind E c
   kind_untyped c k e = subst (IsIntegerKind E) (sym e) tt
@@ -105,7 +105,7 @@ module _ (E : Env) where
   is_below_one : {i : Operand} {c limit : Option ℕ} → IsIndex E i c → IsIndexBelow E i limit → Below c limit
   is_below_one {limit = limit} x (index_below y b) = subst (λ (n : Option ℕ). Below n limit) (one_index y x) b
 
-  pub below_decides : (i : Operand) (c limit : Option ℕ) (b : Bool) → IsIndex E i c → Decides (Below c limit) b → Decides (IsIndexBelow E i limit) b
+  pub below_decides : (i : Operand) (c limit : Option ℕ) (b : Bool) → IsIndex E i c → Decides b (Below c limit) → Decides b (IsIndexBelow E i limit)
   below_decides i c limit true x d = index_below x d
   below_decides i c limit false x d = λ y. d (is_below_one x y)
 

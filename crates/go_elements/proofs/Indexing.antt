@@ -20,11 +20,11 @@ use Rattle.go_elements.specs.Indexes.{Indexes, indexes_array, indexes_array_poin
 use Rattle.go_elements.specs.inner.Elements.{IsIndexBelow, index_below, ElementOfBase, ElementAt, ByteAt}
 
 -- what stands where a fact holds, and then alone
-where_holds : (Q : Type 0) (b : Bool) (x : Operand) → Decides Q b → Gives (λ r. Q × (r ≡ x)) (if b then Some x else None)
+where_holds : (Q : Type 0) (b : Bool) (x : Operand) → Decides b Q → Gives (λ r. Q × (r ≡ x)) (if b then Some x else None)
 where_holds Q true x d = (d, refl)
 where_holds Q false x d = λ r p. d p.0
 
-pub answered_where : (Q : Type 0) (b : Bool) (x : Operand) (a : Option Operand) → a ≡ (if b then Some x else None) → Decides Q b → Gives (λ r. Q × (r ≡ x)) a
+pub answered_where : (Q : Type 0) (b : Bool) (x : Operand) (a : Option Operand) → a ≡ (if b then Some x else None) → Decides b Q → Gives (λ r. Q × (r ≡ x)) a
 answered_where Q b x a e d = subst (Gives (λ r. Q × (r ≡ x))) (sym e) (where_holds Q b x d)
 
 -- a value by its mode, which is another one

@@ -6,10 +6,10 @@ use Rattle.go_model.specs.declared.constants.value.Value.TheVariants as value
 use Rattle.go_model.specs.declared.types.package.ConstTerm.{ConstTerm}
 use Rattle.go_model.specs.declared.types.package.ConstTerm.TheVariants as constant
 use Rattle.go_model.specs.declared.types.term.Term.{Term, Term-F}
-use Rattle.go_model.specs.types.Terms.{Layer}
+use Rattle.go_model.specs.types.Terms.{Layer, slice_of}
 use Rattle.go_model.specs.types.Underlying.{under}
 use Rattle.go_rules.specs.Environments.{Env}
-use Rattle.go_rules.specs.Expressions.{Slices, slices_string, slices_untyped, slices_array, slices_array_pointer, slices_slice, slice_of}
+use Rattle.go_rules.specs.Expressions.{Slices, slices_string, slices_untyped, slices_array, slices_array_pointer, slices_slice}
 use Rattle.go_rules.specs.Operands.{IsTyped, typed_value, untyped_constant, basic_term, constant_of, plain, variable}
 use Rattle.go_rules.specs.declared.operand.Operand.{Operand}
 use Rattle.go_rules.proofs.OneKind.{one_type, typed_or_untyped}

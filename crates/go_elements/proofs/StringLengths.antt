@@ -33,8 +33,8 @@ module _ (E : Env) where
   pub constant_length_text : (c : ConstTerm) (v : Value) (s b : List ℕ) → IsStringKind E c → v ≡ value.Str s → b ≡ s → IsString E (constant_of c v) (Some (length b))
   constant_length_text c v s b i e f = subst (λ (x : List ℕ). IsString E (constant_of c v) (Some (length x))) (sym f) (subst (λ (x : Value). IsString E (constant_of c x) (Some (length s))) (sym e) (at_text c s i))
 
-  pub string_decides : (c : ConstTerm) (t : Term) (b : Bool) → c ≡ constant.OfTerm t → Decides (under E.table t ≡ Term-F.Plain basic.Str) b → Decides (IsStringKind E c) b
-  string_decides c t b e d = subst (λ (x : ConstTerm). Decides (IsStringKind E x) b) (sym e) d
+  pub string_decides : (c : ConstTerm) (t : Term) (b : Bool) → c ≡ constant.OfTerm t → Decides b (under E.table t ≡ Term-F.Plain basic.Str) → Decides b (IsStringKind E c)
+  string_decides c t b e d = subst (λ (x : ConstTerm). Decides b (IsStringKind E x)) (sym e) d
 
   pub string_of_kind : (c : ConstTerm) (k : Untyped) → c ≡ constant.OfKind k → IsStringKind E c
   string_of_kind c k e = subst (IsStringKind E) (sym e) tt

@@ -23,7 +23,7 @@ fn may_hold(
     interface: &Term,
     term: &Term,
 ) -> Result<bool, NoMemory>
-    ensures { IfOk result (Decides (MayHold (env_of context.now.env.now) interface.now term.now)) }
+    ensures { IfOk result (λ answer. Decides answer (MayHold (env_of context.now.env.now) interface.now term.now)) }
 {
     if is_interface(context, term) {
         return Ok(true);

@@ -25,7 +25,7 @@ use std::alloc::Global;
 
 // Whether an operand is an index below the length, where there is one.
 fn is_index_below(context: &Context<'_>, index: &Operand, length: Option<u64>) -> bool
-    ensures { Decides (IsIndexBelow (env_of context.now.env.now) index.now length) result }
+    ensures { Decides result (IsIndexBelow (env_of context.now.env.now) index.now length) }
 {
     match index_of(context, index) {
         Some(number) => is_below(number, length),

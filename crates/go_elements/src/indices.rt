@@ -46,7 +46,7 @@ fn int_value(context: &Context<'_>, value: &Value) -> Option<u64>
 
 // Whether it is an integer type, or an untyped kind.
 fn is_integer_kind(context: &Context<'_>, term: &ConstTerm) -> bool
-    ensures { Decides (IsIntegerKind (env_of context.now.env.now) term.now) result }
+    ensures { Decides result (IsIntegerKind (env_of context.now.env.now) term.now) }
 {
     match term {
         ConstTerm::OfTerm(term) => is_integer(context, term),
@@ -84,7 +84,7 @@ pub fn index_of(context: &Context<'_>, operand: &Operand) -> Option<Option<u64>>
 
 /// Whether a constant index is below a constant length.
 pub fn is_below(index: Option<u64>, length: Option<u64>) -> bool
-    ensures { Decides (Below index length) result }
+    ensures { Decides result (Below index length) }
 {
     match (index, length) {
         (Some(index), Some(length)) => index < length,

@@ -2,7 +2,7 @@
 ghost use Rattle.std.specs.Prelude.{◌≡◌, ◌∷◌, IfOk, Some, true, if◌then◌else◌};
 ghost use Rattle.go_base.specs.Keys.{item_of};
 ghost use Rattle.go_model.specs.declared.types.found.Found.TheVariants as find;
-ghost use Rattle.go_rules.specs.Expressions.{is_blank, reached, with_receiver};
+ghost use Rattle.go_rules.specs.Expressions.{reached, with_receiver};
 ghost use Rattle.go_rules.specs.Operands.{function_of, plain, value_of};
 ghost use Rattle.go_rules.specs.Scopes.{env_of};
 ghost use Rattle.go_usability.specs.Answers.{Gives};
@@ -18,16 +18,11 @@ use go_model::types::names::Sel;
 use go_model::types::term::{Signature, Term};
 use go_operators::operands::{plain, value_of};
 use go_operators::values::{is_variable, type_in, type_of};
+use go_rules::blank::is_blank;
 use go_rules::operand::Operand;
 use go_usability::context::Context;
 use go_usability::finding::{found, has_method};
 use std::alloc::Global;
-
-fn is_blank(name: &[u8]) -> bool
-    ensures { result ≡ is_blank name.now }
-{
-    name == b"_".as_slice()
-}
 
 // A type, and others after it.
 fn before(alloc: Global, term: &Term, terms: &[Term]) -> Result<List<Term>, NoMemory>

@@ -2,7 +2,8 @@
 ghost use Rattle.std.specs.Prelude.{◌≡◌, ◌∷◌, [], IfOk, true};
 ghost use Rattle.go_base.specs.Keys.{item_of};
 ghost use Rattle.go_model.specs.declared.types.term.Term.{out-Term};
-ghost use Rattle.go_rules.specs.Expressions.{Ascend, IsString, Slices, UpTo, slice_of};
+ghost use Rattle.go_model.specs.types.Terms.{slice_of};
+ghost use Rattle.go_rules.specs.Expressions.{Ascend, IsString, Slices, UpTo};
 ghost use Rattle.go_rules.specs.Operands.{plain};
 ghost use Rattle.go_rules.specs.Scopes.{env_of};
 ghost use Rattle.go_selectors.specs.Answers.{Decides};
@@ -13,22 +14,14 @@ ghost use Rattle.go_elements.specs.inner.Sliced.{IsUntypedText, SlicesAt, Slices
 use crate::indices::{index_of, optional_index};
 use crate::strings::string_length;
 use go_base::memory::NoMemory;
-use go_base::shared::Shared;
 use go_model::constants::value::{Basic, Value};
 use go_model::types::package::ConstTerm;
-use go_model::types::term::Term;
+use go_model::types::term::{Term, slice_of};
 use go_operators::operands::{plain, plain_like};
 use go_operators::values::{constant_of, is_variable, type_of};
 use go_rules::operand::Operand;
 use go_usability::context::Context;
 use std::alloc::Global;
-
-// The slice type of an equal element.
-fn slice_of(alloc: Global, element: &Term) -> Result<Term, NoMemory>
-    ensures { IfOk result (λ slice. slice ≡ slice_of element.now) }
-{
-    Ok(Term::Slice(Shared::new(alloc, element.copy(alloc)?)?))
-}
 
 // The length of a constant's text, where it has no type.
 fn untyped_length(of: &ConstTerm, value: &Value) -> Option<u64>
@@ -159,7 +152,7 @@ fn sliced(
 
 // Whether a constant index is no greater than a constant length or a later index.
 fn is_up_to(index: Option<u64>, limit: Option<u64>) -> bool
-    ensures { Decides (UpTo index limit) result }
+    ensures { Decides result (UpTo index limit) }
 {
     match (index, limit) {
         (Some(index), Some(limit)) => index <= limit,
@@ -168,7 +161,7 @@ fn is_up_to(index: Option<u64>, limit: Option<u64>) -> bool
 }
 
 fn two_ascend(low: Option<u64>, high: Option<u64>, length: Option<u64>) -> bool
-    ensures { Decides (Ascend (low ∷ high ∷ []) length) result }
+    ensures { Decides result (Ascend (low ∷ high ∷ []) length) }
 {
     is_up_to(low, length) && is_up_to(low, high) && is_up_to(high, length)
 }
@@ -179,7 +172,7 @@ fn three_ascend(
     bound: Option<u64>,
     length: Option<u64>,
 ) -> bool
-    ensures { Decides (Ascend (low ∷ high ∷ bound ∷ []) length) result }
+    ensures { Decides result (Ascend (low ∷ high ∷ bound ∷ []) length) }
 {
     is_up_to(low, length)
         && is_up_to(low, high)

@@ -16,7 +16,7 @@ use go_usability::context::Context;
 
 // Whether it is a string type, or an untyped kind.
 fn is_string_kind(context: &Context<'_>, term: &ConstTerm) -> bool
-    ensures { Decides (IsStringKind (env_of context.now.env.now) term.now) result }
+    ensures { Decides result (IsStringKind (env_of context.now.env.now) term.now) }
 {
     match term {
         ConstTerm::OfTerm(term) => is_string(context, term),

@@ -65,15 +65,15 @@ module _ (n : ℕ) (told : Bool) (o : Operand) (r : Result (List Operand) ExprEr
   pub told_truth : ((ts : List Term) → IsTuple o ts → ⊥) → Tells {A = List Operand} (AreTwo n told o) r → Tells {A = List Operand} (AreValuesOf n told o) r
   told_truth none t = same_tells (AreTwo n told o) (AreValuesOf n told o) r (λ os h. values_with_truth h) (truth_alone n told o none) t
 
-told_so : (e : Expr) (b : Bool) → Decides (IsAssertionOrReceive e) b → IsAssertionOrReceive e → b ≡ true
+told_so : (e : Expr) (b : Bool) → Decides b (IsAssertionOrReceive e) → IsAssertionOrReceive e → b ≡ true
 told_so e true d h = refl
 told_so e false d h = absurd (d h)
 
-so_told : (e : Expr) (b : Bool) → Decides (IsAssertionOrReceive e) b → b ≡ true → IsAssertionOrReceive e
+so_told : (e : Expr) (b : Bool) → Decides b (IsAssertionOrReceive e) → b ≡ true → IsAssertionOrReceive e
 so_told e true d i = d
 so_told e false d i = absurd (cc)
 
-module _ (E : Env) (e : Expr) (told : Bool) (d : Decides (IsAssertionOrReceive e) told) where
+module _ (E : Env) (e : Expr) (told : Bool) (d : Decides told (IsAssertionOrReceive e)) where
   with_truth : {o : Operand} {t : Term} → Has E e o → IsWithTruth told o t → GivesValueAndTruth E e t
   with_truth h truth_of_map = two_of_map h
   with_truth h (truth_of_value i) = two_of_value (so_told e told d i) h

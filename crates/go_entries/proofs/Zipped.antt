@@ -1,8 +1,8 @@
 -- Lists whose items are made one by one from those of another.
-use Rattle.std.proofs.Common.{◌≡◌, ◌<◌, ◌≤◌, ◌+◌, ℕ, length, get_or, drop, List, [], ◌∷◌, ◌++◌, append_assoc, sym, subst}
+use Rattle.std.proofs.Common.{◌≡◌, ◌<◌, ◌≤◌, ◌+◌, ℕ, length, get_or, drop, List, [], ◌∷◌, ◌++◌, append_assoc, sym, subst, append-nil}
 use Rattle.std.proofs.lemmas.List.{drop_all}
 use Rattle.std.specs.List.{AllZip}
-use Rattle.go_type_terms.proofs.Gone.{append_none, next_of}
+use Rattle.go_type_terms.proofs.Gone.{next_of}
 
 module _ {A B : Type 0} (P : A → B → Type 0) where
   head_of : (x : A) (xs : List A) (ys : List B) → AllZip P (x ∷ xs) ys → (y : B) × (zs : List B) × P x y × AllZip P xs zs
@@ -36,4 +36,4 @@ module _ {A B : Type 0} (P : A → B → Type 0) where
   pub zipped_whole : (whole : List A) (at : ℕ) (items : List B) → length whole ≤ at → Zipped whole (drop at whole) items → AllZip P whole items
   zipped_whole whole at items h z =
       let ended = subst (λ (r : List A). Zipped whole r items) (drop_all at whole h) z in
-      subst (λ (ys : List B). AllZip P whole ys) (append_none items) (ended.to [] tt)
+      subst (λ (ys : List B). AllZip P whole ys) (append-nil items) (ended.to [] tt)

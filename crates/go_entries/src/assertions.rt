@@ -9,7 +9,7 @@ use go_syntax::expression::{Expr, Post};
 
 // Whether a type assertion is the last of what follows an operand.
 fn ends_in_assertion(posts: &[Post]) -> bool
-    ensures { Decides (EndsInAssertion posts.now) result }
+    ensures { Decides result (EndsInAssertion posts.now) }
 {
     match posts.last() {
         Some(Post::TypeAssertion(_)) => true,
@@ -19,7 +19,7 @@ fn ends_in_assertion(posts: &[Post]) -> bool
 
 // Whether an operator is `<-`.
 fn is_receive(operator: PrefixOperator) -> bool
-    ensures { Decides (operator ≡ PrefixOperator.Receive) result }
+    ensures { Decides result (operator ≡ PrefixOperator.Receive) }
 {
     matches!(operator, PrefixOperator::Receive)
 }
@@ -27,7 +27,7 @@ fn is_receive(operator: PrefixOperator) -> bool
 /// Whether an expression is a type assertion or a receive, parentheses aside.
 #[cycle(is_assertion_or_receive)]
 pub(crate) fn is_assertion_or_receive(expr: &Expr) -> bool
-    ensures { Decides (IsAssertionOrReceive expr.now) result }
+    ensures { Decides result (IsAssertionOrReceive expr.now) }
 {
     match expr {
         Expr::Prefix(operator, _) => is_receive(*operator),

@@ -95,7 +95,7 @@ fn each_constant(
 
 // Whether constants can be of a type.
 fn holds_constants(context: &Context<'_>, term: &Term) -> bool
-    ensures { Decides (HoldsConstants (env_in context.now) term.now) result }
+    ensures { Decides result (HoldsConstants (env_in context.now) term.now) }
 {
     match context.under(term) {
         Term::Plain(basic) => !basic.class().is_inexact(),

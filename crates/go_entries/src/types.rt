@@ -31,7 +31,7 @@ fn is_struct_or_interface(term: &Term) -> bool
 
 // Whether a type may be that underneath a defined type, where structs and interfaces may be barred.
 fn may_be_underneath(barred: bool, term: &Term) -> bool
-    ensures { Decides (MayBeUnderneath barred (out-Term term.now)) result }
+    ensures { Decides result (MayBeUnderneath barred (out-Term term.now)) }
 {
     if is_name(term) {
         return false;

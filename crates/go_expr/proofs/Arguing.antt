@@ -1,5 +1,5 @@
 -- Arguments of calls, one after another.
-use Rattle.std.proofs.Common.{◌≡◌, ◌<◌, ◌≤◌, ◌+◌, ℕ, length, get_or, drop, List, [], ◌∷◌, ◌++◌, map, append_assoc, refl, sym, ap, ◌∙◌, subst, Bool, true, false, ◌||◌}
+use Rattle.std.proofs.Common.{◌≡◌, ◌<◌, ◌≤◌, ◌+◌, ℕ, length, get_or, drop, List, [], ◌∷◌, ◌++◌, map, append_assoc, refl, sym, ap, ◌∙◌, subst, Bool, true, false, ◌||◌, append-nil}
 use Rattle.go_model.specs.declared.types.term.Direction.TheVariants as direction
 use Rattle.go_model.specs.declared.types.term.Term.{Term}
 use Rattle.go_model.specs.types.Bounds.{IsWithinBounds}
@@ -20,10 +20,6 @@ use Rattle.go_type_terms.specs.Results.{IsChannelOf}
 use Rattle.go_type_terms.proofs.LoudTrees.{none_loud}
 use Rattle.go_operations.proofs.Walks.{Walk, set_out, walk_on, arrived}
 use Rattle.go_expr.specs.Arguments.{HasEachAfter, receive_type}
-
-append_none : {A : Type 0} (xs : List A) → xs ++ [] ≡ xs
-append_none [] = refl
-append_none (x ∷ xs) = ap (λ ys. x ∷ ys) (append_none xs)
 
 module _ (E : Env) where
   first_each : {e : Expr} {es : List Expr} {os : List Operand} → HasEach E (e ∷ es) os → (o : Operand) × (qs : List Operand) × Has E e o × HasEach E es qs × (os ≡ o ∷ qs)
@@ -58,7 +54,7 @@ module _ (E : Env) where
   arguing_stops before whole now e rest loud w all h = let f = first_each (w.from all h).1 in (f.0, f.2)
 
   arguing_ends : (before : List Operand) (whole : List Expr) (now : List Operand) (loud : Bool) → Arguing before whole now [] loud → HasEachAfter E before whole now × AreLoud E (map expression whole) loud
-  arguing_ends before whole now loud w = arrived E (map expression) Onward before whole now loud now ([], each_none, sym (append_none now)) (none_loud E) w
+  arguing_ends before whole now loud w = arrived E (map expression) Onward before whole now loud now ([], each_none, sym (append-nil now)) (none_loud E) w
 
   arguing_all : (before : List Operand) (whole : List Expr) (now : List Operand) (i : ℕ) (e : Expr) (loud : Bool) → i < length whole → e ≡ get_or whole i e → Arguing before whole now (drop i whole) loud → Arguing before whole now (e ∷ drop (i + 1) whole) loud
   arguing_all before whole now i e loud h k w = subst (λ (xs : List Expr). Arguing before whole now xs loud) (drop_next i whole e h k) w

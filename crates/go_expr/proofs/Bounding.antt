@@ -11,18 +11,18 @@ use Rattle.go_rules.specs.declared.operand.Shape.TheVariants as shape
 use Rattle.go_selectors.specs.Answers.{Decides}
 use Rattle.go_selectors.proofs.Lists.{drop_all, drop_next}
 
-pub decides : (P : Type 0) (b : Bool) → (IsTrue b ↔ P) → Decides P b
+pub decides : (P : Type 0) (b : Bool) → (IsTrue b ↔ P) → Decides b P
 decides P true d = d.0 refl
 decides P false d = λ p. not_true (d.1 p)
   where
     not_true : IsTrue false → ⊥
     not_true h = absurd (cc)
 
-pub const_of_term : (c : ConstTerm) (t : Term) (b : Bool) → c ≡ constant.OfTerm t → (IsTrue b ↔ IsWithinBounds t) → Decides (ConstWithin c) b
-const_of_term c t b e d = subst (λ (x : ConstTerm). Decides (ConstWithin x) b) (sym e) (decides (IsWithinBounds t) b d)
+pub const_of_term : (c : ConstTerm) (t : Term) (b : Bool) → c ≡ constant.OfTerm t → (IsTrue b ↔ IsWithinBounds t) → Decides b (ConstWithin c)
+const_of_term c t b e d = subst (λ (x : ConstTerm). Decides b (ConstWithin x)) (sym e) (decides (IsWithinBounds t) b d)
 
-pub shape_of : (s k : Shape) (b : Bool) → s ≡ k → Decides (ShapeWithin k) b → Decides (ShapeWithin s) b
-shape_of s k b e d = subst (λ (x : Shape). Decides (ShapeWithin x) b) (sym e) d
+pub shape_of : (s k : Shape) (b : Bool) → s ≡ k → Decides b (ShapeWithin k) → Decides b (ShapeWithin s)
+shape_of s k b e d = subst (λ (x : Shape). Decides b (ShapeWithin x)) (sym e) d
 
 -- how far types were seen to be within bounds
 abbrev pub WithinFrom : List Term → List Term → Type 0

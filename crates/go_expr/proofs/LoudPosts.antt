@@ -1,5 +1,5 @@
 -- Whether an operand with what follows it is loud.
-use Rattle.std.proofs.Common.{◌≡◌, List, [], ◌∷◌, ◌++◌, map, append_assoc, refl, sym, ap, ◌∙◌, subst, ◌⊎◌, inl, inr, Bool, true, false, ◌||◌}
+use Rattle.std.proofs.Common.{◌≡◌, List, [], ◌∷◌, ◌++◌, map, append_assoc, refl, sym, ap, ◌∙◌, subst, ◌⊎◌, inl, inr, Bool, true, false, ◌||◌, append-nil}
 use Rattle.go_base.specs.Lists.{Has as In}
 use Rattle.go_rules.specs.Environments.{Env}
 use Rattle.go_rules.specs.Expressions.{CallsAt, calls_at, Has, has_operand, HasForm, has_imported, has_primary, HasPost, HasPosts, posts_none, posts_more, IsCall, IsQuietCall, quiet_conversion, quiet_constant, DenotesImported, chain, is_receive}
@@ -18,10 +18,6 @@ use Rattle.go_expr.proofs.CallKinds.{call_is, call_of, constant_called, loud_par
 
 no_truth : false ≡ true → ⊥
 no_truth e = absurd (cc)
-
-append_none : {A : Type 0} (xs : List A) → xs ++ [] ≡ xs
-append_none [] = refl
-append_none (x ∷ xs) = ap (λ ys. x ∷ ys) (append_none xs)
 
 -- a post in the middle of some
 mid_part : (before after : List Post) (c : Post) → In (map post (before ++ c ∷ after)) (post c)
@@ -45,7 +41,7 @@ module _ (E : Env) (x : Expr) where
   front_next before o q c f h w ps r t = subst (λ (b : List Post). HasForm E (chain x b) r) (sym (append_assoc before (c ∷ []) ps)) (f (c ∷ ps) r (posts_more h w t))
 
   front_now : (before : List Post) (o : Operand) → Fronts before o → HasForm E (chain x before) o
-  front_now before o f = subst (λ (b : List Post). HasForm E (chain x b) o) (append_none before) (f [] o posts_none)
+  front_now before o f = subst (λ (b : List Post). HasForm E (chain x b) o) (append-nil before) (f [] o posts_none)
 
   front_then : (before : List Post) (o q : Operand) (c : Post) → Fronts before o → HasPost E o (out-Post c) q → ShapeWithin q.shape → HasForm E (chain x (before ++ c ∷ [])) q
   front_then before o q c f h w = f (c ∷ []) q (posts_more h w posts_none)
@@ -117,7 +113,7 @@ module _ (E : Env) (x : Expr) where
   calls_quiet before f (ran_more {o = o} {q = q} {x = p} {a = h} {b = b} s t) e [] c after {es = es} {dots = dots} i a =
       let y = ap (λ ps. first_in ps p) i in
       subst (λ (z : Post). IsQuietCall E x (before ++ []) z) y
-      (subst (λ (z : List Post). IsQuietCall E x z p) (sym (append_none before))
+      (subst (λ (z : List Post). IsQuietCall E x z p) (sym (append-nil before))
       (quiet_kind before o q p (subst (λ (z : Post). IsCall (out-Post z) es dots) (sym y) a) f s.0 s.1 (call_false s.2 (is_loud_call o (out-Post p) q) (sym s.4 ∙ left_false h b e))))
   calls_quiet before f (ran_more {o = o} {q = q} {x = p} {a = h} {b = b} s t) e (y ∷ front) c after i a =
       let k = ap (λ ps. first_in ps p) i in

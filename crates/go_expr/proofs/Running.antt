@@ -8,17 +8,10 @@ use Rattle.go_rules.proofs.OneOperand.{post_once}
 use Rattle.go_syntax.specs.declared.expression.Post.{Post, out-Post}
 use Rattle.std.specs.Result.{IsErrAnd}
 use Rattle.go_selectors.proofs.Lists.{drop_all, drop_next}
+use Rattle.go_type_terms.proofs.Gone.{or_false, or_or}
 use Rattle.go_type_terms.specs.declared.error.ExprError.{ExprError}
 use Rattle.go_type_terms.specs.declared.error.ExprError.TheVariants.{NoMemory, Untyped}
 use Rattle.go_expr.specs.Posts.{IsStep, PostsTyped, Ran, ran_none, ran_more, StepTyped}
-
-or_or : (a b c : Bool) → (a || (b || c)) ≡ ((a || b) || c)
-or_or true b c = refl
-or_or false b c = refl
-
-or_false : (a : Bool) → (a || false) ≡ a
-or_false true = refl
-or_false false = refl
 
 module _ (E : Env) where
   first_post : {o r : Operand} {x : Post} {xs : List Post} → HasPosts E o (x ∷ xs) r → (q : Operand) × HasPost E o (out-Post x) q × ShapeWithin q.shape × HasPosts E q xs r

@@ -11,7 +11,7 @@ use go_model::types::term::Term;
 use go_rules::operand::{Operand, Shape};
 
 fn is_const_within(of: &ConstTerm) -> bool
-    ensures { Decides (ConstWithin of.now) result }
+    ensures { Decides result (ConstWithin of.now) }
 {
     match of {
         ConstTerm::OfTerm(term) => is_within_bounds(term),
@@ -20,7 +20,7 @@ fn is_const_within(of: &ConstTerm) -> bool
 }
 
 fn are_within(terms: &[Term]) -> bool
-    ensures { Decides (Each IsWithinBounds terms.now) result }
+    ensures { Decides result (Each IsWithinBounds terms.now) }
 {
     for term in terms {
         if !is_within_bounds(term) {
@@ -31,7 +31,7 @@ fn are_within(terms: &[Term]) -> bool
 }
 
 fn is_shape_within(shape: &Shape) -> bool
-    ensures { Decides (ShapeWithin shape.now) result }
+    ensures { Decides result (ShapeWithin shape.now) }
 {
     match shape {
         Shape::Of(term) => is_within_bounds(term),
@@ -45,7 +45,7 @@ fn is_shape_within(shape: &Shape) -> bool
 
 /// Whether each type in an operand is within bounds.
 pub(crate) fn is_within(operand: &Operand) -> bool
-    ensures { Decides (ShapeWithin operand.now.shape) result }
+    ensures { Decides result (ShapeWithin operand.now.shape) }
 {
     is_shape_within(&operand.shape)
 }

@@ -1,6 +1,6 @@
 -- Files of a package and used imports, one after another.
 use Rattle.std.proofs.Common.{◌≡◌, ℕ, zero, suc, ◌+◌, ◌<◌, ◌≤◌, Bool, Option, Some, None, List, [], ◌∷◌, ◌++◌, length, take, drop, get_or, refl, sym, ap, ◌∙◌, subst, inl, inr, arith}
-use Rattle.std.proofs.lemmas.List.{take_more}
+use Rattle.std.proofs.lemmas.List.{drop_more, take_more}
 use Rattle.go_base.specs.Lists.{Has}
 use Rattle.go_base.proofs.Lists.{take_past}
 use Rattle.go_imports.specs.InternalUses.{IsInternalImport, IsFirstInternalImport}
@@ -28,13 +28,6 @@ one_package files name all s t a b = all s a ∙ sym (all t b)
 pub not_one : (files : List SourceFile) (first : SourceFile) (name : List ℕ) → Has files first → IsNamedAs name first → ((s : SourceFile) × Has files s × (IsNamedAs name s → ⊥)) → AreOfOnePackage files → ⊥
 not_one files first name there is p one = p.2 (one p.0 first p.1 there ∙ is)
 
-next_drop : (xs : List NamedImport) (i : ℕ) (x : NamedImport) → i < length xs → x ≡ get_or xs i x → drop i xs ≡ x ∷ drop (i + 1) xs
-next_drop [] i x h e = absurd (omega arith)
-next_drop (y ∷ xs) zero x h e = rw e refl
-next_drop (y ∷ xs) (suc i) x h e =
-    let one : suc (i + 1) ≡ suc i + 1 = omega arith in
-    subst (λ (n : ℕ). drop i xs ≡ x ∷ drop n (y ∷ xs)) one (next_drop xs i x (omega arith) e)
-
 module _ (importer : List ℕ) (from_std : Bool) where
   skip : (u : NamedImport) (us : List NamedImport) (r : Option ℕ) → (IsInternalImport importer from_std u → ⊥) → IsFirstInternalImport importer from_std us r → IsFirstInternalImport importer from_std (u ∷ us) r
   skip u us None n k = (n, k)
@@ -42,7 +35,7 @@ module _ (importer : List ℕ) (from_std : Bool) where
 
   -- the first barred import behind one that isn't is the first from there on
   pub first_on : (us : List NamedImport) (i : ℕ) (u : NamedImport) (r : Option ℕ) → i < length us → u ≡ get_or us i u → (IsInternalImport importer from_std u → ⊥) → IsFirstInternalImport importer from_std (drop (i + 1) us) r → IsFirstInternalImport importer from_std (drop i us) r
-  first_on us i u r h e free k = subst (λ (xs : List NamedImport). IsFirstInternalImport importer from_std xs r) (sym (next_drop us i u h e)) (skip u (drop (i + 1) us) r free k)
+  first_on us i u r h e free k = subst (λ (xs : List NamedImport). IsFirstInternalImport importer from_std xs r) (sym (drop_more us i u h ∙ ap (λ (v : NamedImport). v ∷ drop (i + 1) us) (sym e))) (skip u (drop (i + 1) us) r free k)
 
   pub first_here : (us : List NamedImport) (i : ℕ) (u : NamedImport) → i < length us → u ≡ get_or us i u → IsInternalImport importer from_std u → IsFirstInternalImport importer from_std (drop i us) (Some u.place)
-  first_here us i u h e barred = subst (λ (xs : List NamedImport). IsFirstInternalImport importer from_std xs (Some u.place)) (sym (next_drop us i u h e)) (inl (barred, refl))
+  first_here us i u h e barred = subst (λ (xs : List NamedImport). IsFirstInternalImport importer from_std xs (Some u.place)) (sym (drop_more us i u h ∙ ap (λ (v : NamedImport). v ∷ drop (i + 1) us) (sym e))) (inl (barred, refl))

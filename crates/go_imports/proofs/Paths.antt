@@ -1,5 +1,5 @@
 -- Elements of paths, and fronts of paths.
-use Rattle.std.proofs.Common.{◌≡◌, ℕ, zero, suc, ◌+◌, ◌<◌, ◌≤◌, Bool, true, false, not, cond, nat_eq, List, [], ◌∷◌, ◌++◌, length, take, drop, drop-cons, get_or, refl, sym, ap, ◌∙◌, inl, inr, arith, Option, Some, length-append}
+use Rattle.std.proofs.Common.{◌≡◌, ℕ, zero, suc, ◌+◌, ◌<◌, ◌≤◌, Bool, true, false, not, cond, nat_eq, List, [], ◌∷◌, ◌++◌, length, take, drop, drop-cons, get_or, refl, sym, ap, ◌∙◌, inl, inr, arith, Option, Some, length-append, append-nil}
 use mathlib.Core.Bool.{true≢false}
 use Rattle.std.specs.List.{slice_split, onto_first, prefix_len, starts_with}
 use Rattle.std.proofs.Math.Seq.{take-append_seam}
@@ -71,12 +71,8 @@ last_on before x (y ∷ ys) some = refl
 pub last_behind : (before : Option (List ℕ)) (path x rest : List ℕ) → parts 47 path ≡ x ∷ parts 47 rest → last_of before (parts 47 path) ≡ last_of (Some x) (parts 47 rest)
 last_behind before path x rest e = ap (last_of before) e ∙ last_on before x (parts 47 rest) (some_part rest)
 
-append_none : (xs : List ℕ) → xs ++ [] ≡ xs
-append_none [] = refl
-append_none (x ∷ xs) = ap (λ ys. x ∷ ys) (append_none xs)
-
 pub not_under : (path root : List ℕ) → starts_with nat_eq path root ≡ false → IsUnder path root → ⊥
-not_under path root f (inl e) = not_fronted path root [] f (e ∙ sym (append_none root))
+not_under path root f (inl e) = not_fronted path root [] f (e ∙ sym (append-nil root))
 not_under path root f (inr p) = not_fronted path root (47 ∷ p.0) f p.1
 
 drop_all : (n : ℕ) (xs : List ℕ) → length xs ≤ n → drop n xs ≡ []
@@ -86,7 +82,7 @@ drop_all (suc n) [] h = refl
 drop_all (suc n) (x ∷ xs) h = drop_all n xs (omega arith)
 
 pub under_same : (path root : List ℕ) → starts_with nat_eq path root ≡ true → length path ≡ length root → IsUnder path root
-under_same path root t e = inl (fronted path root t ∙ ap (λ (w : List ℕ). root ++ w) (drop_all (length root) path (omega (arith, e))) ∙ append_none root)
+under_same path root t e = inl (fronted path root t ∙ ap (λ (w : List ℕ). root ++ w) (drop_all (length root) path (omega (arith, e))) ∙ append-nil root)
 
 pub under_more : (path root : List ℕ) → starts_with nat_eq path root ≡ true → (length path ≡ length root → ⊥) → get_or path (length root) 0 ≡ 47 → IsUnder path root
 under_more path root t ne e =

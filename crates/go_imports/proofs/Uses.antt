@@ -1,5 +1,5 @@
 -- The used imports of a file, one import after another.
-use Rattle.std.proofs.Common.{◌≡◌, ◌⊎◌, ℕ, ◌+◌, ◌<◌, ◌≤◌, Option, Some, None, List, [], ◌∷◌, ◌++◌, length, take, get_or, refl, sym, ap, ◌∙◌, subst, inl, inr}
+use Rattle.std.proofs.Common.{◌≡◌, ◌⊎◌, ℕ, ◌+◌, ◌<◌, ◌≤◌, Option, Some, None, List, [], ◌∷◌, ◌++◌, length, take, get_or, refl, sym, ap, ◌∙◌, subst, inl, inr, append-nil}
 use Rattle.std.proofs.lemmas.List.{take_more}
 use Rattle.go_base.specs.Lists.{Has}
 use Rattle.go_base.specs.Growing.{Grows}
@@ -10,10 +10,6 @@ use Rattle.go_imports.specs.inner.Uses.{ByName, ByPath, Uses, Using}
 use Rattle.go_imports.specs.declared.used_imports.Import.{Import}
 use Rattle.go_imports.specs.declared.used_imports.NamedImport.{NamedImport}
 use Rattle.go_imports.proofs.Members.{has_left, has_last, has_back}
-
-append_none : {A : Type 0} (xs : List A) → xs ++ [] ≡ xs
-append_none [] = refl
-append_none (x ∷ xs) = ap (λ ys. x ∷ ys) (append_none xs)
 
 some_same : (a b : List ℕ) → ◌≡◌ {A = Option (List ℕ)} (Some a) (Some b) → a ≡ b
 some_same a b e = cc
@@ -61,7 +57,7 @@ module _ (imports : List Import) (qualifiers : List (List ℕ)) where
     }
 
     nothing_more : (uses2 : List NamedImport) → uses2 ≡ uses ++ [] → AreUsed imports qualifiers (before ++ i ∷ []) uses → AreUsed imports qualifiers (before ++ i ∷ []) uses2
-    nothing_more uses2 e told = subst (AreUsed imports qualifiers (before ++ i ∷ [])) (sym (e ∙ append_none uses)) told
+    nothing_more uses2 e told = subst (AreUsed imports qualifiers (before ++ i ∷ [])) (sym (e ∙ append-nil uses)) told
 
     use_more : (text : List ℕ) (n : NamedImport) (uses2 : List NamedImport) → uses2 ≡ uses ++ n ∷ [] → n ≡ named_as text i → IsUse imports qualifiers before i text → AreUsed imports qualifiers (before ++ i ∷ []) uses2
     use_more text n uses2 e is by = subst (AreUsed imports qualifiers (before ++ i ∷ [])) (sym (e ∙ ap (λ (m : NamedImport). uses ++ m ∷ []) is)) (used i text u.told by)

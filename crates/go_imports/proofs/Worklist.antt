@@ -1,5 +1,5 @@
 -- A worklist over the keys of a set that keeps their order.
-use Rattle.std.proofs.Common.{◌≡◌, ℕ, zero, suc, ◌+◌, ◌<◌, ◌≤◌, Bool, true, false, cond, List, [], ◌∷◌, ◌++◌, length, Option, Some, None, nat_eq, refl, sym, ap, ◌∙◌, subst, ◌⊎◌, inl, inr, arith, append_assoc, take, get_or, length-append}
+use Rattle.std.proofs.Common.{◌≡◌, ℕ, zero, suc, ◌+◌, ◌<◌, ◌≤◌, Bool, true, false, cond, List, [], ◌∷◌, ◌++◌, length, Option, Some, None, nat_eq, refl, sym, ap, ◌∙◌, subst, ◌⊎◌, inl, inr, arith, append_assoc, take, get_or, length-append, append-nil}
 use Rattle.std.proofs.lemmas.List.{take_more}
 use Rattle.std.proofs.lemmas.Option.{slice_get_cases}
 use Rattle.std.specs.Prelude.{slice_get}
@@ -23,10 +23,6 @@ each_itself : (xs : List ℕ) → Each (Has xs) xs
 each_itself [] = tt
 each_itself (x ∷ xs) = (inl refl, each_map (Has xs) (Has (x ∷ xs)) (λ n h. inr h) xs (each_itself xs))
 
-append_none : (xs : List ℕ) → xs ++ [] ≡ xs
-append_none [] = refl
-append_none (x ∷ xs) = ap (λ ys. x ∷ ys) (append_none xs)
-
 -- what adding items leaves
 pub record Added (old items new : List ℕ) : Type 0 where
   pub kept : (n : ℕ) → Has old n → Has new n
@@ -35,14 +31,14 @@ pub record Added (old items new : List ℕ) : Type 0 where
   pub front : new ≡ old ++ more
 
 insert_by : (ks : List ℕ) (x : ℕ) (b : Bool) → list_any (nat_eq x) ks ≡ b → Added ks (x ∷ []) (cond b ks (ks ++ x ∷ []))
-insert_by ks x true e = record { kept = λ n h. h; all = (key_has ks x e, tt); more = []; front = sym (append_none ks) }
+insert_by ks x true e = record { kept = λ n h. h; all = (key_has ks x e, tt); more = []; front = sym (append-nil ks) }
 insert_by ks x false e = record { kept = λ n h. has_left ks (x ∷ []) n h; all = (has_last ks x, tt); more = x ∷ []; front = refl }
 
 inserted : (ks : List ℕ) (x : ℕ) → Added ks (x ∷ []) (insert_key nat_eq ks x)
 inserted ks x = insert_by ks x (list_any (nat_eq x) ks) refl
 
 inserted_all : (ks xs : List ℕ) → Added ks xs (insert_all nat_eq ks xs)
-inserted_all ks [] = record { kept = λ n h. h; all = tt; more = []; front = sym (append_none ks) }
+inserted_all ks [] = record { kept = λ n h. h; all = tt; more = []; front = sym (append-nil ks) }
 inserted_all ks (x ∷ xs) =
     let one = inserted ks x in
     let rest = inserted_all (insert_key nat_eq ks x) xs in

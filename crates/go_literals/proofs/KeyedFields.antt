@@ -32,14 +32,14 @@ module _ (E : Env) where
   abbrev TakesHere : Field → Sel → Operand → Type 0
   TakesHere f s o = ((out-Field f).sel ≡ s) × UsableAs E o (out-Field f).term
 
-  pub takes_at : (fs : List Field) (i : ℕ) (f : Field) (s : Sel) (o : Operand) (b : Bool) → i < length fs → f ≡ get_or fs i f → b ≡ true → Decides (TakesHere f s o) b → Takes E fs s o
-  takes_at fs i f s o b h e t d = let y = subst (Decides (TakesHere f s o)) t d in (f, item_has fs i f h e, y.0, y.1)
+  pub takes_at : (fs : List Field) (i : ℕ) (f : Field) (s : Sel) (o : Operand) (b : Bool) → i < length fs → f ≡ get_or fs i f → b ≡ true → Decides b (TakesHere f s o) → Takes E fs s o
+  takes_at fs i f s o b h e t d = let y = subst (λ b. Decides b (TakesHere f s o)) t d in (f, item_has fs i f h e, y.0, y.1)
 
   takes_later : (f : Field) (fs : List Field) (s : Sel) (o : Operand) → (TakesHere f s o → ⊥) → Takes E (f ∷ fs) s o → Takes E fs s o
   takes_later f fs s o none t = elim t.1 [ inl e ↦ absurd (none (subst (λ (x : Field). TakesHere x s o) (sym e) (t.2, t.3))) | inr k ↦ (t.0, k, t.2, t.3) ]
 
-  pub takes_next : (fs : List Field) (i : ℕ) (f : Field) (s : Sel) (o : Operand) (b : Bool) → i < length fs → f ≡ get_or fs i f → b ≡ false → Decides (TakesHere f s o) b → (Takes E fs s o → Takes E (drop i fs) s o) → Takes E fs s o → Takes E (drop (i + 1) fs) s o
-  takes_next fs i f s o b h e t d w k = takes_later f (drop (i + 1) fs) s o (subst (Decides (TakesHere f s o)) t d) (subst (λ (xs : List Field). Takes E xs s o) (drop_next i fs f h e) (w k))
+  pub takes_next : (fs : List Field) (i : ℕ) (f : Field) (s : Sel) (o : Operand) (b : Bool) → i < length fs → f ≡ get_or fs i f → b ≡ false → Decides b (TakesHere f s o) → (Takes E fs s o → Takes E (drop i fs) s o) → Takes E fs s o → Takes E (drop (i + 1) fs) s o
+  takes_next fs i f s o b h e t d w k = takes_later f (drop (i + 1) fs) s o (subst (λ b. Decides b (TakesHere f s o)) t d) (subst (λ (xs : List Field). Takes E xs s o) (drop_next i fs f h e) (w k))
 
   no_field : (s : Sel) (o : Operand) → Takes E [] s o → ⊥
   no_field s o t = absurd t.1

@@ -7,4 +7,3 @@ pub mod KeyedFields
 pub mod Pairing
 pub mod Parts
 pub mod StructElements
-pub mod TextSets

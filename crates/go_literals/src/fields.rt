@@ -12,7 +12,7 @@ use crate::values::Literals;
 use go_base::memory::NoMemory;
 use go_model::types::names::Sel;
 use go_model::types::term::Field;
-use go_operations::names::is_blank;
+use go_rules::blank::is_blank;
 use go_rules::operand::Operand;
 use go_selectors::identity::same_sel;
 use go_syntax::expression::{Element, Expr};
@@ -32,7 +32,7 @@ fn takes_here(
     sel: &Sel,
     operand: &Operand,
 ) -> Result<bool, NoMemory>
-    ensures { IfOk result (Decides (((out-Field field.now).sel ≡ sel.now) × UsableAs (env_in context.now) operand.now (out-Field field.now).term)) }
+    ensures { IfOk result (λ answer. Decides answer (((out-Field field.now).sel ≡ sel.now) × UsableAs (env_in context.now) operand.now (out-Field field.now).term)) }
 {
     if !same_sel(&field.sel, sel) {
         return Ok(false);
@@ -48,7 +48,7 @@ fn takes(
     sel: &Sel,
     operand: &Operand,
 ) -> Result<bool, NoMemory>
-    ensures { IfOk result (Decides (Takes (env_in context.now) fields.now sel.now operand.now)) }
+    ensures { IfOk result (λ answer. Decides answer (Takes (env_in context.now) fields.now sel.now operand.now)) }
 {
     for field in fields {
         if takes_here(context, alloc, field, sel, operand)? {
@@ -67,7 +67,7 @@ impl<'a, F: Fn(&Context<'_>, Global, usize, Part<'_>) -> Result<Answer, ExprErro
         requires { TypesBelow self.now.operations.typing.context.now self.now.operations.typing.height (F.pre self.now.operations.typing.below) (F.post self.now.operations.typing.below) }
         ensures { Holds (env_in self.now.operations.typing.context.now) (NamedFits (env_in self.now.operations.typing.context.now) fields.now name.now expr.now) (expression expr.now ∷ []) result }
     {
-        if is_blank(name) {
+        if is_blank(name.text.bytes()) {
             return Err(ExprError::Untyped);
         }
         let sel = self

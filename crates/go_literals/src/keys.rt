@@ -46,7 +46,7 @@ pub(crate) fn field_key(element: &Element) -> Option<&Name>
 
 /// Whether an element has no key.
 pub(crate) fn is_without_key(element: &Element) -> bool
-    ensures { Decides ((out-Element element.now).key ≡ None) result }
+    ensures { Decides result ((out-Element element.now).key ≡ None) }
 {
     match &element.key {
         Some(_) => false,

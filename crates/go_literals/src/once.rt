@@ -22,7 +22,7 @@ fn add_new(alloc: Global, texts: &mut BTreeSet<Text>, bytes: &[u8]) -> Result<bo
 
 /// Whether each element has a name as its key, and no name stands twice.
 pub(crate) fn are_keyed_once(alloc: Global, elements: &[Element]) -> Result<bool, NoMemory>
-    ensures { IfOk result (Decides (KeyedOnce [] elements.now)) }
+    ensures { IfOk result (λ answer. Decides answer (KeyedOnce [] elements.now)) }
 {
     let mut seen = BTreeSet::new(alloc);
     for element in elements {

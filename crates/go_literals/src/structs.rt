@@ -1,26 +1,20 @@
 //! Elements of literals of struct types.
 ghost use Rattle.std.specs.Prelude.{◌≡◌};
 ghost use Rattle.go_literals.specs.Structs.{AreKeyed, AreUnkeyed, MayBeUnkeyed, StructFits, names_fields};
-ghost use Rattle.go_model.specs.types.Imports.{is_imported, is_imported_struct};
+ghost use Rattle.go_model.specs.types.Imports.{is_imported_struct};
 ghost use Rattle.go_rules.specs.Nodes.{element_parts};
 ghost use Rattle.go_selectors.specs.Answers.{Decides};
 ghost use Rattle.go_type_terms.specs.Answers.{Holds, TypesBelow, env_in};
 
 use crate::once::are_keyed_once;
 use crate::values::Literals;
-use go_model::types::names::TypeName;
+use go_model::types::names::is_imported;
 use go_model::types::term::{Field, Term};
 use go_syntax::expression::Element;
 use go_type_terms::error::ExprError;
 use go_type_terms::part::{Answer, Part};
 use go_usability::context::Context;
 use std::alloc::Global;
-
-fn is_imported(name: &TypeName) -> bool
-    ensures { result ≡ is_imported name.now }
-{
-    name.path.bytes() != b"".as_slice() && name.path.bytes() != b"-client".as_slice()
-}
 
 // Whether a type is a defined struct of another package than the client's.
 fn is_imported_struct(context: &Context<'_>, term: &Term) -> bool
@@ -37,7 +31,7 @@ fn is_imported_struct(context: &Context<'_>, term: &Term) -> bool
 
 // Whether a literal of the type may have elements without keys.
 fn may_be_unkeyed(context: &Context<'_>, term: &Term) -> bool
-    ensures { Decides (MayBeUnkeyed (env_in context.now) term.now) result }
+    ensures { Decides result (MayBeUnkeyed (env_in context.now) term.now) }
 {
     if !context.is_entered(term) {
         return false;

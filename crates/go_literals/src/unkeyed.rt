@@ -19,7 +19,7 @@ use std::alloc::Global;
 
 // Whether a literal without keys may give the field a value.
 fn is_reachable(context: &Context<'_>, field: &Field) -> bool
-    ensures { Decides (IsReachable (env_in context.now) field.now) result }
+    ensures { Decides result (IsReachable (env_in context.now) field.now) }
 {
     if field.sel.package.bytes() == b"".as_slice() {
         return true;

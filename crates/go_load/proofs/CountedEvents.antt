@@ -1,5 +1,5 @@
 -- Counting events, and the files that are taken.
-use Rattle.std.proofs.Common.{◌≡◌, ℕ, ◌≤◌, Bool, true, false, nat_le, if◌then◌else◌, Option, Some, None, List, [], ◌∷◌, ◌++◌, length, refl, sym, ap, ◌∙◌, subst, inl, inr, Result, Ok, Err, append_assoc}
+use Rattle.std.proofs.Common.{◌≡◌, ℕ, ◌≤◌, Bool, true, false, nat_le, if◌then◌else◌, Option, Some, None, List, [], ◌∷◌, ◌++◌, length, refl, sym, ap, ◌∙◌, subst, inl, inr, Result, Ok, Err, append_assoc, append-nil}
 use Rattle.go_base.specs.Lists.{Has, Each}
 use Rattle.go_model.specs.files.Trees.{most, IsTreeFile}
 use Rattle.go_model.specs.declared.files.tree.TreeFile.{TreeFile}
@@ -14,10 +14,6 @@ use Rattle.go_load.specs.declared.walk.Taken.{Taken}
 use Rattle.go_load.specs.declared.error.LoadError.{LoadError}
 use Rattle.go_load.specs.declared.error.LoadError.TheVariants as error
 use Rattle.go_load.specs.declared.kind.TreeKind.{TreeKind}
-
-pub append_nil : {A : Type 0} (xs : List A) → xs ++ [] ≡ xs
-append_nil [] = refl
-append_nil (x ∷ xs) = ap (λ ys. x ∷ ys) (append_nil xs)
 
 none_some : (r : Refusal) → ◌≡◌ {A = Option Refusal} None (Some r) → ⊥
 none_some r e = cc
@@ -54,7 +50,7 @@ module _ (m : Contents) (at folder : Path) (names : List Path) (old : Taken) whe
   taking_refused name left now new error.NoModule t one = one
   taking_refused name left now new error.BadModule t one = one
   taking_refused name left now new (error.Limit l p) t one =
-      ap (first_refusal old.counts) (sym (append_nil (file_events (files_at m at folder names)))) ∙ t.counts [] ∙ ap (first_refusal now.counts) (append_nil (file_events (files_at m at folder (name ∷ left))))
+      ap (first_refusal old.counts) (sym (append-nil (file_events (files_at m at folder names)))) ∙ t.counts [] ∙ ap (first_refusal now.counts) (append-nil (file_events (files_at m at folder (name ∷ left))))
       ∙ first_front now.counts (file_events (files_at m at folder (name ∷ []))) (file_events (files_at m at folder left)) (l, p) one
   taking_refused name left now new error.ReadFault t one = tt
   taking_refused name left now new error.NoMemory t one = tt

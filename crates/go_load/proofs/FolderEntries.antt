@@ -1,5 +1,5 @@
 -- A folder's entries, and what is told of them.
-use Rattle.std.proofs.Common.{◌≡◌, ℕ, Bool, true, false, not, ◌&&◌, ◌||◌, nat_eq, cond, List, [], ◌∷◌, ◌++◌, length, refl, sym, ap, ◌∙◌, subst, inl, inr, Result, Ok, Err, arith}
+use Rattle.std.proofs.Common.{◌≡◌, ℕ, Bool, true, false, not, ◌&&◌, ◌||◌, nat_eq, cond, List, [], ◌∷◌, ◌++◌, length, refl, sym, ap, ◌∙◌, subst, inl, inr, Result, Ok, Err, arith, append-nil}
 use mathlib.Core.Bool.{true≢false}
 use Rattle.std.specs.List.{list_any, list_all, slice_split, onto_first}
 use Rattle.std.proofs.lemmas.Bool.Decides.{Decides-eqb}
@@ -23,7 +23,6 @@ use Rattle.std.proofs.lemmas.List.Folds.{list_all-append}
 use Rattle.go_load.proofs.ModuleLines.{parts_whole}
 use Rattle.go_load.proofs.Members.{grows_as}
 use Rattle.go_load.proofs.EntryPaths.{slashless, slashless-cons, told_file, told_folder, listed_file, listed_folder, there_listed}
-use Rattle.go_load.proofs.CountedEvents.{append_nil}
 
 -- names without a slash
 and_left : (a b : Bool) → (a && b) ≡ true → a ≡ true
@@ -194,7 +193,7 @@ module _ (m : Contents) (tree : TreeKind) (root folder : Path) (pending pending'
         there_listed m (folder_path root folder) entries l'.0 l'.1,
         no_candidates m tree root folder entries l'.0 other,
         subst (λ (ps : List Path). Grows (IsChildAt m tree root folder) pending ps) (sym same) (no_children m tree root folder entries l'.0 pending other),
-        files ∙ sym (append_nil old.files),
+        files ∙ sym (append-nil old.files),
         λ rest. c rest,
       )
 

@@ -11,7 +11,6 @@ use Rattle.std.specs.declared.cmp.Ordering.{Ordering}
 use Rattle.std.specs.declared.cmp.Ordering.TheVariants.{Less, Equal, Greater}
 use Rattle.std.specs.Cmp.Lexicographic.{slice_cmp}
 use Rattle.std.specs.FinMap.{slice_cmp-IsAntisymmetric, nat_cmp-IsAntisymmetric}
-use Rattle.std.specs.BTreeSet.{insert_key}
 use Rattle.go_base.specs.Lists.{Has, Each, Before, Ascending}
 use Rattle.go_outside.specs.Paths.{Path}
 use Rattle.go_outside.specs.declared.files.Entry.{Entry}
@@ -75,26 +74,6 @@ pub ascending_of : (ks : List Path) → IsStrictlySortedBy (slice_cmp nat_cmp) k
 unfolding IsStrictlySortedBy
 ascending_of [] h = tt
 ascending_of (k ∷ ks) h = (before_each k ks h.0, ascending_of ks h.1)
-
--- the keys after a key was put among them
-abbrev order : Path → Path → Ordering
-order = slice_cmp nat_cmp
-
-placed : (y : Path) (ys : List Path) (k : Path) (o : Ordering) → order k y ≡ o → Grows (λ x. k ≡ x) ys (insert_key order ys k) → Grows (λ x. k ≡ x) (y ∷ ys) (match_ordering o (k ∷ y ∷ ys) (y ∷ ys) (y ∷ insert_key order ys k))
-placed y ys k Less e g = record { sound = λ x h. elim h [ inl s ↦ inr s | inr r ↦ inl r ]; kept = λ x h. inr h; complete = λ x h. inl h }
-placed y ys k Equal e g = record { sound = λ x h. inl h; kept = λ x h. h; complete = λ x h. inl (sym (slice_cmp-IsAntisymmetric nat_cmp-IsAntisymmetric k y e) ∙ h) }
-placed y ys k Greater e g = record {
-  sound = λ x h. elim h [ inl s ↦ inl (inl s) | inr r ↦ elim (g.sound x r) [ inl a ↦ inl (inr a) | inr b ↦ inr b ] ];
-  kept = λ x h. elim h [ inl s ↦ inl s | inr r ↦ inr (g.kept x r) ];
-  complete = λ x h. inr (g.complete x h);
-}
-
-grows-insert : (ks : List Path) (k : Path) → Grows (λ x. k ≡ x) ks (insert_key order ks k)
-grows-insert [] k = record { sound = λ x h. elim h [ inl s ↦ inr s | inr r ↦ absurd r ]; kept = λ x h. absurd h; complete = λ x h. inl h }
-grows-insert (y ∷ ys) k = placed y ys k (order k y) refl (grows-insert ys k)
-
-pub grows_by_insert : (old new : List Path) (k : Path) → new ≡ insert_key order old k → Grows (λ x. k ≡ x) old new
-grows_by_insert old new k e = subst (Grows (λ x. k ≡ x) old) (sym e) (grows-insert old k)
 
 -- one entry more
 pub grows_next : (P : Entry → Path → Type 0) (entries : List Entry) (i : ℕ) (e : Entry) (old mid new : List Path) → i < length entries → e ≡ get_or entries i e → Grows (IsAny P (take i entries)) old mid → Grows (P e) mid new → Grows (IsAny P (take (i + 1) entries)) old new

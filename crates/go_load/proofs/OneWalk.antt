@@ -1,5 +1,5 @@
 -- There is one walk over the told files.
-use Rattle.std.proofs.Common.{◌≡◌, ℕ, zero, suc, ◌+◌, ◌<◌, ◌≤◌, Option, Some, None, List, [], ◌∷◌, ◌++◌, length, refl, sym, ap, ◌∙◌, subst, ◌⊎◌, inl, inr, append_assoc, arith}
+use Rattle.std.proofs.Common.{◌≡◌, ℕ, zero, suc, ◌+◌, ◌<◌, ◌≤◌, Option, Some, None, List, [], ◌∷◌, ◌++◌, length, refl, sym, ap, ◌∙◌, subst, ◌⊎◌, inl, inr, append_assoc, arith, append-nil}
 use Rattle.std.specs.Ordering.{nat_cmp, is_lt, ordering_reverse}
 use Rattle.std.specs.declared.cmp.Ordering.{Ordering}
 use Rattle.std.specs.declared.cmp.Ordering.TheVariants.{Less, Equal, Greater}
@@ -14,7 +14,7 @@ use Rattle.go_outside.specs.Stores.{Contents}
 use Rattle.go_load.specs.Walk.{AreCandidates, IsNext, Event, folder_event, events_of, files_of, package_events, file_events, Walked, start, next, Reaches, before, within, IsWhole, Refusal, first_refusal, no_counts}
 use Rattle.go_load.specs.Loads.{AreFiles, PassesIn}
 use Rattle.go_load.specs.declared.kind.TreeKind.{TreeKind}
-use Rattle.go_load.proofs.CountedEvents.{append_nil, first_front}
+use Rattle.go_load.proofs.CountedEvents.{first_front}
 use Rattle.go_load.proofs.FolderOrder.{before_trans, not_before_itself}
 
 -- paths that stand before no other are one
@@ -114,7 +114,7 @@ module _ (m : Contents) (tree : TreeKind) (root : Path) where
   Begins a b = (more : List Event) × (b ≡ a ++ more)
 
   shorter_by : (e t e2 t2 more : List Event) (folder : Path) (l : List Path) → IsNext m tree root l folder → Tail l t → e2 ≡ e ++ folder_event folder ∷ more → Begins (e ++ t) (e2 ++ t2)
-  shorter_by e t e2 t2 more folder l n (inl s) q = (folder_event folder ∷ (more ++ t2), ap (λ x. x ++ t2) q ∙ append_assoc e (folder_event folder ∷ more) t2 ∙ ap (λ x. x ++ folder_event folder ∷ (more ++ t2)) (sym (append_nil e) ∙ ap (λ x. e ++ x) (sym s)))
+  shorter_by e t e2 t2 more folder l n (inl s) q = (folder_event folder ∷ (more ++ t2), ap (λ x. x ++ t2) q ∙ append_assoc e (folder_event folder ∷ more) t2 ∙ ap (λ x. x ++ folder_event folder ∷ (more ++ t2)) (sym (append-nil e) ∙ ap (λ x. e ++ x) (sym s)))
   shorter_by e t e2 t2 more folder l n (inr s) q =
       let p = one_next l folder s.0 n s.1 in
       (more ++ t2, ap (λ x. x ++ t2) q ∙ append_assoc e (folder_event folder ∷ more) t2 ∙ (λ i. e ++ folder_event (p i) ∷ (more ++ t2)) ∙ sym (append_assoc e (folder_event s.0 ∷ []) (more ++ t2)) ∙ ap (λ x. e ++ x ++ (more ++ t2)) (sym s.2))
@@ -138,7 +138,7 @@ module _ (m : Contents) (tree : TreeKind) (root : Path) where
 
   placed : {es : List Event} → Reaches m tree root es → Placed es
   placed (before l f e folder w n) = (l, f, e, folder_event folder ∷ [], w, inr (folder, n, refl), refl)
-  placed (within l f e w) = (l, f, e, [], w, inl refl, sym (append_nil e))
+  placed (within l f e w) = (l, f, e, [], w, inl refl, sym (append-nil e))
 
   compared : (a b : ℕ) → (a < b) ⊎ (a ≡ b) ⊎ (b < a)
   compared zero zero = inr (inl refl)
@@ -188,7 +188,7 @@ module _ (m : Contents) (tree : TreeKind) (root : Path) where
 
   whole_begins : {l l2 : List Path} {f f2 : List TreeFile} {e e2 : List Event} (t2 : List Event) → Walked m tree root l f e → IsWhole m tree root l → Walked m tree root l2 f2 e2 → Tail l2 t2 → (length l < length l2) ⊎ (length l ≡ length l2) ⊎ (length l2 < length l) → Begins (e2 ++ t2) (e ++ [])
   whole_begins t2 w whole w2 k2 (inl h) = absurd (whole_last w w2 whole h)
-  whole_begins {l = l} {l2 = l2} {e = e} t2 w whole w2 k2 (inr (inl h)) = let s = same_walk w w2 h in ([], (λ i. s.2 i ++ sym (whole_tail l l2 t2 whole s.0 k2) i) ∙ sym (append_nil _))
+  whole_begins {l = l} {l2 = l2} {e = e} t2 w whole w2 k2 (inr (inl h)) = let s = same_walk w w2 h in ([], (λ i. s.2 i ++ sym (whole_tail l l2 t2 whole s.0 k2) i) ∙ sym (append-nil _))
   whole_begins t2 w whole w2 k2 (inr (inr h)) = shorter t2 [] w2 w k2 h
 
   -- files and a limit exclude each other
@@ -196,7 +196,7 @@ module _ (m : Contents) (tree : TreeKind) (root : Path) where
   files_or_limit files r a p =
       let b = placed p.1 in
       let begins = whole_begins b.3 a.2 a.3 b.4 b.5 (compared (length a.0) (length b.0)) in
-      none_some r (sym a.4 ∙ ap (first_refusal no_counts) (sym (append_nil a.1)) ∙ begun (b.2 ++ b.3) (a.1 ++ []) r begins (ap (first_refusal no_counts) (sym b.6) ∙ p.2))
+      none_some r (sym a.4 ∙ ap (first_refusal no_counts) (sym (append-nil a.1)) ∙ begun (b.2 ++ b.3) (a.1 ++ []) r begins (ap (first_refusal no_counts) (sym b.6) ∙ p.2))
 
   one_whole : {l l2 : List Path} {f f2 : List TreeFile} {e e2 : List Event} → Walked m tree root l f e → IsWhole m tree root l → Walked m tree root l2 f2 e2 → IsWhole m tree root l2 → (length l < length l2) ⊎ (length l ≡ length l2) ⊎ (length l2 < length l) → f ≡ f2
   one_whole w whole w2 whole2 (inl h) = absurd (whole_last w w2 whole h)

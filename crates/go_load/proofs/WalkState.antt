@@ -1,5 +1,5 @@
 -- What the walk knows between two folders.
-use Rattle.std.proofs.Common.{◌≡◌, Option, Some, None, List, [], ◌∷◌, ◌++◌, refl, sym, ap, ◌∙◌, subst, ◌⊎◌, inl, inr, Ok, Err, append_assoc}
+use Rattle.std.proofs.Common.{◌≡◌, Option, Some, None, List, [], ◌∷◌, ◌++◌, refl, sym, ap, ◌∙◌, subst, ◌⊎◌, inl, inr, Ok, Err, append_assoc, append-nil}
 use Rattle.go_base.specs.Lists.{Has, Before}
 use Rattle.go_model.specs.declared.files.tree.TreeFile.{TreeFile}
 use Rattle.go_outside.specs.Paths.{Path}
@@ -14,7 +14,6 @@ use Rattle.go_load.specs.declared.error.LoadError.{LoadError}
 use Rattle.go_load.specs.declared.error.LoadError.TheVariants as error
 use Rattle.go_load.specs.declared.kind.TreeKind.{TreeKind}
 use Rattle.go_load.proofs.Members.{has-left, has-last, has-back}
-use Rattle.go_load.proofs.CountedEvents.{append_nil}
 use Rattle.go_load.proofs.FolderOrder.{before_trans, not_before_itself, To, to_before, to_to, not_back, walked_some, before_under, place_under}
 
 none_some : (r : Refusal) → ◌≡◌ {A = Option Refusal} None (Some r) → ⊥
@@ -78,7 +77,7 @@ module _ (m : Contents) (tree : TreeKind) (root : Path) where
   pub state_whole : (taken : Taken) → State [] taken → Walks m tree root (Ok taken.files)
   state_whole taken s = (
     there_by s.done taken.files s.es s.walked (listed_by s.done [] (reached s [] top)) s.there,
-    (s.done, s.es, s.walked, (λ f is. listed_by s.done f (reached s f is)), ap (first_refusal no_counts) (sym (append_nil s.es)) ∙ s.goes []),
+    (s.done, s.es, s.walked, (λ f is. listed_by s.done f (reached s f is)), ap (first_refusal no_counts) (sym (append-nil s.es)) ∙ s.goes []),
   )
 
   -- where a folder of the walk stands

@@ -104,7 +104,7 @@ module _ (u : PackageSource) (names : Named NamePlace) (methods : Named (List Me
         let w = all.sound n b e in
         let m = row_declares u methods rows b.name.now n d w.row at in (
           ap (base (declarations u)) (same_receiver m.receiver m.func (sym form ∙ m.form)) ∙ m.of,
-          only_decided u methods rows b.name.now n w.row.0 w.row.1 w.row.2 f.name.text named b.is_only (subst (λ (k : List ℕ). Decides (IsAlone (StandsTwice (row_names (declarations u) (items_at methods b.name.now))) k) b.is_only) named w.only),
+          only_decided u methods rows b.name.now n w.row.0 w.row.1 w.row.2 f.name.text named b.is_only (subst (λ (k : List ℕ). Decides b.is_only (IsAlone (StandsTwice (row_names (declarations u) (items_at methods b.name.now))) k)) named w.only),
         )
 
     -- a method that has a base type is told of

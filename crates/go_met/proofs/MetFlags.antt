@@ -28,13 +28,13 @@ moved_on a b c f g = g ∙ ap (λ (s : Scopes). record s { file = c.file; iota =
 
 -- a declaration is answered for where it stands
 pub met_there : (c e : Scopes) (name : List ℕ) (xs : List Borrowed) (told : List (Option Base)) (i : ℕ) (x : Borrowed) (answer : Bool) → TellBases (declarations_of xs) told → i < length xs → x ≡ get_or xs i x → IsMoved c e
-    → ((u : PackageSource) (number : ℕ) → u.name ≡ name → u.path ≡ e.path → TellsBase u number (form_of x.form) (told_at told i) → Decides (Asks (env_of (at_declaration e (declaration_of x))) u number (form_of x.form)) answer)
+    → ((u : PackageSource) (number : ℕ) → u.name ≡ name → u.path ≡ e.path → TellsBase u number (form_of x.form) (told_at told i) → Decides answer (Asks (env_of (at_declaration e (declaration_of x))) u number (form_of x.form)))
     → IsMetThere c name (declarations_of xs) i answer
 met_there c e name xs told i x answer tells h is moved decides u listed named pathed d at =
     let here : slice_get (declarations_of xs) i ≡ Some (declaration_of x) = borrowed_there xs i x h ∙ ap (λ (z : Borrowed). Some (declaration_of z)) (sym is) in
     let same : declaration_of x ≡ d = some_once (declaration_of x) d (sym here ∙ at) in
-    subst (λ (z : Declaration). Decides (Asks (env_of (at_declaration c z)) u i z.form) answer) same
-    (subst (λ (s : Scopes). Decides (Asks (env_of s) u i (form_of x.form)) answer) (ap (λ (s : Scopes). at_declaration s (declaration_of x)) moved)
+    subst (λ (z : Declaration). Decides answer (Asks (env_of (at_declaration c z)) u i z.form)) same
+    (subst (λ (s : Scopes). Decides answer (Asks (env_of s) u i (form_of x.form))) (ap (λ (s : Scopes). at_declaration s (declaration_of x)) moved)
     (decides u i named (pathed ∙ sym (ap (λ (s : Scopes). s.path) moved)) (tells u listed i (declaration_of x) here)))
 
 at_last : (bs : List Bool) (b : Bool) → get_or (bs ++ b ∷ []) (length bs) false ≡ b
@@ -89,7 +89,7 @@ slice_at [] n h = absurd (omega (arith, h))
 slice_at (d ∷ ds) zero h = (d, refl)
 slice_at (d ∷ ds) (suc n) h = slice_at ds n (omega (arith, h))
 
-decided : (P : Type 0) (b : Bool) → Decides P b → P → b ≡ true
+decided : (P : Type 0) (b : Bool) → Decides b P → P → b ≡ true
 decided P true d p = refl
 decided P false d p = absurd (d p)
 
@@ -104,10 +104,10 @@ met_flags s u a c name ds answers listed named is met same = record {
     long : length answers ≡ length (declarations u)
     long = met.size ∙ ap length (sym listed)
 
-    there : (n : ℕ) (d : Declaration) → slice_get (declarations u) n ≡ Some d → n < length (declarations u) → Decides (Asks (env_of (at_declaration c d)) u n d.form) (get_or answers n false)
+    there : (n : ℕ) (d : Declaration) → slice_get (declarations u) n ≡ Some d → n < length (declarations u) → Decides (get_or answers n false) (Asks (env_of (at_declaration c d)) u n d.form)
     there n d at h = met.met n (let z = ap length listed in omega (arith, z, h)) u listed named (sym is.path) d (ap (λ (xs : List Declaration). slice_get xs n) (sym listed) ∙ at)
 
     sound : (n : ℕ) → is_flagged answers n ≡ true → (d : Declaration) × (slice_get (declarations u) n ≡ Some d) → MeetsAsks s u a n
     sound n h k =
         let w : n < length (declarations u) = (let v = flagged_within answers n h in omega (arith, v, long)) in
-        (k.0, k.1, (same k.0 n k.0.form).0 (subst (Decides (Asks (env_of (at_declaration c k.0)) u n k.0.form)) h (there n k.0 k.1 w)))
+        (k.0, k.1, (same k.0 n k.0.form).0 (subst (λ b. Decides b (Asks (env_of (at_declaration c k.0)) u n k.0.form)) h (there n k.0 k.1 w)))

@@ -275,6 +275,6 @@ module _ (u : PackageSource) (t : Named (List MethodRow)) (are : AreMethods (dec
         by true e = inl e
         by false e = inr (λ h. (let k = shared_apart (declarations u) rows name rows_once h in k.6 (found k.0 k.2 k.4 e only ∙ sym (found k.1 k.3 k.5 e only))))
 
-    pub only_decided : (b : Bool) → Decides (IsAlone IsShared name) b → Decides (IsOnly u n type name) b
+    pub only_decided : (b : Bool) → Decides b (IsAlone IsShared name) → Decides b (IsOnly u n type name)
     only_decided true d = alone_only d
     only_decided false d = λ only. d (only_alone only)

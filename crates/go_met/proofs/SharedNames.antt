@@ -15,7 +15,7 @@ use Rattle.go_met.proofs.Fronts.{has_last, has_left, has_right, names_more}
 use Rattle.go_met.specs.inner.SharedNames.{row_names, StandsTwice}
 
 -- a set tells whether it has a name
-pub has_decided : (ks : List (List ℕ)) (k : List ℕ) (b : Bool) → b ≡ list_any (is_at (order k)) ks → Decides (Has ks k) b
+pub has_decided : (ks : List (List ℕ)) (k : List ℕ) (b : Bool) → b ≡ list_any (is_at (order k)) ks → Decides b (Has ks k)
 has_decided ks k true e = key_has ks k (sym e)
 has_decided ks k false e = λ h. true≢false (sym (has_key ks k h) ∙ sym e)
 

@@ -66,7 +66,7 @@ module _ (ds : List Declaration) (IsShared : List ℕ → Type 0) (type : List �
   further rows r n b w = record { name = w.name; row = (w.row.0, has_left rows (r ∷ []) w.row.0 w.row.1, w.row.2); only = w.only }
 
   -- one row more is told
-  pub row_told : (rows : List MethodRow) (r : MethodRow) (old mid : List (Option Base)) (b : Base) → TellsRows ds IsShared type rows old mid → b.name.now ≡ type → Decides (IsAlone IsShared (method_name ds r.number)) b.is_only
+  pub row_told : (rows : List MethodRow) (r : MethodRow) (old mid : List (Option Base)) (b : Base) → TellsRows ds IsShared type rows old mid → b.name.now ≡ type → Decides b.is_only (IsAlone IsShared (method_name ds r.number))
       → TellsRows ds IsShared type (rows ++ r ∷ []) old (set mid r.number (Some b))
   row_told rows r old mid b t e d = record {
     size = set_size mid r.number (Some b) ∙ t.size;
@@ -81,7 +81,7 @@ module _ (ds : List Declaration) (IsShared : List ℕ → Type 0) (type : List �
         | inr g ↦ inr (subst (IsOfType ds IsShared type (rows ++ r ∷ []) n) g.1 (record {
           name = e;
           row = (r, has_right rows (r ∷ []) r (inl refl), sym g.0);
-          only = subst (λ (k : ℕ). Decides (IsAlone IsShared (method_name ds k)) b.is_only) (sym g.0) d;
+          only = subst (λ (k : ℕ). Decides b.is_only (IsAlone IsShared (method_name ds k))) (sym g.0) d;
         }))
       ]
 
@@ -94,15 +94,15 @@ module _ (ds : List Declaration) (IsShared : List ℕ → Type 0) (type : List �
 
   -- the same for rows in front of a place
   pub told_next : (rows : List MethodRow) (i : ℕ) (r : MethodRow) (old mid new : List (Option Base)) (n : List ℕ) (b : Base) → i < length rows → TellsRows ds IsShared type (take i rows) old mid → b.name.now ≡ type
-      → n ≡ method_name ds (get_or rows i r).number → Decides (IsAlone IsShared n) b.is_only → new ≡ set mid (get_or rows i r).number (Some b) → TellsRows ds IsShared type (take (i + 1) rows) old new
+      → n ≡ method_name ds (get_or rows i r).number → Decides b.is_only (IsAlone IsShared n) → new ≡ set mid (get_or rows i r).number (Some b) → TellsRows ds IsShared type (take (i + 1) rows) old new
   told_next rows i r old mid new n b h t e f d made =
       subst (λ (rs : List MethodRow). TellsRows ds IsShared type rs old new) (sym (take_more rows i r h))
-      (subst (TellsRows ds IsShared type (take i rows ++ get_or rows i r ∷ []) old) (sym made) (row_told (take i rows) (get_or rows i r) old mid b t e (subst (λ (k : List ℕ). Decides (IsAlone IsShared k) b.is_only) f d)))
+      (subst (TellsRows ds IsShared type (take i rows ++ get_or rows i r ∷ []) old) (sym made) (row_told (take i rows) (get_or rows i r) old mid b t e (subst (λ (k : List ℕ). Decides b.is_only (IsAlone IsShared k)) f d)))
 
   pub told_whole : (rows : List MethodRow) (i : ℕ) (old new : List (Option Base)) → length rows ≤ i → TellsRows ds IsShared type (take i rows) old new → TellsRows ds IsShared type rows old new
   told_whole rows i old new h t = subst (λ (rs : List MethodRow). TellsRows ds IsShared type rs old new) (take_past i rows h) t
 
-same_alone : (P Q : List ℕ → Type 0) (name : List ℕ) (b : Bool) → ((k : List ℕ) → P k ↔ Q k) → Decides (IsAlone P name) b → Decides (IsAlone Q name) b
+same_alone : (P Q : List ℕ → Type 0) (name : List ℕ) (b : Bool) → ((k : List ℕ) → P k ↔ Q k) → Decides b (IsAlone P name) → Decides b (IsAlone Q name)
 same_alone P Q name true s (inl e) = inl e
 same_alone P Q name true s (inr f) = inr (λ q. f ((s name).1 q))
 same_alone P Q name false s d = λ h. d (back h)

@@ -6,7 +6,6 @@ ghost use Rattle.go_declarations.specs.Listings.{declarations_of};
 ghost use Rattle.go_declared.specs.MethodTables.{AreMethods};
 ghost use Rattle.go_declared.specs.NameTables.{AreDeclared};
 ghost use Rattle.go_met.specs.inner.ToldBases.{IsAlone, TellBases, TellsForm, TellsRows, TellsType, told_at};
-ghost use Rattle.go_rules.specs.Expressions.{is_blank};
 ghost use Rattle.go_selectors.specs.Answers.{Decides};
 
 use crate::shared_names::{has_name, shared_names};
@@ -17,18 +16,13 @@ use go_declarations::form::Form;
 use go_declarations::listing::Declaration;
 use go_declared::methods::{DeclaredMethods, MethodRow, method_name};
 use go_declared::names::DeclaredNames;
+use go_rules::blank::is_blank;
 use std::alloc::Global;
 use std::collections::BTreeSet;
 
-fn is_blank(name: &[u8]) -> bool
-    ensures { result ≡ is_blank name.now }
-{
-    name == b"_".as_slice()
-}
-
 // Whether a name is blank, or isn't shared.
 fn is_alone(alloc: Global, shared: &BTreeSet<Text>, name: &[u8]) -> Result<bool, NoMemory>
-    ensures { IfOk result (Decides (IsAlone (Has shared.now.keys) name.now)) }
+    ensures { IfOk result (λ answer. Decides answer (IsAlone (Has shared.now.keys) name.now)) }
 {
     if is_blank(name) {
         return Ok(true);

@@ -43,7 +43,7 @@ fn is_met(
     declaration: &Declaration<'_>,
 ) -> Result<bool, NoMemory>
     requires { error.now ≡ error_type }
-    ensures answer { IfOk result (λ answer. (u : PackageSource) (number : ℕ) → u.name ≡ package_name.now → u.path ≡ env.old.path → TellsBase u number (form_of declaration.now.form) base.entry → Decides (Asks (env_of (at_declaration env.old (declaration_of declaration.now))) u number (form_of declaration.now.form)) answer) }
+    ensures answer { IfOk result (λ answer. (u : PackageSource) (number : ℕ) → u.name ≡ package_name.now → u.path ≡ env.old.path → TellsBase u number (form_of declaration.now.form) base.entry → Decides answer (Asks (env_of (at_declaration env.old (declaration_of declaration.now))) u number (form_of declaration.now.form))) }
     ensures moved { IsMoved env.old env.new }
 {
     env.turn_to(declaration.file);

@@ -15,7 +15,7 @@ use std::collections::BTreeSet;
 
 /// Whether a name is among others.
 pub(crate) fn has_name(names: &BTreeSet<Text>, name: &Text) -> bool
-    ensures { Decides (Has names.now.keys name.now) result }
+    ensures { Decides result (Has names.now.keys name.now) }
 {
     names.contains(name)
 }

@@ -1,8 +1,11 @@
 //! Laws of worlds and of the types in them, for the layers above.
 ghost use Rattle.std.specs.Prelude.{◌≡◌, ◌≢◌, ◌∷◌, ℕ, Bool, List, [], map, Some};
+ghost use Rattle.std.specs.Thread.{IsSend, IsSync};
 ghost use Rattle.go_base.specs.Lists.{Has, Each, Once};
 ghost use Rattle.go_base.specs.Gathered.{gather};
 ghost use Rattle.go_base.specs.Keys.{first_with, placed};
+ghost use Rattle.go_model.specs.contracts.types.package.Package.{the_row as package_row};
+ghost use Rattle.go_model.specs.contracts.types.world.World.{the_row as world_row};
 ghost use Rattle.go_model.specs.declared.types.names.Sel.{Sel};
 ghost use Rattle.go_model.specs.declared.types.names.TypeName.{TypeName};
 ghost use Rattle.go_model.specs.declared.types.package.Defined.{Defined};
@@ -51,4 +54,13 @@ pub fn client_absent()
     ensures packages { (w : Packages) → IsWorld w → Has (map path_of w.packages) client_path → ⊥ }
     ensures names { (w : Packages) → IsWorld w → (n : TypeName) → Has (gather package_names w.packages) n → n.path ≢ client_path }
     ensures selectors { (w : Packages) → IsWorld w → (s : Sel) → Has (gather package_selectors w.packages) s → s.«package» ≢ client_path }
+{}
+
+/// A package and a world may be sent to another thread and shared with one. What shares a world with a thread calls this
+/// before, since the search for it through all parts of a package gives up.
+pub fn sendable()
+    ensures packages_sent { IsSend package_row }
+    ensures packages_shared { IsSync package_row }
+    ensures worlds_sent { IsSend world_row }
+    ensures worlds_shared { IsSync world_row }
 {}

@@ -1,4 +1,5 @@
 //! Types and packages after typing, in the words of the Go specification.
+pub mod borrowed;
 pub mod bounds;
 pub mod copy;
 pub mod found;

@@ -3,7 +3,6 @@ ghost use Rattle.std.specs.Prelude.{◌≡◌, OnOk};
 ghost use Rattle.go_declarations.specs.Forms.{form_of};
 ghost use Rattle.go_declarations.specs.Listings.{declarations_of};
 ghost use Rattle.go_new_scopes.specs.inner.AwaitedMethods.{with_declarations, with_form, with_method, with_rows};
-ghost use Rattle.go_rules.specs.Expressions.{is_blank};
 
 use go_base::memory::NoMemory;
 use go_base::text::Text;
@@ -11,14 +10,9 @@ use go_declarations::form::Form;
 use go_declarations::listing::Declaration;
 use go_declared::methods::{DeclaredMethods, MethodRow, method_name};
 use go_declared::names::DeclaredNames;
+use go_rules::blank::is_blank;
 use go_rules::env::Env;
 use std::alloc::Global;
-
-fn is_blank(name: &[u8]) -> bool
-    ensures { result ≡ is_blank name.now }
-{
-    name == b"_".as_slice()
-}
 
 // Awaits a method of a type, unless its name is blank.
 fn await_method(

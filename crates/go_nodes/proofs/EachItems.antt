@@ -16,11 +16,11 @@ module _ {A : Type 0} (P : A → Type 0) where
   each_done xs i h w = w.0 (subst (Each P) (sym (drop_all i xs h)) tt)
 
   module _ (xs : List A) (i : ℕ) (x : A) (h : i < length xs) (e : x ≡ get_or xs i x) (w : EachFrom (drop i xs) xs) where
-    pub each_next : (b : Bool) → b ≡ true → Decides (P x) b → EachFrom (drop (i + 1) xs) xs
+    pub each_next : (b : Bool) → b ≡ true → Decides b (P x) → EachFrom (drop (i + 1) xs) xs
     each_next b t d = (
-      (λ k. w.0 (subst (Each P) (sym (drop_next i xs x h e)) (subst (Decides (P x)) t d, k))),
+      (λ k. w.0 (subst (Each P) (sym (drop_next i xs x h e)) (subst (λ b. Decides b (P x)) t d, k))),
       (λ k. (subst (Each P) (drop_next i xs x h e) (w.1 k)).1),
     )
 
-    pub each_not : (b : Bool) → b ≡ false → Decides (P x) b → Each P xs → ⊥
-    each_not b f d k = (let none : P x → ⊥ = subst (Decides (P x)) f d in none) (subst (Each P) (drop_next i xs x h e) (w.1 k)).0
+    pub each_not : (b : Bool) → b ≡ false → Decides b (P x) → Each P xs → ⊥
+    each_not b f d k = (let none : P x → ⊥ = subst (λ b. Decides b (P x)) f d in none) (subst (Each P) (drop_next i xs x h e) (w.1 k)).0

@@ -1,4 +1,3 @@
 pub mod DistinctNames
 pub mod EachItems
 pub mod MeetsParts
-pub mod TextSets

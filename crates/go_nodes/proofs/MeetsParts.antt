@@ -58,17 +58,17 @@ module _ (E : Env) where
   last_meets ns a h = (each_right (Meets E) ns (a ∷ []) h).0
 
   -- the last tree gave way to its parts
-  pub asks_next : (all old rest new : List Node) (a : Node) (b : Bool) → SameAsks all old → old ≡ rest ++ a ∷ [] → new ≡ rest ++ parts a → b ≡ true → Decides (MeetsHere E a) b → SameAsks all new
+  pub asks_next : (all old rest new : List Node) (a : Node) (b : Bool) → SameAsks all old → old ≡ rest ++ a ∷ [] → new ≡ rest ++ parts a → b ≡ true → Decides b (MeetsHere E a) → SameAsks all new
   asks_next all old rest new a b w e f t d =
-      let here : MeetsHere E a = subst (Decides (MeetsHere E a)) t d in (
+      let here : MeetsHere E a = subst (λ b. Decides b (MeetsHere E a)) t d in (
         (λ h. subst (Each (Meets E)) (sym f) (let k : Each (Meets E) (rest ++ a ∷ []) = subst (Each (Meets E)) e (w.0 h) in each_both (Meets E) rest (parts a) (each_left (Meets E) rest (a ∷ []) k) (meets_parts a (last_meets rest a k)))),
         (λ h. let k : Each (Meets E) (rest ++ parts a) = subst (Each (Meets E)) f h in w.1 (subst (Each (Meets E)) (sym e) (each_both (Meets E) rest (a ∷ []) (each_left (Meets E) rest (parts a) k) (meets_whole a here (each_right (Meets E) rest (parts a) k), tt)))),
       )
 
   -- the last tree doesn't meet what it is asked by itself
-  pub asks_not : (all old rest : List Node) (a : Node) (b : Bool) → SameAsks all old → old ≡ rest ++ a ∷ [] → b ≡ false → Decides (MeetsHere E a) b → Each (Meets E) all → ⊥
+  pub asks_not : (all old rest : List Node) (a : Node) (b : Bool) → SameAsks all old → old ≡ rest ++ a ∷ [] → b ≡ false → Decides b (MeetsHere E a) → Each (Meets E) all → ⊥
   asks_not all old rest a b w e f d h =
-      let none : MeetsHere E a → ⊥ = subst (Decides (MeetsHere E a)) f d in
+      let none : MeetsHere E a → ⊥ = subst (λ b. Decides b (MeetsHere E a)) f d in
       none (meets_here a (last_meets rest a (subst (Each (Meets E)) e (w.0 h))))
 
   -- no tree is left

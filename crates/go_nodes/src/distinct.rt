@@ -1,24 +1,17 @@
 //! Names that stand once.
-ghost use Rattle.std.specs.Prelude.{◌≡◌, IfOk};
+ghost use Rattle.std.specs.Prelude.{IfOk};
 ghost use Rattle.go_base.specs.Growing.{Adds};
 ghost use Rattle.go_base.specs.Lists.{Once};
 ghost use Rattle.go_nodes.specs.Trees.{texts_of};
 ghost use Rattle.go_nodes.specs.inner.Notes.{Notes};
 ghost use Rattle.go_rules.specs.Asks.{AreDistinctNames};
-ghost use Rattle.go_rules.specs.Expressions.{is_blank};
 ghost use Rattle.go_selectors.specs.Answers.{Decides};
 
 use go_base::memory::NoMemory;
 use go_base::text::Text;
+use go_rules::blank::is_blank;
 use std::alloc::Global;
 use std::collections::BTreeSet;
-
-/// Whether a name is the blank one.
-pub fn is_blank(name: &Text) -> bool
-    ensures { result ≡ is_blank name.now }
-{
-    name.bytes() == b"_".as_slice()
-}
 
 // Puts a copy of a name among others, and says whether it is new.
 fn add_new(alloc: Global, names: &mut BTreeSet<Text>, name: &Text) -> Result<bool, NoMemory>
@@ -33,7 +26,7 @@ fn add_new(alloc: Global, names: &mut BTreeSet<Text>, name: &Text) -> Result<boo
 fn is_first(alloc: Global, names: &mut BTreeSet<Text>, name: &Text) -> Result<bool, NoMemory>
     ensures { IfOk result (Notes names.old.keys name.now names.new.keys) }
 {
-    if is_blank(name) {
+    if is_blank(name.bytes()) {
         return Ok(true);
     }
     let is_new = add_new(alloc, names, name)?;
@@ -42,7 +35,7 @@ fn is_first(alloc: Global, names: &mut BTreeSet<Text>, name: &Text) -> Result<bo
 
 /// Whether no two names but the blank one are the same.
 pub fn are_distinct(alloc: Global, names: &[&Text]) -> Result<bool, NoMemory>
-    ensures { IfOk result (Decides (AreDistinctNames (texts_of names.now))) }
+    ensures { IfOk result (λ answer. Decides answer (AreDistinctNames (texts_of names.now))) }
 {
     let mut seen = BTreeSet::new(alloc);
     for name in names {
@@ -55,7 +48,7 @@ pub fn are_distinct(alloc: Global, names: &[&Text]) -> Result<bool, NoMemory>
 
 /// Whether no name stands twice.
 pub fn are_once(alloc: Global, names: &[&Text]) -> Result<bool, NoMemory>
-    ensures { IfOk result (Decides (Once (texts_of names.now))) }
+    ensures { IfOk result (λ answer. Decides answer (Once (texts_of names.now))) }
 {
     let mut seen = BTreeSet::new(alloc);
     for name in names {

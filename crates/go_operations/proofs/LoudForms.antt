@@ -8,6 +8,7 @@ use Rattle.go_syntax.specs.declared.expression.Post.{Post}
 use Rattle.go_rules.specs.Environments.{Env}
 use Rattle.go_rules.specs.Expressions.{CallsAt, calls_at, IsQuietCall, is_receive}
 use Rattle.go_rules.specs.Nodes.{ExprLayer, Node, Stands, stands_here, stands_in, expression_parts, parts, expression}
+use Rattle.go_type_terms.proofs.Gone.{or_false}
 use Rattle.go_type_terms.specs.Loudness.{AreLoud, Loud, loud_receive, loud_call, Quiet}
 use Rattle.go_operations.specs.Prefixes.{is_receive_operator}
 
@@ -18,10 +19,6 @@ stands (stands_in i s) = inr (_, i, s)
 
 same_expr : {x y : Expr} → expression x ≡ expression y → x ≡ y
 same_expr e = cc
-
-or_false : (a : Bool) → (a || false) ≡ a
-or_false true = refl
-or_false false = refl
 
 module _ (E : Env) where
   -- a part that is loud makes the whole so

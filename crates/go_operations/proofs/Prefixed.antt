@@ -27,15 +27,15 @@ changes_of E prefix.Address b u o r e c = absurd (none_some e)
 changes_of E prefix.Receive b u o r e c = absurd (none_some e)
 
 -- a composite literal, where the test tells one
-decided : (e : Expr) (b : Bool) → Decides (IsComposite e) b → IsComposite e → b ≡ true
+decided : (e : Expr) (b : Bool) → Decides b (IsComposite e) → IsComposite e → b ≡ true
 decided e true d h = refl
 decided e false d h = absurd (d h)
 
-is_so : (e : Expr) (b : Bool) → Decides (IsComposite e) b → b ≡ true → IsComposite e
+is_so : (e : Expr) (b : Bool) → Decides b (IsComposite e) → b ≡ true → IsComposite e
 is_so e true d h = d
 is_so e false d h = absurd (cc)
 
-module _ (E : Env) (e : Expr) (b : Bool) (d : Decides (IsComposite e) b) where
+module _ (E : Env) (e : Expr) (b : Bool) (d : Decides b (IsComposite e)) where
   changed : (op : PrefixOperator) (u : UnaryOp) (o r : Operand) → unary_operator op ≡ Some u → Has E e o → Changes E u o r → HasForm E (Expr-F.Prefix op e) r
   changed op u o r i h (changes_constant k v) = has_constant_prefix i h k v
   changed op u o r i h (changes_value n k j a) = has_prefix i h n k j a
@@ -96,9 +96,9 @@ inner i (composite_array j) = absurd (apart (sym j ∙ i))
     apart k = absurd (cc)
 inner {x = x} i (composite_paren {x = y} j h) = subst IsComposite (ap (λ (l : ExprLayer). paren_in l y) (sym j ∙ i)) h
 
-pub paren_composite : (e x : Expr) → out-Expr e ≡ Expr-F.«Expr::Paren» x → (b : Bool) → Decides (IsComposite x) b → Decides (IsComposite e) b
+pub paren_composite : (e x : Expr) → out-Expr e ≡ Expr-F.«Expr::Paren» x → (b : Bool) → Decides b (IsComposite x) → Decides b (IsComposite e)
 paren_composite e x i true d = composite_paren i d
 paren_composite e x i false d = λ h. d (inner i h)
 
-pub paren_is : (e x y : Expr) (b : Bool) → out-Expr e ≡ Expr-F.«Expr::Paren» x → y ≡ x → Decides (IsComposite y) b → Decides (IsComposite e) b
-paren_is e x y b i j d = paren_composite e x i b (subst (λ (z : Expr). Decides (IsComposite z) b) j d)
+pub paren_is : (e x y : Expr) (b : Bool) → out-Expr e ≡ Expr-F.«Expr::Paren» x → y ≡ x → Decides b (IsComposite y) → Decides b (IsComposite e)
+paren_is e x y b i j d = paren_composite e x i b (subst (λ (z : Expr). Decides b (IsComposite z)) j d)

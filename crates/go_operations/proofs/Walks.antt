@@ -3,15 +3,8 @@ use Rattle.std.proofs.Common.{◌≡◌, List, [], ◌∷◌, ◌++◌, refl, sy
 use Rattle.go_rules.specs.Environments.{Env}
 use Rattle.go_rules.specs.Nodes.{Node}
 use Rattle.go_type_terms.specs.Loudness.{AreLoud}
+use Rattle.go_type_terms.proofs.Gone.{or_false, or_or}
 use Rattle.go_type_terms.proofs.LoudTrees.{join_loud}
-
-or_or : (a b c : Bool) → (a || (b || c)) ≡ ((a || b) || c)
-or_or true b c = refl
-or_or false b c = refl
-
-or_false : (a : Bool) → (a || false) ≡ a
-or_false true = refl
-or_false false = refl
 
 module _ {D S R : Type 0} (E : Env) (nodes : List D → List Node) (Of : S → List D → R → Type 0) where
   -- what has come of the first parts: the others go on from there

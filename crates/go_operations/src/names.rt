@@ -2,7 +2,7 @@
 ghost use Rattle.std.specs.Prelude.{◌≡◌, ℕ, List, IfOk, Some};
 ghost use Rattle.go_base.specs.Keys.{item_of};
 ghost use Rattle.go_operations.specs.inner.Imported.{DeclaresImported};
-ghost use Rattle.go_rules.specs.Expressions.{Denotes, DenotesImported, is_blank, seen_operand};
+ghost use Rattle.go_rules.specs.Expressions.{Denotes, DenotesImported, seen_operand};
 ghost use Rattle.go_rules.specs.Meanings.{seen_of};
 ghost use Rattle.go_rules.specs.Operands.{denoted};
 ghost use Rattle.go_rules.specs.declared.seen.Seen.TheVariants as seen;
@@ -16,6 +16,7 @@ use go_base::memory::NoMemory;
 use go_model::types::package::Entity;
 use go_model::types::term::Term;
 use go_operators::operands::{plain, type_name, variable};
+use go_rules::blank::is_blank;
 use go_rules::exports::is_exported;
 use go_rules::meaning::Meaning;
 use go_rules::operand::Operand;
@@ -23,13 +24,6 @@ use go_syntax::name::Name;
 use go_type_terms::error::ExprError;
 use go_usability::context::Context;
 use std::alloc::Global;
-
-/// Whether a name is the blank one.
-pub fn is_blank(name: &Name) -> bool
-    ensures { result ≡ is_blank name.now.text }
-{
-    name.text.bytes() == b"_".as_slice()
-}
 
 // What an object of a package denotes.
 fn denoted(alloc: Global, entity: &Entity) -> Result<Operand, NoMemory>
@@ -65,7 +59,7 @@ fn seen_operand(
 pub fn named(context: &Context<'_>, alloc: Global, name: &Name) -> Result<Operand, ExprError>
     ensures { Tells (Denotes (env_in context.now) name.now) result }
 {
-    if is_blank(name) {
+    if is_blank(name.text.bytes()) {
         return Err(ExprError::Untyped);
     }
     let meaning = match context.env.meaning(&name.text) {
@@ -80,7 +74,7 @@ pub fn named(context: &Context<'_>, alloc: Global, name: &Name) -> Result<Operan
 
 /// Whether a name means an imported package.
 pub fn names_import(context: &Context<'_>, name: &Name) -> bool
-    ensures { Decides ((path : List ℕ) × ((env_in context.now).meaning name.now.text ≡ Some (seen.Import path))) result }
+    ensures { Decides result ((path : List ℕ) × ((env_in context.now).meaning name.now.text ≡ Some (seen.Import path))) }
 {
     match context.env.meaning(&name.text) {
         Some(Meaning::Import(_)) => true,
@@ -92,7 +86,7 @@ pub fn names_import(context: &Context<'_>, name: &Name) -> bool
 fn imported_object<'a>(context: &Context<'a>, package: &Name, name: &Name) -> Option<&'a Entity>
     ensures { Gives (DeclaresImported (env_in context.now) «package».now name.now) (item_of result) }
 {
-    if is_blank(package) || !is_exported(name.text.bytes()) {
+    if is_blank(package.text.bytes()) || !is_exported(name.text.bytes()) {
         return None;
     }
     match context.env.meaning(&package.text) {

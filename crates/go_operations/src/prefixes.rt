@@ -20,7 +20,7 @@ use std::alloc::Global;
 // Whether an expression is a composite literal, parentheses aside.
 #[cycle(is_composite)]
 fn is_composite(expr: &Expr) -> bool
-    ensures { Decides (IsComposite expr.now) result }
+    ensures { Decides result (IsComposite expr.now) }
 {
     match expr {
         Expr::Composite(_, _) => true,

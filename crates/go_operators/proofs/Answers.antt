@@ -10,7 +10,7 @@ pub false_true : false ≡ true → ⊥
 false_true e = absurd (cc)
 
 -- what stands in the relation exactly where a fact holds, and then alone
-pub given : {A : Type 0} (P : A → Type 0) (Q : Type 0) (b : Bool) (x : A) → Decides Q b → (Q → P x) → ((y : A) → P y → Q) → Gives P (if b then Some x else None)
+pub given : {A : Type 0} (P : A → Type 0) (Q : Type 0) (b : Bool) (x : A) → Decides b Q → (Q → P x) → ((y : A) → P y → Q) → Gives P (if b then Some x else None)
 given P Q true x d f g = f d
 given P Q false x d f g = λ y p. d (g y p)
 
@@ -33,8 +33,8 @@ found_some P o x e g = subst (Gives P) e g
 pub found_none : {A : Type 0} (P : A → Type 0) (o : Option A) → o ≡ None → Gives P o → (x : A) → P x → ⊥
 found_none P o e g = subst (Gives P) e g
 
-pub decided_true : (P : Type 0) (b : Bool) → b ≡ true → Decides P b → P
-decided_true P b e d = subst (Decides P) e d
+pub decided_true : (P : Type 0) (b : Bool) → b ≡ true → Decides b P → P
+decided_true P b e d = subst (λ b. Decides b P) e d
 
-pub decided_false : (P : Type 0) (b : Bool) → b ≡ false → Decides P b → P → ⊥
-decided_false P b e d = subst (Decides P) e d
+pub decided_false : (P : Type 0) (b : Bool) → b ≡ false → Decides b P → P → ⊥
+decided_false P b e d = subst (λ b. Decides b P) e d

@@ -46,11 +46,11 @@ module _ (E : Env) (op : CompareOp) where
   applies : {l r : Operand} {d : ConstTerm} {k : Kind} → Match E l r d → HasKind E d k → Orders E op l r → comparison_applies op (class_of k) ≡ true
   applies m h (orders n g a) = subst (λ (x : Kind). comparison_applies op (class_of x) ≡ true) (one_kind (of_kind m n g) h) a
 
-  decides_order : (l r : Operand) (d : ConstTerm) (k : Kind) (b : Bool) → Match E l r d → HasKind E d k → b ≡ comparison_applies op (class_of k) → Decides (Orders E op l r) b
+  decides_order : (l r : Operand) (d : ConstTerm) (k : Kind) (b : Bool) → Match E l r d → HasKind E d k → b ≡ comparison_applies op (class_of k) → Decides b (Orders E op l r)
   decides_order l r d k true m h e = orders m h (sym e)
   decides_order l r d k false m h e = λ x. false_true (e ∙ applies m h x)
 
-  pub order_decides : (l r : Operand) (d : ConstTerm) (k : Kind) (a : Class) (b : Bool) → Match E l r d → HasKind E d k → a ≡ class_of k → b ≡ comparison_applies op a → Decides (Orders E op l r) b
+  pub order_decides : (l r : Operand) (d : ConstTerm) (k : Kind) (a : Class) (b : Bool) → Match E l r d → HasKind E d k → a ≡ class_of k → b ≡ comparison_applies op a → Decides b (Orders E op l r)
   order_decides l r d k a b m h e f = decides_order l r d k b m h (f ∙ ap (comparison_applies op) e)
 
 -- ---- constants
@@ -158,7 +158,7 @@ module _ (E : Env) where
     pub types_no_right : (Compares E u → ⊥) → Equates E l r → ⊥
     types_no_right none x = none (right_compares h g x)
 
-    pub types_decide : (b : Bool) → Compares E t → Compares E u → (UsableAs E l u → ⊥) → Decides (UsableAs E r t) b → Decides (Equates E l r) b
+    pub types_decide : (b : Bool) → Compares E t → Compares E u → (UsableAs E l u → ⊥) → Decides b (UsableAs E r t) → Decides b (Equates E l r)
     types_decide true c d none p = equates_left h g p c d
     types_decide false c d none p = λ x. p (either_usable h g none x)
 
@@ -168,7 +168,7 @@ module _ (E : Env) where
   nil_usable e (equates_untyped i p c) = p
   nil_usable e (equates_nil p) = p
 
-  pub nil_decides : (o : Operand) (t : Term) (b : Bool) → o ≡ nil → Decides (UsableAs E o t) b → Decides (EquatesType E o t) b
+  pub nil_decides : (o : Operand) (t : Term) (b : Bool) → o ≡ nil → Decides b (UsableAs E o t) → Decides b (EquatesType E o t)
   nil_decides o t true e p = subst (λ (x : Operand). EquatesType E x t) (sym e) (equates_nil (subst (λ (x : Operand). UsableAs E x t) e p))
   nil_decides o t false e p = λ x. p (nil_usable e x)
 
@@ -193,7 +193,7 @@ module _ (E : Env) where
   pub type_no_compares : (o : Operand) (k : Untyped) (t : Term) → IsUntyped o k → (Compares E t → ⊥) → EquatesType E o t → ⊥
   type_no_compares o k t i no_compares x = no_compares (type_compares (untyped_not_nil i) x)
 
-  pub type_decides : (o : Operand) (k : Untyped) (t : Term) (b : Bool) → IsUntyped o k → Compares E t → Decides (UsableAs E o t) b → Decides (EquatesType E o t) b
+  pub type_decides : (o : Operand) (k : Untyped) (t : Term) (b : Bool) → IsUntyped o k → Compares E t → Decides b (UsableAs E o t) → Decides b (EquatesType E o t)
   type_decides o k t true i c p = equates_untyped i p c
   type_decides o k t false i c p = λ x. p (type_usable x)
 
@@ -217,7 +217,7 @@ module _ (E : Env) where
   abbrev pub IsKind : ConstTerm → Type 0
   IsKind d = (k : Untyped) × (d ≡ constant.OfKind k)
 
-  pub kinds_decides : (l r : Operand) (d : ConstTerm) (b : Bool) → Match E l r d → Decides (IsKind d) b → Decides (EquatesKinds E l r) b
+  pub kinds_decides : (l r : Operand) (d : ConstTerm) (b : Bool) → Match E l r d → Decides b (IsKind d) → Decides b (EquatesKinds E l r)
   kinds_decides l r d true m i = equates_both (subst (Match E l r) i.1 m)
   kinds_decides l r d false m i = λ x. i ((kinds_match x).0, one_match m (kinds_match x).1)
 
@@ -236,7 +236,7 @@ module _ (E : Env) where
   of_left none g (equates_nil_left a p) = equates_nil (subst (UsableAs E nil) (one_type a g) p)
   of_left none g (equates_nil_right a p) = absurd (none _ a)
 
-  pub left_decides : (l r : Operand) (u : Term) (b : Bool) → ((t : Term) → IsTyped l t → ⊥) → IsTyped r u → Decides (EquatesType E l u) b → Decides (Equates E l r) b
+  pub left_decides : (l r : Operand) (u : Term) (b : Bool) → ((t : Term) → IsTyped l t → ⊥) → IsTyped r u → Decides b (EquatesType E l u) → Decides b (Equates E l r)
   left_decides l r u true none g d = untyped_left g d
   left_decides l r u false none g d = λ x. d (of_left none g x)
 
@@ -253,7 +253,7 @@ module _ (E : Env) where
   of_right h none (equates_nil_left a p) = absurd (none _ a)
   of_right h none (equates_nil_right a p) = equates_nil (subst (UsableAs E nil) (one_type a h) p)
 
-  pub right_decides : (l r : Operand) (t : Term) (b : Bool) → IsTyped l t → ((u : Term) → IsTyped r u → ⊥) → Decides (EquatesType E r t) b → Decides (Equates E l r) b
+  pub right_decides : (l r : Operand) (t : Term) (b : Bool) → IsTyped l t → ((u : Term) → IsTyped r u → ⊥) → Decides b (EquatesType E r t) → Decides b (Equates E l r)
   right_decides l r t true h none d = untyped_right h d
   right_decides l r t false h none d = λ x. d (of_right h none x)
 
@@ -269,7 +269,7 @@ module _ (E : Env) where
   of_kinds none no_right (equates_nil_left a p) = absurd (no_right _ a)
   of_kinds none no_right (equates_nil_right a p) = absurd (none _ a)
 
-  pub kinds_decide : (l r : Operand) (b : Bool) → ((t : Term) → IsTyped l t → ⊥) → ((u : Term) → IsTyped r u → ⊥) → Decides (EquatesKinds E l r) b → Decides (Equates E l r) b
+  pub kinds_decide : (l r : Operand) (b : Bool) → ((t : Term) → IsTyped l t → ⊥) → ((u : Term) → IsTyped r u → ⊥) → Decides b (EquatesKinds E l r) → Decides b (Equates E l r)
   kinds_decide l r true none no_right d = kinds_equate d
   kinds_decide l r false none no_right d = λ x. d (of_kinds none no_right x)
 
@@ -281,7 +281,7 @@ module _ (E : Env) (op : CompareOp) where
   equated c q (comparison_equality f p x) = x
   equated c q (comparison_order f p m h a) = absurd (false_true (sym p ∙ q))
 
-  pub compare_equality : (l r : Operand) (b : Bool) → (is_constant l.mode && is_constant r.mode) ≡ false → is_equality op ≡ true → Decides (Equates E l r) b → Gives (IsComparison E op l r) (if b then Some (loose untyped.BoolKind) else None)
+  pub compare_equality : (l r : Operand) (b : Bool) → (is_constant l.mode && is_constant r.mode) ≡ false → is_equality op ≡ true → Decides b (Equates E l r) → Gives (IsComparison E op l r) (if b then Some (loose untyped.BoolKind) else None)
   compare_equality l r true c q d = comparison_equality c q d
   compare_equality l r false c q d = λ s x. d (equated c q x)
 
@@ -293,6 +293,6 @@ module _ (E : Env) (op : CompareOp) where
   order_compared : {l r : Operand} → (is_constant l.mode && is_constant r.mode) ≡ false → is_equality op ≡ false → Orders E op l r → IsComparison E op l r (loose untyped.BoolKind)
   order_compared c q (orders m h a) = comparison_order c q m h a
 
-  pub compare_order : (l r : Operand) (b : Bool) → (is_constant l.mode && is_constant r.mode) ≡ false → is_equality op ≡ false → Decides (Orders E op l r) b → Gives (IsComparison E op l r) (if b then Some (loose untyped.BoolKind) else None)
+  pub compare_order : (l r : Operand) (b : Bool) → (is_constant l.mode && is_constant r.mode) ≡ false → is_equality op ≡ false → Decides b (Orders E op l r) → Gives (IsComparison E op l r) (if b then Some (loose untyped.BoolKind) else None)
   compare_order l r true c q d = order_compared c q d
   compare_order l r false c q d = λ s x. d (ordered c q x)

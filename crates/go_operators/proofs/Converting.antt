@@ -48,7 +48,7 @@ module _ (E : Env) where
   is_converted : {t u : Term} {r : Operand} → ConvertsType E t u r → Convertible E t u
   is_converted (converts_type c) = c
 
-  pub type_converts : (t u : Term) (b : Bool) → Decides (Convertible E t u) b → Gives (ConvertsType E t u) (if b then Some (plain u) else None)
+  pub type_converts : (t u : Term) (b : Bool) → Decides b (Convertible E t u) → Gives (ConvertsType E t u) (if b then Some (plain u) else None)
   type_converts t u b d = given (ConvertsType E t u) (Convertible E t u) b (plain u) d (λ c. converts_type c) (λ r x. is_converted x)
 
   pub default_converts : (k : Untyped) (b : Basic) (t u : Term) (r : Option Operand) → default_type k ≡ basic_term b → t ≡ basic_term b → Gives (ConvertsType E t u) r → Gives (ConvertsType E (default_type k) u) r
@@ -162,11 +162,11 @@ module _ (E : Env) where
   nil_usable (converts_value n h a) = elim h [ ]
   nil_usable (converts_nil p) = p
 
-  nil_gives : (u : Term) (b : Bool) → Decides (UsableAs E nil u) b → Gives (Converts E nil u) (if b then Some (plain u) else None)
+  nil_gives : (u : Term) (b : Bool) → Decides b (UsableAs E nil u) → Gives (Converts E nil u) (if b then Some (plain u) else None)
   nil_gives u b d = given (Converts E nil u) (UsableAs E nil u) b (plain u) d (λ p. converts_nil p) (λ r x. nil_usable x)
 
-  pub convert_nil : (o : Operand) (u : Term) (b : Bool) → o ≡ nil → Decides (UsableAs E o u) b → Gives (Converts E o u) (if b then Some (plain u) else None)
-  convert_nil o u b e d = subst (λ (x : Operand). Gives (Converts E x u) (if b then Some (plain u) else None)) (sym e) (nil_gives u b (subst (λ (x : Operand). Decides (UsableAs E x u) b) e d))
+  pub convert_nil : (o : Operand) (u : Term) (b : Bool) → o ≡ nil → Decides b (UsableAs E o u) → Gives (Converts E o u) (if b then Some (plain u) else None)
+  convert_nil o u b e d = subst (λ (x : Operand). Gives (Converts E x u) (if b then Some (plain u) else None)) (sym e) (nil_gives u b (subst (λ (x : Operand). Decides b (UsableAs E x u)) e d))
 
   loose_is : {k : Untyped} {u : Term} {r : Operand} → ConvertsType E (default_type k) u r → Converts E (loose k) u r
   loose_is (converts_type c) = converts_truth c
@@ -235,6 +235,6 @@ module _ (E : Env) where
   same_default : (k : Untyped) (b d : Basic) → default_type k ≡ basic_term b → out-Term (default_type k) ≡ Term-F.Plain d → b ≡ d
   same_default k b d e f = same_basic (sym (ap out-Term e ∙ out-roll-Term (Term-F.Plain b)) ∙ f)
 
-  pub default_decides : (k : Untyped) (v : Value) (b : Basic) (n : ℕ) (r : Bool) → default_type k ≡ basic_term b → n ≡ E.bits → r ≡ is_representable v b n → Decides (DefaultHolds E k v) r
+  pub default_decides : (k : Untyped) (v : Value) (b : Basic) (n : ℕ) (r : Bool) → default_type k ≡ basic_term b → n ≡ E.bits → r ≡ is_representable v b n → Decides r (DefaultHolds E k v)
   default_decides k v b n true e f g = basic_holds k v b e (sym (g ∙ ap (is_representable v b) f))
   default_decides k v b n false e f g = λ x. false_true (g ∙ ap (is_representable v b) f ∙ ap (λ (y : Basic). is_representable v y E.bits) (same_default k b x.0 e x.1) ∙ x.2)

@@ -54,12 +54,12 @@ module _ (E : Env) where
   typed_integer (count_value n h e i) = absurd (no_truth n)
   typed_integer (count_typed e i) = (_, e, i)
 
-  count_typed_decides : (t : Term) (v : Value) (b : Bool) → IsNatural v → Decides (IsIntegerType E t) b → Decides (Counts E (constant_of (constant.OfTerm t) v)) b
+  count_typed_decides : (t : Term) (v : Value) (b : Bool) → IsNatural v → Decides b (IsIntegerType E t) → Decides b (Counts E (constant_of (constant.OfTerm t) v))
   count_typed_decides t v true n d = natural_typed t v n d
   count_typed_decides t v false n d = λ x. d (typed_integer x.1)
 
-  pub counts_typed : (c : ConstTerm) (t : Term) (v : Value) (b : Bool) → c ≡ constant.OfTerm t → IsNatural v → Decides (IsIntegerType E t) b → Decides (Counts E (constant_of c v)) b
-  counts_typed c t v b e n d = subst (λ (x : ConstTerm). Decides (Counts E (constant_of x v)) b) (sym e) (count_typed_decides t v b n d)
+  pub counts_typed : (c : ConstTerm) (t : Term) (v : Value) (b : Bool) → c ≡ constant.OfTerm t → IsNatural v → Decides b (IsIntegerType E t) → Decides b (Counts E (constant_of c v))
+  counts_typed c t v b e n d = subst (λ (x : ConstTerm). Decides b (Counts E (constant_of x v))) (sym e) (count_typed_decides t v b n d)
 
   natural_untyped : (k : Untyped) (v : Value) → IsNatural v → is_representable v basic.Uint E.bits ≡ true → Counts E (constant_of (constant.OfKind k) v)
   natural_untyped k v n r = subst (λ (x : Value). Counts E (constant_of (constant.OfKind k) x)) (sym n.1) (Some (value.Int (pos n.0)), count_untyped (subst (λ (x : Value). is_representable x basic.Uint E.bits ≡ true) n.1 r))
@@ -68,15 +68,15 @@ module _ (E : Env) where
   untyped_within (count_value n h e i) = absurd (no_truth n)
   untyped_within (count_untyped e) = e
 
-  count_untyped_decides : (k : Untyped) (v : Value) (b : Bool) → IsNatural v → b ≡ is_representable v basic.Uint E.bits → Decides (Counts E (constant_of (constant.OfKind k) v)) b
+  count_untyped_decides : (k : Untyped) (v : Value) (b : Bool) → IsNatural v → b ≡ is_representable v basic.Uint E.bits → Decides b (Counts E (constant_of (constant.OfKind k) v))
   count_untyped_decides k v true n d = natural_untyped k v n (sym d)
   count_untyped_decides k v false n d = λ x. false_true (d ∙ untyped_within x.1)
 
-  pub counts_untyped : (c : ConstTerm) (k : Untyped) (v : Value) (n : ℕ) (b : Bool) → c ≡ constant.OfKind k → IsNatural v → n ≡ E.bits → b ≡ is_representable v basic.Uint n → Decides (Counts E (constant_of c v)) b
-  counts_untyped c k v n b e m f g = subst (λ (x : ConstTerm). Decides (Counts E (constant_of x v)) b) (sym e) (count_untyped_decides k v b m (g ∙ ap (is_representable v basic.Uint) f))
+  pub counts_untyped : (c : ConstTerm) (k : Untyped) (v : Value) (n : ℕ) (b : Bool) → c ≡ constant.OfKind k → IsNatural v → n ≡ E.bits → b ≡ is_representable v basic.Uint n → Decides b (Counts E (constant_of c v))
+  counts_untyped c k v n b e m f g = subst (λ (x : ConstTerm). Decides b (Counts E (constant_of x v))) (sym e) (count_untyped_decides k v b m (g ∙ ap (is_representable v basic.Uint) f))
 
-  pub counts_constant : (o : Operand) (c : ConstTerm) (v : Value) (b : Bool) → o ≡ constant_of c v → Decides (Counts E (constant_of c v)) b → Decides (Counts E o) b
-  counts_constant o c v b e d = subst (λ (x : Operand). Decides (Counts E x) b) (sym e) d
+  pub counts_constant : (o : Operand) (c : ConstTerm) (v : Value) (b : Bool) → o ≡ constant_of c v → Decides b (Counts E (constant_of c v)) → Decides b (Counts E o)
+  counts_constant o c v b e d = subst (λ (x : Operand). Decides b (Counts E x)) (sym e) d
 
   value_counts : {o : Operand} → IsIntegerValue E o → Counts E o
   value_counts i = (None, count_value i.variable i.typed i.under_term i.integer)
@@ -86,7 +86,7 @@ module _ (E : Env) where
   counts_value none (count_typed e i) = absurd (none _ _ refl)
   counts_value none (count_untyped e) = absurd (none _ _ refl)
 
-  pub count_value_decides : (o : Operand) (b : Bool) → ((c : ConstTerm) (v : Value) → o ≡ constant_of c v → ⊥) → Decides (IsIntegerValue E o) b → Decides (Counts E o) b
+  pub count_value_decides : (o : Operand) (b : Bool) → ((c : ConstTerm) (v : Value) → o ≡ constant_of c v → ⊥) → Decides b (IsIntegerValue E o) → Decides b (Counts E o)
   count_value_decides o true none d = value_counts d
   count_value_decides o false none d = λ x. d (counts_value none x.1)
 
@@ -119,7 +119,7 @@ module _ (E : Env) where
   of_integer : {o r : Operand} {t : Term} → IsTyped o t → IntegerValue E o r → IsIntegerType E t
   of_integer h (integer_value {b = b} g e i) = (b, ap (under E.table) (one_type h g) ∙ e, i)
 
-  pub integer_typed : (o : Operand) (t : Term) (b : Bool) → IsTyped o t → Decides (IsIntegerType E t) b → Gives (IntegerValue E o) (if b then Some (plain t) else None)
+  pub integer_typed : (o : Operand) (t : Term) (b : Bool) → IsTyped o t → Decides b (IsIntegerType E t) → Gives (IntegerValue E o) (if b then Some (plain t) else None)
   integer_typed o t b h d = given (IntegerValue E o) (IsIntegerType E t) b (plain t) d (λ i. integer_value h i.1 i.2) (λ r x. of_integer h x)
 
   -- ---- the result

@@ -136,10 +136,10 @@ pub of_nothing : (o : Operand) → ((t : Term) → IsTyped o t → ⊥) → ((k 
 of_nothing o none no_kind c x = of_neither none no_kind x
 
 module _ (E : Env) where
-  pub integer_decides : (o : Operand) (t : Term) (b : Bool) → is_constant o.mode ≡ false → IsTyped o t → Decides ((k : Basic) × (under E.table t ≡ Term-F.Plain k) × (is_integer (class_of_basic k) ≡ true)) b → Decides (IsIntegerValue E o) b
+  pub integer_decides : (o : Operand) (t : Term) (b : Bool) → is_constant o.mode ≡ false → IsTyped o t → Decides b ((k : Basic) × (under E.table t ≡ Term-F.Plain k) × (is_integer (class_of_basic k) ≡ true)) → Decides b (IsIntegerValue E o)
   integer_decides o t true n h d = record { variable = n; term = t; typed = h; underlying = d.0; under_term = d.1; integer = d.2 }
   integer_decides o t false n h d = λ x. d (x.underlying, ap (under E.table) (one_type h x.typed) ∙ x.under_term, x.integer)
 
-  pub string_decides : (o : Operand) (t : Term) (b : Bool) → is_constant o.mode ≡ false → IsTyped o t → Decides (under E.table t ≡ Term-F.Plain basic.Str) b → Decides (IsStringValue E o) b
+  pub string_decides : (o : Operand) (t : Term) (b : Bool) → is_constant o.mode ≡ false → IsTyped o t → Decides b (under E.table t ≡ Term-F.Plain basic.Str) → Decides b (IsStringValue E o)
   string_decides o t true n h d = record { variable = n; term = t; typed = h; under_term = d }
   string_decides o t false n h d = λ x. d (ap (under E.table) (one_type h x.typed) ∙ x.under_term)

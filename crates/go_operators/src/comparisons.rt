@@ -40,7 +40,7 @@ fn is_ordered(
     left: &Operand,
     right: &Operand,
 ) -> Result<bool, NoMemory>
-    ensures { IfOk result (Decides (Orders (env_of context.now.env.now) op left.now right.now)) }
+    ensures { IfOk result (λ answer. Decides answer (Orders (env_of context.now.env.now) op left.now right.now)) }
 {
     let term = match matching(context, alloc, left, right)? {
         Some(term) => term,
@@ -88,7 +88,7 @@ fn compare_constants(
 
 // Whether values of a type can be compared.
 fn is_comparable(context: &Context<'_>, alloc: Global, term: &Term) -> Result<bool, NoMemory>
-    ensures { IfOk result (Decides (Compares (env_of context.now.env.now) term.now)) }
+    ensures { IfOk result (λ answer. Decides answer (Compares (env_of context.now.env.now) term.now)) }
 {
     compares(context, alloc, term)
 }
@@ -104,7 +104,7 @@ fn equates_types(
 ) -> Result<bool, NoMemory>
     requires left { IsTyped left.now term.now }
     requires right { IsTyped right.now other.now }
-    ensures { IfOk result (Decides (Equates (env_of context.now.env.now) left.now right.now)) }
+    ensures { IfOk result (λ answer. Decides answer (Equates (env_of context.now.env.now) left.now right.now)) }
 {
     let left_compares = is_comparable(context, alloc, term)?;
     if !left_compares {
@@ -131,7 +131,7 @@ fn equates_kind(
     term: &Term,
 ) -> Result<bool, NoMemory>
     requires { IsUntyped operand.now kind }
-    ensures { IfOk result (Decides (EquatesType (env_of context.now.env.now) operand.now term.now)) }
+    ensures { IfOk result (λ answer. Decides answer (EquatesType (env_of context.now.env.now) operand.now term.now)) }
 {
     let compared = is_comparable(context, alloc, term)?;
     if !compared {
@@ -148,7 +148,7 @@ fn equates_type(
     operand: &Operand,
     term: &Term,
 ) -> Result<bool, NoMemory>
-    ensures { IfOk result (Decides (EquatesType (env_of context.now.env.now) operand.now term.now)) }
+    ensures { IfOk result (λ answer. Decides answer (EquatesType (env_of context.now.env.now) operand.now term.now)) }
 {
     if is_nil(operand) {
         let answer = is_usable(context, alloc, operand, term)?;
@@ -161,7 +161,7 @@ fn equates_type(
 }
 
 fn is_kind(of: &ConstTerm) -> bool
-    ensures { Decides ((k : Untyped) × (of.now ≡ constant.OfKind k)) result }
+    ensures { Decides result ((k : Untyped) × (of.now ≡ constant.OfKind k)) }
 {
     match of {
         ConstTerm::OfTerm(_) => false,
@@ -176,7 +176,7 @@ fn equates_kinds(
     left: &Operand,
     right: &Operand,
 ) -> Result<bool, NoMemory>
-    ensures { IfOk result (Decides (EquatesKinds (env_of context.now.env.now) left.now right.now)) }
+    ensures { IfOk result (λ answer. Decides answer (EquatesKinds (env_of context.now.env.now) left.now right.now)) }
 {
     match matching(context, alloc, left, right)? {
         Some(of) => Ok(is_kind(&of)),
@@ -193,7 +193,7 @@ fn equates_typed(
     term: &Term,
 ) -> Result<bool, NoMemory>
     requires { IsTyped left.now term.now }
-    ensures { IfOk result (Decides (Equates (env_of context.now.env.now) left.now right.now)) }
+    ensures { IfOk result (λ answer. Decides answer (Equates (env_of context.now.env.now) left.now right.now)) }
 {
     match type_of(right) {
         Some(other) => equates_types(context, alloc, left, right, term, other),
@@ -212,7 +212,7 @@ fn equates_untyped(
     right: &Operand,
 ) -> Result<bool, NoMemory>
     requires { (t : Term) → IsTyped left.now t → ⊥ }
-    ensures { IfOk result (Decides (Equates (env_of context.now.env.now) left.now right.now)) }
+    ensures { IfOk result (λ answer. Decides answer (Equates (env_of context.now.env.now) left.now right.now)) }
 {
     match type_of(right) {
         Some(term) => {
@@ -232,7 +232,7 @@ fn equates(
     left: &Operand,
     right: &Operand,
 ) -> Result<bool, NoMemory>
-    ensures { IfOk result (Decides (Equates (env_of context.now.env.now) left.now right.now)) }
+    ensures { IfOk result (λ answer. Decides answer (Equates (env_of context.now.env.now) left.now right.now)) }
 {
     match type_of(left) {
         Some(term) => equates_typed(context, alloc, left, right, term),

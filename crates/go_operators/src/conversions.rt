@@ -38,7 +38,7 @@ fn default_basic(kind: Untyped) -> Basic
 
 /// Whether the default type of an untyped kind can hold a value.
 pub fn default_holds(context: &Context<'_>, kind: Untyped, value: &Value) -> bool
-    ensures { Decides (DefaultHolds (env_of context.now.env.now) kind value.now) result }
+    ensures { Decides result (DefaultHolds (env_of context.now.env.now) kind value.now) }
 {
     representable(value, default_basic(kind), context.env.bits())
 }

@@ -44,7 +44,7 @@ pub fn is_composed_under(context: &Context<'_>, term: &Term) -> bool
 
 /// Whether there is an integer type underneath.
 pub fn is_integer(context: &Context<'_>, term: &Term) -> bool
-    ensures { Decides ((b : Basic) × (under (env_of context.now.env.now).table term.now ≡ Term-F.Plain b) × (is_integer (class_of_basic b) ≡ true)) result }
+    ensures { Decides result ((b : Basic) × (under (env_of context.now.env.now).table term.now ≡ Term-F.Plain b) × (is_integer (class_of_basic b) ≡ true)) }
 {
     match basic_under(context, term) {
         Some(basic) => matches!(basic.class(), Class::Integer),
@@ -54,7 +54,7 @@ pub fn is_integer(context: &Context<'_>, term: &Term) -> bool
 
 /// Whether there is `string` underneath.
 pub fn is_string(context: &Context<'_>, term: &Term) -> bool
-    ensures { Decides (under (env_of context.now.env.now).table term.now ≡ Term-F.Plain basic.Str) result }
+    ensures { Decides result (under (env_of context.now.env.now).table term.now ≡ Term-F.Plain basic.Str) }
 {
     matches!(basic_under(context, term), Some(Basic::Str))
 }
@@ -101,7 +101,7 @@ pub fn function_under<'a>(context: &Context<'a>, term: &'a Term) -> Option<&'a S
 
 /// Whether there is an interface underneath.
 pub fn is_interface(context: &Context<'_>, term: &Term) -> bool
-    ensures { Decides ((ms : List Method) × (under (env_of context.now.env.now).table term.now ≡ Term-F.Interface ms)) result }
+    ensures { Decides result ((ms : List Method) × (under (env_of context.now.env.now).table term.now ≡ Term-F.Interface ms)) }
 {
     matches!(context.under(term), Term::Interface(_))
 }

@@ -1,6 +1,5 @@
 //! Operators before an operand.
 ghost use Rattle.std.specs.Prelude.{◌≡◌, IfOk, false};
-ghost use Rattle.go_model.specs.types.Terms.{pointer_to};
 ghost use Rattle.go_rules.specs.Expressions.{is_constant, receives};
 ghost use Rattle.go_rules.specs.Operands.{constant_of};
 ghost use Rattle.go_rules.specs.Scopes.{env_of};
@@ -17,11 +16,10 @@ use crate::operands::{
 use crate::values::{constant_of, is_constant, is_variable, kind_of, term_of, type_in, type_of};
 use go_base::memory::NoMemory;
 use go_base::operator::PrefixOperator;
-use go_base::shared::Shared;
 use go_const::operation::unary;
 use go_model::constants::value::{UnaryOp, Value};
 use go_model::types::package::ConstTerm;
-use go_model::types::term::{Direction, Term};
+use go_model::types::term::{Direction, Term, pointer_to};
 use go_rules::operand::{Mode, Operand};
 use go_usability::context::Context;
 use std::alloc::Global;
@@ -85,13 +83,6 @@ fn change(
     change_value(context, alloc, op, operand)
 }
 
-/// The pointer type of an equal base.
-pub fn pointer_to(alloc: Global, term: &Term) -> Result<Term, NoMemory>
-    ensures { IfOk result (λ pointer. pointer ≡ pointer_to term.now) }
-{
-    Ok(Term::Pointer(Shared::new(alloc, term.copy(alloc)?)?))
-}
-
 fn dereference(
     context: &Context<'_>,
     alloc: Global,
@@ -137,7 +128,7 @@ fn addressed(composite: bool, operand: &Operand) -> Option<&Term>
 }
 
 fn is_plain(mode: Mode) -> bool
-    ensures { Decides (mode ≡ Mode.Plain) result }
+    ensures { Decides result (mode ≡ Mode.Plain) }
 {
     matches!(mode, Mode::Plain)
 }

@@ -25,7 +25,7 @@ use std::alloc::Global;
 
 // Whether it is a whole number from 0.
 fn is_natural(value: &Value) -> bool
-    ensures { Decides ((n : ℕ) × (value.now ≡ v.Int (pos n))) result }
+    ensures { Decides result ((n : ℕ) × (value.now ≡ v.Int (pos n))) }
 {
     match value {
         Value::Int(number) => *number >= 0,
@@ -35,7 +35,7 @@ fn is_natural(value: &Value) -> bool
 
 // Whether a shift's count may be this constant.
 fn is_constant_count(context: &Context<'_>, term: &ConstTerm, value: &Value) -> bool
-    ensures { Decides ((w : Option Value) × IsCount (env_of context.now.env.now) (constant_of term.now value.now) w) result }
+    ensures { Decides result ((w : Option Value) × IsCount (env_of context.now.env.now) (constant_of term.now value.now) w) }
 {
     if !is_natural(value) {
         return false;
@@ -48,7 +48,7 @@ fn is_constant_count(context: &Context<'_>, term: &ConstTerm, value: &Value) -> 
 
 // Whether a shift's count may be this operand.
 fn is_count(context: &Context<'_>, operand: &Operand) -> bool
-    ensures { Decides ((w : Option Value) × IsCount (env_of context.now.env.now) operand.now w) result }
+    ensures { Decides result ((w : Option Value) × IsCount (env_of context.now.env.now) operand.now w) }
 {
     if let Some((term, value)) = constant_of(operand) {
         return is_constant_count(context, term, value);

@@ -46,7 +46,7 @@ pub fn is_variable(mode: Mode) -> bool
 
 /// Whether it is the predeclared `nil`.
 pub fn is_nil(operand: &Operand) -> bool
-    ensures { Decides (operand.now ≡ nil) result }
+    ensures { Decides result (operand.now ≡ nil) }
 {
     matches!((operand.mode, &operand.shape), (Mode::Nil, Shape::Empty))
 }
@@ -106,7 +106,7 @@ pub fn untyped_of(operand: &Operand) -> Option<Untyped>
 
 /// Whether it is a truth value that is neither constant nor typed.
 pub fn is_loose_truth(operand: &Operand) -> bool
-    ensures { Decides (operand.now ≡ loose untyped.BoolKind) result }
+    ensures { Decides result (operand.now ≡ loose untyped.BoolKind) }
 {
     matches!(
         (operand.mode, &operand.shape),
@@ -166,7 +166,7 @@ pub fn value_in(operand: &Operand) -> Option<&Value>
 
 /// Whether it is a value of an integer type that isn't constant.
 pub fn is_integer_value(context: &Context<'_>, operand: &Operand) -> bool
-    ensures { Decides (IsIntegerValue (env_of context.now.env.now) operand.now) result }
+    ensures { Decides result (IsIntegerValue (env_of context.now.env.now) operand.now) }
 {
     if is_constant(operand.mode) {
         return false;
@@ -179,7 +179,7 @@ pub fn is_integer_value(context: &Context<'_>, operand: &Operand) -> bool
 
 /// Whether it is a value of a string type that isn't constant.
 pub fn is_string_value(context: &Context<'_>, operand: &Operand) -> bool
-    ensures { Decides (IsStringValue (env_of context.now.env.now) operand.now) result }
+    ensures { Decides result (IsStringValue (env_of context.now.env.now) operand.now) }
 {
     if is_constant(operand.mode) {
         return false;
@@ -197,7 +197,7 @@ pub fn is_usable(
     operand: &Operand,
     term: &Term,
 ) -> Result<bool, NoMemory>
-    ensures { IfOk result (Decides (UsableAs (env_of context.now.env.now) operand.now term.now)) }
+    ensures { IfOk result (λ answer. Decides answer (UsableAs (env_of context.now.env.now) operand.now term.now)) }
 {
     usable(context, alloc, operand, term)
 }

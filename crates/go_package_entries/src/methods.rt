@@ -6,7 +6,6 @@ ghost use Rattle.go_declared.specs.AliasEnds.{AreEnds};
 ghost use Rattle.go_declared.specs.MethodTables.{method_name};
 ghost use Rattle.go_declared.specs.NameTables.{AreDeclared};
 ghost use Rattle.go_declared.specs.NamesakeTables.{rows_at};
-ghost use Rattle.go_rules.specs.Expressions.{is_blank};
 ghost use Rattle.go_rules.specs.Names.{items_at};
 ghost use Rattle.go_typings.specs.Receivers.{base, selector};
 ghost use Rattle.go_package_entries.specs.Settings.{setting_of};
@@ -22,16 +21,11 @@ use go_declared::bases::base;
 use go_declared::methods::MethodRow;
 use go_model::types::package::MethodOf;
 use go_model::types::term::Signature;
+use go_rules::blank::is_blank;
 use go_rules::env::Env;
 use go_syntax::declaration::Func;
 use go_syntax::types::ParameterDecl;
 use std::alloc::Global;
-
-fn is_blank(name: &[u8]) -> bool
-    ensures { result ≡ is_blank name.now }
-{
-    name == b"_".as_slice()
-}
 
 // The method of a name with a signature.
 fn method_of(

@@ -1,5 +1,4 @@
 pub mod SameEnvironments
-pub mod WholeRegion
 pub mod SameAnswers
 pub mod DeclaredNames
 pub mod NumberedMethods

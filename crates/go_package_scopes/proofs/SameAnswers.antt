@@ -18,7 +18,7 @@ use Rattle.go_typings.proofs.Cells.{if_false}
 use Rattle.go_typings.proofs.SameAsks.{KeepsBase}
 use Rattle.go_package_scopes.specs.PackageScopes.{at_declaration, IsScopeOf}
 use Rattle.go_package_scopes.proofs.SameEnvironments.{scope_gives_back, scope_has}
-use Rattle.go_package_scopes.proofs.WholeRegion.{asks_more, finds_more, names_back}
+use Rattle.go_typings.proofs.WholeRegion.{asks_more, finds_more, names_back}
 
 module _ (u : PackageSource) (named : u.path ≢ []) (E F : Env) (m : Grows E F) where
   abbrev own : List ℕ → TypeName

@@ -8,7 +8,6 @@ ghost use Rattle.go_declared.specs.MethodTables.{AreMethods, method_name, name_b
 ghost use Rattle.go_had_entries.specs.HadEntries.{entries_at, found_entry};
 ghost use Rattle.go_packages.specs.inner.HadMethods.{AreSorted, had_by, had_methods, method_at};
 ghost use Rattle.go_rules.specs.Environments.{is_exported};
-ghost use Rattle.go_rules.specs.Expressions.{is_blank};
 ghost use Rattle.go_sources.specs.UnitSources.{source_of};
 ghost use Rattle.go_typings.specs.Declarations.{declarations as all_declarations};
 ghost use Rattle.go_typings.specs.PackageEnvironments.{signature_of};
@@ -25,15 +24,10 @@ use go_had_entries::had::HadEntries;
 use go_model::types::names::Sel;
 use go_model::types::package::MethodOf;
 use go_model::types::term::Signature;
+use go_rules::blank::is_blank;
 use go_rules::exports::is_exported;
 use go_units::unit::Unit;
 use std::alloc::Global;
-
-fn is_blank(name: &[u8]) -> bool
-    ensures { result ≡ is_blank name.now }
-{
-    name == b"_".as_slice()
-}
 
 fn name_by<'a>(form: Form<'a>) -> &'a [u8]
     ensures { result.now ≡ name_by (form_of form.entry) }

@@ -13,6 +13,7 @@ ghost use Rattle.go_typings.specs.Typings.{IsTyping};
 use crate::defined::defined_types;
 use crate::objects::objects;
 use go_base::memory::NoMemory;
+use go_base::shared::Shared;
 use go_base::text::Text;
 use go_declarations::listing::Declaration;
 use go_declared::methods::DeclaredMethods;
@@ -41,11 +42,13 @@ pub fn package(
     let listed = names.in_order(alloc)?;
     let objects = objects(alloc, &unit.path, declarations, listed.items(), had)?;
     let defined = defined_types(alloc, unit, declarations, methods, listed.items(), had)?;
+    let shared_objects = Shared::new(alloc, objects)?;
+    let shared_defined = Shared::new(alloc, defined)?;
     Ok(Package {
         path: Text::of(alloc, unit.path.bytes())?,
         name: Text::of(alloc, unit.name.bytes())?,
         from_std: unit.from_std,
-        objects,
-        defined,
+        objects: shared_objects,
+        defined: shared_defined,
     })
 }

@@ -10,9 +10,6 @@ use Rattle.go_reading.specs.TreeFolders.{import_path}
 use Rattle.go_reading.specs.inner.Gathering.{IsKept, standing_at, Gathers}
 use Rattle.go_reading.specs.inner.Groups.{Groups, group, files_in, listed, AreFull}
 
-pub append_none : (xs : List TreeFile) → xs ≡ xs ++ []
-append_none xs = sym (append-nil xs)
-
 pub listed_last : (xs : List TreeFile) (f : TreeFile) → Some (xs ++ f ∷ []) ≡ listed (xs ++ f ∷ [])
 listed_last [] f = refl
 listed_last (x ∷ xs) f = refl
@@ -20,7 +17,7 @@ listed_last (x ∷ xs) f = refl
 -- what a group has after a file was put there, or wasn't
 one_more : (b : Bool) (o : Option (List TreeFile)) (f : TreeFile) → unwrap_or (cond b (Some (unwrap_or o [] ++ f ∷ [])) o) [] ≡ unwrap_or o [] ++ cond b (f ∷ []) []
 one_more true o f = refl
-one_more false o f = append_none (unwrap_or o [])
+one_more false o f = sym (append-nil (unwrap_or o []))
 
 still_full : (b : Bool) (o : Option (List TreeFile)) (f : TreeFile) → o ≡ listed (unwrap_or o []) → cond b (Some (unwrap_or o [] ++ f ∷ [])) o ≡ listed (unwrap_or (cond b (Some (unwrap_or o [] ++ f ∷ [])) o) [])
 still_full true o f h = listed_last (unwrap_or o []) f
@@ -28,7 +25,7 @@ still_full false o f h = h
 
 module _ (module_path : List ℕ) (barred : List (List ℕ)) (from_std : Bool) where
   pub gathers_none : (groups : Groups) → Gathers module_path barred from_std [] groups groups
-  gathers_none groups = record { more = λ q k. append_none (files_in groups q); others = λ q k. refl }
+  gathers_none groups = record { more = λ q k. sym (append-nil (files_in groups q)); others = λ q k. refl }
 
   pub gathers_next : (files : List TreeFile) (i : ℕ) (f : TreeFile) (old mid new : Groups) → i < length files → f ≡ get_or files i f
       → Gathers module_path barred from_std (take i files) old mid → Gathers module_path barred from_std (f ∷ []) mid new → Gathers module_path barred from_std (take (i + 1) files) old new
@@ -53,7 +50,7 @@ module _ (module_path : List ℕ) (barred : List (List ℕ)) (from_std : Bool) w
     -- the file is one of an ignored folder
     skipped_by : (q : List ℕ) (b : Bool) → bytes_eq path q ≡ b → (IsKept barred from_std path → ⊥) → IsKept barred from_std q → (xs : List TreeFile) → xs ≡ xs ++ cond b (file ∷ []) []
     skipped_by q true e n k xs = absurd (n (subst (IsKept barred from_std) (sym ((bytes_eq-Decides path q).0 e)) k))
-    skipped_by q false e n k xs = append_none xs
+    skipped_by q false e n k xs = sym (append-nil xs)
 
     pub gathers_skipped : (groups : Groups) → (IsKept barred from_std path → ⊥) → Gathers module_path barred from_std (file ∷ []) groups groups
     gathers_skipped groups n = record {

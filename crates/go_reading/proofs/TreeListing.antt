@@ -1,5 +1,5 @@
 -- The folders that are made of the files of two trees are those of the trees.
-use Rattle.std.proofs.Common.{◌≡◌, ◌≢◌, ℕ, ◌<◌, ◌≤◌, Bool, true, false, cond, Option, Some, None, List, [], ◌∷◌, ◌++◌, map, length, get_or, refl, sym, ap, ◌∙◌, subst, ◌⊎◌, inl, inr, arith}
+use Rattle.std.proofs.Common.{◌≡◌, ◌≢◌, ℕ, ◌<◌, ◌≤◌, Bool, true, false, cond, Option, Some, None, List, [], ◌∷◌, ◌++◌, map, length, get_or, refl, sym, ap, ◌∙◌, subst, ◌⊎◌, inl, inr, arith, append-nil}
 use mathlib.Core.Bool.{true≢false}
 use Rattle.std.specs.BTreeMap.{get, is_at}
 use Rattle.std.specs.Cmp.Lexicographic.{slice_cmp}
@@ -171,11 +171,7 @@ module _ (one : (bytes : List ℕ) (a b : Header) → IsHeader bytes a → IsHea
 
     paths_more : (es : List Entry) (made : List FolderFiles) (e : Entry) (r : Option FolderFiles) → Gives (GivesFolder p tree.module) es made → GivesFolder p tree.module e r → Each (λ (k : List ℕ). Before k e.0) (map key es)
         → Ascending (map (λ (f : FolderFiles). f.folder.path) made) → Ascending (map (λ (f : FolderFiles). f.folder.path) (made ++ optional r))
-    paths_more es made e None g k h a = subst Ascending (sym (map_more (λ (f : FolderFiles). f.folder.path) made []) ∙ refl) (subst Ascending (sym (append_nothing (map (λ (f : FolderFiles). f.folder.path) made))) a)
-      where
-        append_nothing : (xs : List (List ℕ)) → xs ++ [] ≡ xs
-        append_nothing [] = refl
-        append_nothing (x ∷ xs) = ap (λ (w : List (List ℕ)). x ∷ w) (append_nothing xs)
+    paths_more es made e None g k h a = subst Ascending (sym (map_more (λ (f : FolderFiles). f.folder.path) made []) ∙ refl) (subst Ascending (sym (append-nil (map (λ (f : FolderFiles). f.folder.path) made))) a)
     paths_more es made e (Some f) g k h a =
         subst Ascending (sym (map_more (λ (x : FolderFiles). x.folder.path) made (f ∷ [])))
         (ascending_snoc (map (λ (x : FolderFiles). x.folder.path) made) f.folder.path a (subst (λ (q : List ℕ). Each (λ (k : List ℕ). Before k q) (map (λ (x : FolderFiles). x.folder.path) made)) (sym k.path) (paths_before es made e.0 g h)))

@@ -555,28 +555,7 @@ fn add_types<'a>(refs: &mut List<Reference<'a>>, specs: &'a [TypeSpec]) -> Resul
 fn begun<'a>(alloc: Global) -> Result<List<Reference<'a>>, NoMemory>
     ensures { IfOk result (λ refs. refs ≡ []) }
 {
-    Ok(List::from_vec(Vec::with_capacity(alloc, 8)?))
-}
-
-/// The references of constants, in order.
-pub fn const_references<'a>(
-    alloc: Global,
-    spec: &'a ConstSpec,
-) -> Result<List<Reference<'a>>, NoMemory>
-    ensures { IfOk result (λ refs. refs ≡ references.const_references spec.now) }
-{
-    let mut refs = begun(alloc)?;
-    add_const(&mut refs, spec)?;
-    Ok(refs)
-}
-
-/// The references of variables, in order.
-pub fn var_references<'a>(alloc: Global, spec: &'a VarSpec) -> Result<List<Reference<'a>>, NoMemory>
-    ensures { IfOk result (λ refs. refs ≡ references.var_references spec.now) }
-{
-    let mut refs = begun(alloc)?;
-    add_var(&mut refs, spec)?;
-    Ok(refs)
+    List::with_room(alloc, 8)
 }
 
 /// The references of a type's declaration, in order.

@@ -14,10 +14,10 @@ use Rattle.go_model.specs.declared.types.package.ConstTerm.TheVariants as consta
 use Rattle.go_model.specs.declared.types.package.Entity.{Entity}
 use Rattle.go_model.specs.declared.types.package.Entity.TheVariants as entity
 use Rattle.go_model.specs.declared.types.term.Term.{Term, Term-F}
-use Rattle.go_model.specs.types.Terms.{Layer}
+use Rattle.go_model.specs.types.Terms.{Layer, slice_of}
 use Rattle.go_model.specs.types.Underlying.{under}
 use Rattle.go_rules.specs.Environments.{Env}
-use Rattle.go_rules.specs.Expressions.{ArgumentsFit, fits_none, fits_more, fits_slice, fits_rest, Computes, computes_constant, computes_value, Converts, converts_constant, converts_inexact, converts_value, converts_typed, converts_untyped, converts_truth, converts_nil, Denotes, DenotesImported, Equates, equates_right, equates_left, equates_untyped_left, equates_untyped_right, equates_kinds, equates_nil_left, equates_nil_right, IsArray, array_itself, array_pointer, IsComparison, comparison_constant, comparison_equality, comparison_order, IsCount, count_value, count_typed, count_untyped, IsIndex, index_value, index_typed, index_untyped, IsPrinted, printed_typed, printed_constant, printed_truth, IsString, string_value, string_typed, string_untyped, IsTypeName, Makes, MayHold, NamesType, ProductComputes, ProductKind, arithmetic, shift, Shifts, shifts_constant, shifts_value, Slices, slices_string, slices_untyped, slices_array, slices_array_pointer, slices_slice, is_composed, measures, seen_operand, slice_of}
+use Rattle.go_rules.specs.Expressions.{ArgumentsFit, fits_none, fits_more, fits_slice, fits_rest, Computes, computes_constant, computes_value, Converts, converts_constant, converts_inexact, converts_value, converts_typed, converts_untyped, converts_truth, converts_nil, Denotes, DenotesImported, Equates, equates_right, equates_left, equates_untyped_left, equates_untyped_right, equates_kinds, equates_nil_left, equates_nil_right, IsArray, array_itself, array_pointer, IsComparison, comparison_constant, comparison_equality, comparison_order, IsCount, count_value, count_typed, count_untyped, IsIndex, index_value, index_typed, index_untyped, IsPrinted, printed_typed, printed_constant, printed_truth, IsString, string_value, string_typed, string_untyped, IsTypeName, Makes, MayHold, NamesType, ProductComputes, ProductKind, arithmetic, shift, Shifts, shifts_constant, shifts_value, Slices, slices_string, slices_untyped, slices_array, slices_array_pointer, slices_slice, is_composed, measures, seen_operand}
 use Rattle.go_rules.specs.Operands.{computed, default_type, denoted}
 use Rattle.go_rules.specs.Regions.{Region, ConstIn, EntityIn, IsClosed, NameIn, SeenIn, TermIn, cut, error_name, front, front_of}
 use Rattle.go_rules.specs.Universe.{predeclared_operand}

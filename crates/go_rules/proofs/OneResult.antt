@@ -13,10 +13,10 @@ use Rattle.go_model.specs.declared.constants.value.Value.TheVariants as value
 use Rattle.go_model.specs.declared.types.package.ConstTerm.{ConstTerm}
 use Rattle.go_model.specs.declared.types.package.ConstTerm.TheVariants as constant
 use Rattle.go_model.specs.declared.types.term.Term.{Term, Term-F}
-use Rattle.go_model.specs.types.Terms.{Layer}
+use Rattle.go_model.specs.types.Terms.{Layer, slice_of}
 use Rattle.go_model.specs.types.Underlying.{under}
 use Rattle.go_rules.specs.Environments.{Env}
-use Rattle.go_rules.specs.Expressions.{Computes, computes_constant, computes_value, IsCount, count_value, count_typed, count_untyped, Shifts, shifts_constant, shifts_value, IsIndex, index_value, index_typed, index_untyped, IsArray, array_itself, array_pointer, IsString, string_value, string_typed, string_untyped, IsComparison, comparison_constant, comparison_equality, comparison_order, Slices, slices_string, slices_untyped, slices_array, slices_array_pointer, slices_slice, Converts, converts_constant, converts_inexact, converts_value, converts_typed, converts_untyped, converts_truth, converts_nil, ProductKind, shift, arithmetic, ProductComputes, is_composed, is_constant, slice_of}
+use Rattle.go_rules.specs.Expressions.{Computes, computes_constant, computes_value, IsCount, count_value, count_typed, count_untyped, Shifts, shifts_constant, shifts_value, IsIndex, index_value, index_typed, index_untyped, IsArray, array_itself, array_pointer, IsString, string_value, string_typed, string_untyped, IsComparison, comparison_constant, comparison_equality, comparison_order, Slices, slices_string, slices_untyped, slices_array, slices_array_pointer, slices_slice, Converts, converts_constant, converts_inexact, converts_value, converts_typed, converts_untyped, converts_truth, converts_nil, ProductKind, shift, arithmetic, ProductComputes, is_composed, is_constant}
 use Rattle.go_rules.specs.Operands.{IsTyped, basic_term, computed, constant_of, loose, nil, plain, any_term, variable}
 use Rattle.go_rules.specs.declared.operand.Operand.{Operand}
 use Rattle.go_rules.proofs.OneKind.{term_in, has_type_in, no_truth, const_in, value_in, typed, one_type, kind_in, kinded, match_of, matched}

@@ -45,7 +45,7 @@ use Rattle.go_model.specs.types.Bounds.{IsWithinBounds}
 use Rattle.go_model.specs.types.Imports.{is_imported_struct}
 use Rattle.go_model.specs.types.MethodSets.{method_sel, sel_order}
 use Rattle.go_model.specs.types.Selectors.{field as found_field}
-use Rattle.go_model.specs.types.Terms.{Layer, blank, pointer_to}
+use Rattle.go_model.specs.types.Terms.{Layer, blank, pointer_to, slice_of}
 use Rattle.go_model.specs.types.Underlying.{under}
 use Rattle.go_syntax.specs.declared.body.BodyRange.{BodyRange}
 use Rattle.go_syntax.specs.declared.expression.Element.{Element, out-Element}
@@ -119,10 +119,6 @@ abbrev pub IsTypeName : Env → QualifiedName → Term → Type 0
 IsTypeName E q t = NamesType E q.qualifier q.name t
 
 -- ---- types of levels
-
--- the slice type of the element type
-abbrev pub slice_of : Term → Term
-slice_of t = roll-Term (Term-F.Slice t)
 
 -- the array type of the length and the element type
 abbrev pub array_of : ℕ → Term → Term

@@ -1,6 +1,7 @@
 //! Rules of typing: what names mean, what an expression is, the environment that both are asked in, and their laws.
 #![tactic(auto)]
 
+pub mod blank;
 pub mod env;
 pub mod exports;
 mod imports;

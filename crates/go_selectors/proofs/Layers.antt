@@ -1,5 +1,5 @@
 -- Layers of places stand for the paths that end there and beyond.
-use Rattle.std.proofs.Common.{◌≡◌, ◌≤◌, ◌<◌, ◌+◌, ℕ, zero, suc, min, ◌⊎◌, inl, inr, List, [], ◌∷◌, ◌++◌, length, refl, sym, ap, ◌∙◌, subst, arith}
+use Rattle.std.proofs.Common.{◌≡◌, ◌≤◌, ◌<◌, ◌+◌, ℕ, zero, suc, min, ◌⊎◌, inl, inr, List, [], ◌∷◌, ◌++◌, length, refl, sym, ap, ◌∙◌, subst, arith, append-nil}
 use Rattle.go_base.specs.Lists.{Has}
 use Rattle.go_model.specs.types.Tables.{Table}
 use Rattle.go_model.specs.declared.types.names.Sel.{Sel}
@@ -20,10 +20,6 @@ one_of [] x l h = absurd h
 one_of (y ∷ []) x l (inl e) = ap (λ w. w ∷ []) e
 one_of (y ∷ []) x l (inr h) = absurd h
 one_of (y ∷ (z ∷ xs)) x l h = absurd (omega arith)
-
-append_nil : {A : Type 0} (xs : List A) → xs ++ [] ≡ xs
-append_nil [] = refl
-append_nil (x ∷ xs) = ap (λ ys. x ∷ ys) (append_nil xs)
 
 zero_plus : (n : ℕ) → 0 + n ≡ n
 zero_plus n = omega arith
@@ -89,7 +85,7 @@ module _ (T : Table) (s : Sel) where
     }
       where
         only : (k : ℕ) → gather (reach k) (start ∷ []) ≡ reach k start
-        only k = append_nil (reach k start)
+        only k = append-nil (reach k start)
 
     pub here : {depth : ℕ} {layer seen : List Spot} → Layered depth layer seen → None_to depth → min 2 (length (reach depth start)) ≡ min 2 (length (gather (reach 0) layer))
     here {depth} {layer} l z = ap (λ n. min 2 (length (reach n start))) (sym (plus_none depth)) ∙ l.same 0 (subst None_to (sym (plus_none depth)) z)

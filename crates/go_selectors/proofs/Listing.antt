@@ -1,5 +1,5 @@
 -- The methods that a map of selectors tells, one after another.
-use Rattle.std.proofs.Common.{◌≡◌, Bool, true, false, ◌⊎◌, inl, inr, List, [], ◌∷◌, ◌++◌, map, refl, sym, ap, ◌∙◌, subst, append_assoc, Option, Some, None, if◌then◌else◌}
+use Rattle.std.proofs.Common.{◌≡◌, Bool, true, false, ◌⊎◌, inl, inr, List, [], ◌∷◌, ◌++◌, map, refl, sym, ap, ◌∙◌, subst, append_assoc, Option, Some, None, if◌then◌else◌, append-nil}
 use mathlib.Core.Bool.{true≢false}
 use Rattle.std.specs.List.{AllByRecursion}
 use Rattle.std.specs.List.Sorted.{IsStrictlySortedBy}
@@ -41,10 +41,6 @@ drop_middle k (x ∷ xs) ys h = (all_drop k (λ y. sel_order x y ≡ Less) xs ys
 
 same_method : (m n : Method) → (out-Method m).sel ≡ (out-Method n).sel → (out-Method m).signature ≡ (out-Method n).signature → m ≡ n
 same_method m n i j = sym (roll-out-Method m) ∙ ap (λ x. roll-Method (record { sel = x; signature = (out-Method m).signature })) i ∙ ap (λ x. roll-Method (record { sel = (out-Method n).sel; signature = x })) j ∙ roll-out-Method n
-
-append_nil : {A : Type 0} (xs : List A) → xs ++ [] ≡ xs
-append_nil [] = refl
-append_nil (x ∷ xs) = ap (λ ys. x ∷ ys) (append_nil xs)
 
 module _ (first old new : Candidates) (s : Sel) (x : Candidate) (found more : List Method) (removal : old.entries ≡ (s, x) ∷ new.entries) (at : candidate_at old s ≡ Some x) (update : Updates sel_order old new s None) (l : Listing first old found) where
   shape : keys old ≡ s ∷ keys new
@@ -108,7 +104,7 @@ module _ (first old new : Candidates) (s : Sel) (x : Candidate) (found more : Li
 
 pub all_listed : (first rest : Candidates) (found : List Method) → rest.entries ≡ [] → Listing first rest found → Lists first found
 all_listed first rest found e l = record {
-  ordered = subst (IsStrictlySortedBy sel_order) (ap (λ w. map method_sel found ++ w) none ∙ append_nil (map method_sel found)) l.sorted;
+  ordered = subst (IsStrictlySortedBy sel_order) (ap (λ w. map method_sel found ++ w) none ∙ append-nil (map method_sel found)) l.sorted;
   exact = λ m. (l.sound m, λ h. elim (l.left m h) [ inl i ↦ absurd (nothing_called (out-Method m).sel (out-Method m).signature i) | inr j ↦ j ]);
 }
   where

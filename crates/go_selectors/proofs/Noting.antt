@@ -1,5 +1,5 @@
 -- The candidate of each selector, path by path.
-use Rattle.std.proofs.Common.{◌≡◌, ◌<◌, ◌+◌, ℕ, Bool, true, false, ◌&&◌, List, [], ◌∷◌, ◌++◌, length, take, get_or, refl, sym, ap, ◌∙◌, subst, Option, Some, None, if◌then◌else◌, nat_eq}
+use Rattle.std.proofs.Common.{◌≡◌, ◌<◌, ◌+◌, ℕ, Bool, true, false, ◌&&◌, List, [], ◌∷◌, ◌++◌, length, take, get_or, refl, sym, ap, ◌∙◌, subst, Option, Some, None, if◌then◌else◌, nat_eq, append-nil}
 use mathlib.Core.Bool.{true≢false}
 use Rattle.std.specs.Str.{bytes_eq}
 use Rattle.std.specs.Ordering.{is_eq, ordering_then, nat_cmp}
@@ -135,14 +135,10 @@ notes_none depth old s = refl
 pub notes_more : (depth : ℕ) (a b c : Candidates) (f g : Sel → List Ending) → Notes depth a b f → Notes depth b c g → Notes depth a c (λ s. f s ++ g s)
 notes_more depth a b c f g m n s = n s ∙ ap (all_noted depth (g s)) (m s) ∙ sym (noted_append depth (f s) (g s) (candidate_at a s))
 
-append_nil : {A : Type 0} (xs : List A) → xs ++ [] ≡ xs
-append_nil [] = refl
-append_nil (x ∷ xs) = ap (λ ys. x ∷ ys) (append_nil xs)
-
 pub notes_next : {A : Type 0} (f : Sel → A → List Ending) (depth : ℕ) (xs : List A) (i : ℕ) (x : A) (a b c : Candidates) → i < length xs → x ≡ get_or xs i x → Notes depth a b (λ s. gather (f s) (take i xs)) → Notes depth b c (λ s. f s x) → Notes depth a c (λ s. gather (f s) (take (i + 1) xs))
 notes_next f depth xs i x a b c h e m n s =
     notes_more depth a b c (λ s. gather (f s) (take i xs)) (λ s. f s x) m n s
-    ∙ ap (λ w. all_noted depth w (candidate_at a s)) (sym (ap (gather (f s)) (taken_next xs i x h e) ∙ gather-append (f s) (take i xs) (x ∷ []) ∙ ap (λ w. gather (f s) (take i xs) ++ w) (append_nil (f s x))))
+    ∙ ap (λ w. all_noted depth w (candidate_at a s)) (sym (ap (gather (f s)) (taken_next xs i x h e) ∙ gather-append (f s) (take i xs) (x ∷ []) ∙ ap (λ w. gather (f s) (take i xs) ++ w) (append-nil (f s x))))
 
 -- a type itself
 pub notes_spot : (T : Table) (at : Spot) (depth : ℕ) (a b c d : Candidates) (fs : List Field) (ds : List MethodOf) (ms : List Method) (through : Bool) → fs ≡ fields_of (under T at.term) → ds ≡ declared_methods T (out-Term at.term) → ms ≡ methods_of (under T at.term) → through ≡ at.through → ((t : Bool) → Notes depth a b (λ s. gather (field_ending s t) fs)) → ((o : Option TypeName) → Notes depth b c (λ s. gather (declared_ending o s through) ds)) → ((t : Bool) → Notes depth c d (λ s. gather (method_ending s t) ms)) → Notes depth a d (λ s. endings T s at)

@@ -1,5 +1,5 @@
 -- The candidates of a type without embedded fields: its own methods, but those whose selectors its fields have.
-use Rattle.std.proofs.Common.{◌≡◌, ◌<◌, ◌+◌, ℕ, zero, suc, Bool, true, false, List, [], ◌∷◌, ◌++◌, length, take, get_or, refl, sym, ap, ◌∙◌, append_assoc, arith, Option, Some, None, if◌then◌else◌, nat_eq}
+use Rattle.std.proofs.Common.{◌≡◌, ◌<◌, ◌+◌, ℕ, zero, suc, Bool, true, false, List, [], ◌∷◌, ◌++◌, length, take, get_or, refl, sym, ap, ◌∙◌, append_assoc, arith, Option, Some, None, if◌then◌else◌, nat_eq, append-nil}
 use Rattle.go_base.specs.Gathered.{gather}
 use Rattle.go_model.specs.types.Tables.{Table}
 use Rattle.go_model.specs.types.Terms.{same_sel}
@@ -19,10 +19,6 @@ use Rattle.go_selectors.proofs.Layers.{reach_none}
 use Rattle.go_selectors.proofs.Lists.{gather-append, taken_next}
 use Rattle.go_selectors.proofs.Noting.{notes_more, no_candidate}
 
-append_nil : {A : Type 0} (xs : List A) → xs ++ [] ≡ xs
-append_nil [] = refl
-append_nil (x ∷ xs) = ap (λ ys. x ∷ ys) (append_nil xs)
-
 unhidden_append : (xs ys : List Ending) (o : Option Candidate) → unhidden (xs ++ ys) o ≡ unhidden ys (unhidden xs o)
 unhidden_append [] ys o = refl
 unhidden_append (x ∷ xs) [] o = refl
@@ -38,7 +34,7 @@ hides_one old new k e n s = n s ∙ hidden_one (same_sel k s) e (candidate_at ol
 pub hides_next : {A : Type 0} (f : Sel → A → List Ending) (xs : List A) (i : ℕ) (x : A) (a b c : Candidates) → i < length xs → x ≡ get_or xs i x → Hides a b (λ s. gather (f s) (take i xs)) → Hides b c (λ s. f s x) → Hides a c (λ s. gather (f s) (take (i + 1) xs))
 hides_next f xs i x a b c h e m n s =
     n s ∙ ap (unhidden (f s x)) (m s) ∙ sym (unhidden_append (gather (f s) (take i xs)) (f s x) (candidate_at a s))
-    ∙ ap (λ w. unhidden w (candidate_at a s)) (sym (ap (gather (f s)) (taken_next xs i x h e) ∙ gather-append (f s) (take i xs) (x ∷ []) ∙ ap (λ w. gather (f s) (take i xs) ++ w) (append_nil (f s x))))
+    ∙ ap (λ w. unhidden w (candidate_at a s)) (sym (ap (gather (f s)) (taken_next xs i x h e) ∙ gather-append (f s) (take i xs) (x ∷ []) ∙ ap (λ w. gather (f s) (take i xs) ++ w) (append-nil (f s x))))
 
 -- what is noted of the methods, and hidden by the fields
 pub own_held : (through : Bool) (fields : List Field) (declared : List MethodOf) (methods : List Method) (a b c d : Candidates) → a.entries ≡ [] → ((o : Option TypeName) → Notes 0 a b (λ s. gather (declared_ending o s through) declared)) → ((t : Bool) → Notes 0 b c (λ s. gather (method_ending s t) methods)) → ((t : Bool) → Hides c d (λ s. gather (field_ending s t) fields)) → HoldOwnMethods through fields declared methods d

@@ -3,6 +3,6 @@
 use Rattle.std.specs.Prelude.{Bool, true, false}
 
 -- the test tells whether the fact holds
-abbrev pub Decides : Type 0 → Bool → Type 0
-Decides P true = P
-Decides P false = P → ⊥
+abbrev pub Decides : Bool → Type 0 → Type 0
+Decides true P = P
+Decides false P = P → ⊥

@@ -6,7 +6,6 @@ pub mod SetRegion
 pub mod SetGrowth
 pub mod SetReferences
 pub mod SetEntries
-pub mod WholeRegion
 pub mod FoundOwners
 pub mod MoreMoves
 pub mod SetMoves

@@ -15,7 +15,7 @@ use Rattle.go_typings.proofs.Cells.{if_true}
 use Rattle.go_typings.proofs.GrowEnvironments.{defined_more, environment_more}
 use Rattle.go_typings.proofs.ReachedRegion.{own_path}
 use Rattle.go_typings.proofs.SameAsks.{KeepsBase}
-use Rattle.go_soundness.proofs.WholeRegion.{asks_more, finds_more, names_back}
+use Rattle.go_typings.proofs.WholeRegion.{asks_more, finds_more, names_back}
 
 module _ (s : Setting) (u : PackageSource) (a b : Entries) (h : Within a b) (d : Declaration) where
   pub names_fewer : (rs : List Reference) (n : ℕ) → NamesDeclaration (environment s u b d) u d.form rs n → NamesDeclaration (environment s u a d) u d.form rs n

@@ -2,12 +2,12 @@
 ghost use Rattle.std.specs.Prelude.{◌≡◌, [], Decides, IfOk};
 ghost use Rattle.go_base.specs.Lists.{Has};
 ghost use Rattle.go_base.specs.Growing.{Adds};
-ghost use Rattle.go_rules.specs.Expressions.{is_blank};
 ghost use Rattle.go_typings.specs.Redeclarations.{of_import, of_package, of_receiver, site};
 ghost use Rattle.go_sources.specs.inner.KnownNames.{all_files, key, keys_of, one_file, one_package, one_receiver, role_of, Declares, Steps};
 
 use go_base::memory::NoMemory;
 use go_base::text::Text;
+use go_rules::blank::is_blank;
 use go_syntax::name::Place;
 use std::alloc::Global;
 use std::collections::BTreeSet;
@@ -159,12 +159,6 @@ fn declare<'a>(
     }
 }
 
-fn is_blank(name: &Text) -> bool
-    ensures { result ≡ is_blank name.now }
-{
-    name.bytes() == b"_".as_slice()
-}
-
 /// Notes a name, unless it is blank, and tells its place where it was declared before.
 pub(crate) fn visit<'a>(
     known: &mut KnownNames<'a>,
@@ -174,7 +168,7 @@ pub(crate) fn visit<'a>(
 ) -> Result<Option<Place>, NoMemory>
     ensures { IfOk result (Steps (site place.file place.offset name.now (role_of role.entry)) (keys_of known.old) (keys_of known.new)) }
 {
-    if is_blank(name) {
+    if is_blank(name.bytes()) {
         return Ok(None);
     }
     let is_free = declare(known, role, name)?;

@@ -4,5 +4,6 @@
 //! functions that box a tree or append one stand here for the same reason.
 pub mod declaration;
 pub mod expression;
+pub mod statement;
 pub mod types;
 mod whole;

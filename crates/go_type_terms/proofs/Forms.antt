@@ -20,7 +20,8 @@ use Rattle.go_syntax.specs.declared.types.FieldDecl.{FieldDecl}
 use Rattle.go_syntax.specs.declared.types.Signature.{Signature as Sig, out-Signature as out-Sig}
 use Rattle.go_syntax.specs.declared.types.«Type».{«Type» as Typ, «Type-F» as Typ-F, «out-Type» as out-Typ}
 use Rattle.go_rules.specs.Environments.{Env}
-use Rattle.go_rules.specs.Expressions.{Has, IsTypeName, OfFields, OfForm, OfSignature, OfType, of_type, of_name, of_paren, of_pointer, of_slice, of_array, of_map, of_channel, of_send_channel, of_receive_channel, of_function, of_struct, channel_of, slice_of}
+use Rattle.go_model.specs.types.Terms.{slice_of}
+use Rattle.go_rules.specs.Expressions.{Has, IsTypeName, OfFields, OfForm, OfSignature, OfType, of_type, of_name, of_paren, of_pointer, of_slice, of_array, of_map, of_channel, of_send_channel, of_receive_channel, of_function, of_struct, channel_of}
 use Rattle.go_rules.specs.Nodes.{TypeLayer, type_parts}
 use Rattle.go_rules.specs.Operands.{constant_of}
 use Rattle.go_rules.proofs.OneOperand.{of_once}

@@ -1,5 +1,5 @@
 -- Lists of declarations, each of which gives some items.
-use Rattle.std.proofs.Common.{◌≡◌, ◌<◌, ◌≤◌, ◌+◌, ℕ, suc, length, get_or, drop, drop-cons, add-one, List, [], ◌∷◌, ◌++◌, append_assoc, refl, sym, ap, subst, Bool, true, false, ◌||◌}
+use Rattle.std.proofs.Common.{◌≡◌, ◌<◌, ◌≤◌, ◌+◌, ℕ, suc, length, get_or, drop, drop-cons, add-one, List, [], ◌∷◌, ◌++◌, append_assoc, refl, sym, ap, subst, Bool, true, false, ◌||◌, append-nil}
 use Rattle.std.proofs.lemmas.List.{drop_all}
 use Rattle.go_rules.specs.Environments.{Env}
 use Rattle.go_rules.specs.Nodes.{Node}
@@ -17,10 +17,6 @@ or_or false b c = refl
 pub or_false : (a : Bool) → (a || false) ≡ a
 or_false true = refl
 or_false false = refl
-
-pub append_none : {A : Type 0} (xs : List A) → xs ++ [] ≡ xs
-append_none [] = refl
-append_none (x ∷ xs) = ap (λ ys. x ∷ ys) (append_none xs)
 
 module _ {D A : Type 0} (E : Env) (nodes : List D → List Node) (Of : List D → List A → Type 0) where
   -- what the first declarations give, and whether they are loud: the rest goes on
@@ -46,7 +42,7 @@ module _ {D A : Type 0} (E : Env) (nodes : List D → List Node) (Of : List D �
   -- at the end
   pub ended : (whole : List D) (items : List A) (loud : Bool) → Of [] [] → AreLoud E (nodes []) false → Gone whole [] items loud → Of whole items × AreLoud E (nodes whole) loud
   ended whole items loud none quiet g =
-      (subst (λ (all : List A). Of whole all) (append_none items) (g.to [] none), subst (λ (f : Bool). AreLoud E (nodes whole) f) (or_false loud) (g.louder false quiet))
+      (subst (λ (all : List A). Of whole all) (append-nil items) (g.to [] none), subst (λ (f : Bool). AreLoud E (nodes whole) f) (or_false loud) (g.louder false quiet))
 
   -- where the next declaration gives nothing
   pub none_of : {B : Type 0} (whole : List D) (d : D) (rest : List D) (items : List A) (loud : Bool) (Now : B → Type 0) → ((all : List A) → Of (d ∷ rest) all → (b : B) × Now b)

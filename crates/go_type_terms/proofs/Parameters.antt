@@ -9,7 +9,8 @@ use Rattle.go_syntax.specs.declared.types.FuncResult.{FuncResult, FuncResult-F}
 use Rattle.go_syntax.specs.declared.types.ParameterDecl.{ParameterDecl}
 use Rattle.go_syntax.specs.declared.types.«Type».{«Type» as Typ}
 use Rattle.go_rules.specs.Environments.{Env}
-use Rattle.go_rules.specs.Expressions.{OfParameters, OfResult, OfSignature, OfType, for_names, result_parameters, result_type, signature, signature_alone, signature_result, slice_of}
+use Rattle.go_model.specs.types.Terms.{slice_of}
+use Rattle.go_rules.specs.Expressions.{OfParameters, OfResult, OfSignature, OfType, for_names, result_parameters, result_type, signature, signature_alone, signature_result}
 use Rattle.go_rules.specs.Nodes.{ResultLayer, optional_result_parts, result_parts}
 use Rattle.go_rules.proofs.OneOperand.{parameters_once}
 use Rattle.go_type_terms.specs.Answers.{Types}

@@ -1,15 +1,16 @@
 -- Parameters, declaration by declaration.
-use Rattle.std.proofs.Common.{◌≡◌, ◌<◌, ◌≤◌, ◌+◌, ℕ, length, get_or, drop, List, [], ◌∷◌, ◌++◌, append_assoc, refl, sym, ◌∙◌, subst, Bool, true, false, ◌||◌}
+use Rattle.std.proofs.Common.{◌≡◌, ◌<◌, ◌≤◌, ◌+◌, ℕ, length, get_or, drop, List, [], ◌∷◌, ◌++◌, append_assoc, refl, sym, ◌∙◌, subst, Bool, true, false, ◌||◌, append-nil}
 use Rattle.std.proofs.lemmas.List.{drop_all}
 use Rattle.go_model.specs.declared.types.term.Term.{Term}
 use Rattle.go_syntax.specs.declared.types.ParameterDecl.{ParameterDecl, out-ParameterDecl}
 use Rattle.go_rules.specs.Environments.{Env}
-use Rattle.go_rules.specs.Expressions.{OfParameters, OfType, for_names, parameters_more, parameters_none, parameters_variadic, slice_of}
+use Rattle.go_model.specs.types.Terms.{slice_of}
+use Rattle.go_rules.specs.Expressions.{OfParameters, OfType, for_names, parameters_more, parameters_none, parameters_variadic}
 use Rattle.go_rules.specs.Nodes.{parameter_parts, type as type_node}
 use Rattle.go_rules.proofs.OneOperand.{type_once}
 use Rattle.go_type_terms.specs.Loudness.{AreLoud}
 use Rattle.go_type_terms.specs.inner.Parameters.{GivesTerms, OfOthers, OfParameter}
-use Rattle.go_type_terms.proofs.Gone.{append_none, next_of, or_false, or_or}
+use Rattle.go_type_terms.proofs.Gone.{next_of, or_false, or_or}
 use Rattle.go_type_terms.proofs.LoudTrees.{join_loud, none_loud}
 
 module _ (E : Env) where
@@ -28,7 +29,7 @@ module _ (E : Env) where
   joined d rest u now more false w e h g k = subst (λ (ts : List Term). OfParameters E (d ∷ rest) (ts ++ more) w) (sym g) (parameters_more e h k)
   joined d rest u now more true w e h g k =
       let last : OfParameters E (d ∷ []) (slice_of u ∷ []) true = parameters_variadic e g.0 h in
-      let whole : OfParameters E (d ∷ []) (now ++ []) true = subst (λ (ts : List Term). OfParameters E (d ∷ []) ts true) (sym (append_none now ∙ g.1)) last in
+      let whole : OfParameters E (d ∷ []) (now ++ []) true = subst (λ (ts : List Term). OfParameters E (d ∷ []) ts true) (sym (append-nil now ∙ g.1)) last in
       subst (λ (x : Bool). OfParameters E (d ∷ rest) (now ++ more) x) (sym k.2)
       (subst (λ (ts : List Term). OfParameters E (d ∷ rest) (now ++ ts) true) (sym k.1) (subst (λ (ds : List ParameterDecl). OfParameters E (d ∷ ds) (now ++ []) true) (sym k.0) whole))
 
@@ -79,7 +80,7 @@ module _ (E : Env) where
   pub passed_all : (whole : List ParameterDecl) (at : ℕ) (terms : List Term) (variadic loud : Bool) → length whole ≤ at → Passed whole (drop at whole) terms variadic loud → OfParameters E whole terms variadic × AreLoud E (parameter_parts whole) loud
   passed_all whole at terms variadic loud h p =
       let q = subst (λ (r : List ParameterDecl). Passed whole r terms variadic loud) (drop_all at whole h) p in (
-        subst (λ (ts : List Term). OfParameters E whole ts variadic) (append_none terms) (q.to [] variadic (over variadic)),
+        subst (λ (ts : List Term). OfParameters E whole ts variadic) (append-nil terms) (q.to [] variadic (over variadic)),
         subst (λ (f : Bool). AreLoud E (parameter_parts whole) f) (or_false loud) (q.louder false (none_loud E)),
       )
 

@@ -13,4 +13,4 @@ mod structs;
 mod type_names;
 pub mod types;
 pub mod typing;
-mod universe;
+pub mod universe;

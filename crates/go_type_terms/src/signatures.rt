@@ -1,6 +1,7 @@
 //! Parameters and results of function types.
 ghost use Rattle.std.specs.Prelude.{◌≡◌, [], ◌∷◌, false, replicate, IfOk};
-ghost use Rattle.go_rules.specs.Expressions.{OfForm, OfParameters, OfResult, OfSignature, for_names, slice_of};
+ghost use Rattle.go_model.specs.types.Terms.{slice_of};
+ghost use Rattle.go_rules.specs.Expressions.{OfForm, OfParameters, OfResult, OfSignature, for_names};
 ghost use Rattle.go_type_terms.specs.Results.{OfResults};
 ghost use Rattle.go_rules.specs.Nodes.{optional_result_parts, parameter_parts, result_parts, signature as signature_node, type as type_node};
 ghost use Rattle.go_syntax.specs.declared.types.FuncResult.{FuncResult-F, out-FuncResult};

@@ -1,6 +1,6 @@
 //! Names of types.
 ghost use Rattle.std.specs.Prelude.{◌≡◌};
-ghost use Rattle.go_rules.specs.Expressions.{Denotes, DenotesImported, IsTypeName, is_blank};
+ghost use Rattle.go_rules.specs.Expressions.{Denotes, DenotesImported, IsTypeName};
 ghost use Rattle.go_rules.specs.Operands.{denoted, type_name};
 ghost use Rattle.go_rules.specs.Universe.{predeclared_operand};
 ghost use Rattle.go_type_terms.specs.Answers.{Tells, env_in};
@@ -9,19 +9,13 @@ use crate::error::ExprError;
 use crate::universe::predeclared_type;
 use go_model::types::package::Entity;
 use go_model::types::term::Term;
+use go_rules::blank::is_blank;
 use go_rules::exports::is_exported;
 use go_rules::meaning::Meaning;
 use go_rules::predeclared::Predeclared;
 use go_syntax::name::{Name, QualifiedName};
 use go_usability::context::Context;
 use std::alloc::Global;
-
-// Whether a name is the blank one.
-pub(crate) fn is_blank(name: &Name) -> bool
-    ensures { result ≡ is_blank name.now.text }
-{
-    name.text.bytes() == b"_".as_slice()
-}
 
 // The type that an object of a package is, where it is one.
 fn type_of(alloc: Global, entity: &Entity) -> Result<Term, ExprError>
@@ -49,7 +43,7 @@ fn type_of_universe(alloc: Global, iota: Option<u64>, name: Predeclared) -> Resu
 fn named(context: &Context<'_>, alloc: Global, name: &Name) -> Result<Term, ExprError>
     ensures { Tells (λ t. Denotes (env_in context.now) name.now (type_name t)) result }
 {
-    if is_blank(name) {
+    if is_blank(name.text.bytes()) {
         return Err(ExprError::Untyped);
     }
     match context.env.meaning(&name.text) {
@@ -73,7 +67,7 @@ fn imported(
 ) -> Result<Term, ExprError>
     ensures { Tells (λ t. DenotesImported (env_in context.now) «package».now name.now (type_name t)) result }
 {
-    if is_blank(package) || !is_exported(name.text.bytes()) {
+    if is_blank(package.text.bytes()) || !is_exported(name.text.bytes()) {
         return Err(ExprError::Untyped);
     }
     match context.env.meaning(&package.text) {

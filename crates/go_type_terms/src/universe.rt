@@ -1,4 +1,4 @@
-//! What predeclared names denote.
+//! The types that predeclared names stand for.
 ghost use Rattle.std.specs.Prelude.{◌≡◌, IfOk};
 ghost use Rattle.go_rules.specs.Universe.{predeclared_type};
 
@@ -13,7 +13,7 @@ use go_rules::predeclared::Predeclared;
 use std::alloc::Global;
 
 /// The type that a predeclared name stands for; None where it stands for none.
-pub(crate) fn predeclared_type(alloc: Global, name: Predeclared) -> Result<Option<Term>, NoMemory>
+pub fn predeclared_type(alloc: Global, name: Predeclared) -> Result<Option<Term>, NoMemory>
     ensures { IfOk result (λ term. term ≡ predeclared_type name) }
 {
     let basic = match name {

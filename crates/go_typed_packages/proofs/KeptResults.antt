@@ -18,10 +18,10 @@ use Rattle.go_model.specs.declared.types.package.Entity.TheVariants as entity
 use Rattle.go_model.specs.declared.types.term.Signature.{out-roll-Signature}
 use Rattle.go_model.specs.declared.types.term.Term.{Term, Term-F}
 use Rattle.go_model.specs.types.Members.{AreOrdered}
-use Rattle.go_model.specs.types.Terms.{pointer_to}
+use Rattle.go_model.specs.types.Terms.{pointer_to, slice_of}
 use Rattle.go_rules.proofs.OneName.{none_some, one_some}
 use Rattle.go_rules.specs.Environments.{Env}
-use Rattle.go_rules.specs.Expressions.{Computes, computes_constant, computes_value, Converts, converts_constant, converts_inexact, converts_value, converts_typed, converts_untyped, converts_truth, converts_nil, Denotes, DenotesImported, IsComparison, comparison_constant, comparison_equality, comparison_order, IsTypeName, NamesType, ProductComputes, ProductKind, arithmetic, shift, Shifts, shifts_constant, shifts_value, Slices, slices_string, slices_untyped, slices_array, slices_array_pointer, slices_slice, for_names, results_of, seen_operand, signature, slice_of}
+use Rattle.go_rules.specs.Expressions.{Computes, computes_constant, computes_value, Converts, converts_constant, converts_inexact, converts_value, converts_typed, converts_untyped, converts_truth, converts_nil, Denotes, DenotesImported, IsComparison, comparison_constant, comparison_equality, comparison_order, IsTypeName, NamesType, ProductComputes, ProductKind, arithmetic, shift, Shifts, shifts_constant, shifts_value, Slices, slices_string, slices_untyped, slices_array, slices_array_pointer, slices_slice, for_names, results_of, seen_operand, signature}
 use Rattle.go_rules.specs.Operands.{IsOf, is_of_kind, is_of_type, IsTyped, typed_constant, typed_value, any_term, basic_term, computed, default_type, denoted, plain}
 use Rattle.go_rules.specs.Regions.{error_name}
 use Rattle.go_rules.specs.Universe.{predeclared_operand}

@@ -11,11 +11,11 @@ use Rattle.go_model.specs.types.Conversions.{UnderlyingConverts, PointerConverts
 pub denied : {P : Type 0} (b : Bool) → b ≡ false → (IsTrue b ↔ P) → P → ⊥
 denied b f i p = true≢false (sym (i.1 p) ∙ f)
 
-pub refused : {P : Type 0} (b : Bool) → b ≡ false → Decides P b → P → ⊥
-refused {P} b f d = subst (Decides P) f d
+pub refused : {P : Type 0} (b : Bool) → b ≡ false → Decides b P → P → ⊥
+refused {P} b f d = subst (λ b. Decides b P) f d
 
 module _ (T : Table) (profile : Bool) (from to : Term) where
-  pub assigned : (answer : Bool) → (from ≡ to → ⊥) → (UnderlyingAssigns T profile from to → ⊥) → (ChannelAssigns T from to → ⊥) → Decides (Implements T from to) answer → Decides (Assignable T profile from to) answer
+  pub assigned : (answer : Bool) → (from ≡ to → ⊥) → (UnderlyingAssigns T profile from to → ⊥) → (ChannelAssigns T from to → ⊥) → Decides answer (Implements T from to) → Decides answer (Assignable T profile from to)
   assigned true a b c d = assign_interface d
   assigned false a b c d = none
     where
@@ -25,7 +25,7 @@ module _ (T : Table) (profile : Bool) (from to : Term) where
       none (assign_interface x) = d x
       none (assign_channel x) = c x
 
-  pub converted : (answer : Bool) → basics_convert T from to ≡ false → (UnderlyingConverts T profile from to → ⊥) → (PointerConverts T profile from to → ⊥) → Decides (Assignable T profile from to) answer → Decides (Convertible T profile from to) answer
+  pub converted : (answer : Bool) → basics_convert T from to ≡ false → (UnderlyingConverts T profile from to → ⊥) → (PointerConverts T profile from to → ⊥) → Decides answer (Assignable T profile from to) → Decides answer (Convertible T profile from to)
   converted true a b c d = convert_assignable d
   converted false a b c d = none
     where

@@ -40,11 +40,11 @@ module _ (T : Table) (s : Sel) (t : Term) where
   set_of found.Ambiguous g h c = absurd c
   set_of found.Nothing g h c = absurd c
 
-  pub decided : (r : Found) (g : Signature) (b : Bool) → Finds T s t r → Decides (IsCalled g r) b → Decides (InSet T t s g) b
+  pub decided : (r : Found) (g : Signature) (b : Bool) → Finds T s t r → Decides b (IsCalled g r) → Decides b (InSet T t s g)
   decided r g true f d = set_of r g f d
   decided r g false f d = λ i. d (called_of r g f i)
 
 -- whether the candidates hold these methods
-pub set_decided : (T : Table) (t : Term) (candidates : Candidates) (ms : List Method) (b : Bool) → HoldMethodSet T t candidates → Decides (AreCandidates candidates ms) b → Decides (HasMethods T t ms) b
+pub set_decided : (T : Table) (t : Term) (candidates : Candidates) (ms : List Method) (b : Bool) → HoldMethodSet T t candidates → Decides b (AreCandidates candidates ms) → Decides b (HasMethods T t ms)
 set_decided T t candidates ms true holds d = λ m h. (holds (out-Method m).sel (out-Method m).signature).0 (d m h)
 set_decided T t candidates ms false holds d = λ all. d (λ m h. (holds (out-Method m).sel (out-Method m).signature).1 (all m h))

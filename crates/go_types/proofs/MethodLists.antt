@@ -10,11 +10,11 @@ abbrev pub Each : (Method → Type 0) → List Method → Type 0
 Each P ms = (m : Method) → Has ms m → P m
 
 module _ (P : Method → Type 0) (ms : List Method) (i : ℕ) (m : Method) (answer : Bool) (h : i < length ms) (e : m ≡ get_or ms i m) where
-  pub lacks : answer ≡ false → Decides (P m) answer → Each P ms → ⊥
-  lacks f d all = (subst (Decides (P m)) f d) (all m (item_has ms i m h e))
+  pub lacks : answer ≡ false → Decides answer (P m) → Each P ms → ⊥
+  lacks f d all = (subst (λ b. Decides b (P m)) f d) (all m (item_has ms i m h e))
 
-  pub has_next : answer ≡ true → Decides (P m) answer → Each P (take i ms) → Each P (take (i + 1) ms)
+  pub has_next : answer ≡ true → Decides answer (P m) → Each P (take i ms) → Each P (take (i + 1) ms)
   has_next f d all x k = elim (has-back (take i ms) m x (subst (λ (w : List Method). Has w x) (taken_next ms i m h e) k)) [
     | inl a ↦ all x a
-    | inr s ↦ subst P s (subst (Decides (P m)) f d)
+    | inr s ↦ subst P s (subst (λ b. Decides b (P m)) f d)
   ]

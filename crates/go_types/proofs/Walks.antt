@@ -1,5 +1,5 @@
 -- A walk over the parts of a type decides whether it is comparable.
-use Rattle.std.proofs.Common.{◌≡◌, ◌≤◌, ◌<◌, ◌+◌, ℕ, zero, suc, Bool, true, false, ◌⊎◌, inl, inr, List, [], ◌∷◌, ◌++◌, length, take, get_or, refl, sym, ap, ◌∙◌, subst, arith, length-append, append_assoc}
+use Rattle.std.proofs.Common.{◌≡◌, ◌≤◌, ◌<◌, ◌+◌, ℕ, zero, suc, Bool, true, false, ◌⊎◌, inl, inr, List, [], ◌∷◌, ◌++◌, length, take, get_or, refl, sym, ap, ◌∙◌, subst, arith, length-append, append_assoc, append-nil}
 use Rattle.std.proofs.lemmas.List.{take_more}
 use Rattle.go_base.specs.Lists.{Has}
 use Rattle.go_model.specs.types.Tables.{Table}
@@ -11,10 +11,6 @@ use Rattle.go_model.specs.types.Underlying.{under}
 use Rattle.go_model.specs.types.Comparison.{LeadsToIncomparable, at_slice, at_map, at_func, in_array, in_struct}
 use Rattle.go_types.specs.Parts.{Known, Pushed, IsFieldTerm, SeesTerm, Pushes, PushesFields, ByParts, Looked}
 use Rattle.go_selectors.proofs.Lists.{has-left, has-split, has-last, has-back}
-
-append_nil : {A : Type 0} (xs : List A) → xs ++ [] ≡ xs
-append_nil [] = refl
-append_nil (x ∷ xs) = ap (λ ys. x ∷ ys) (append_nil xs)
 
 take_append : {A : Type 0} (n : ℕ) (xs ys : List A) → n ≤ length xs → take n (xs ++ ys) ≡ take n xs
 take_append zero xs ys h = refl
@@ -29,7 +25,7 @@ take_all (suc n) (x ∷ xs) h = ap (λ zs. x ∷ zs) (take_all n xs (omega arith
 
 -- nothing was added
 pub pushed_none : {P : Term → Type 0} (all : List Term) (met : List TypeName) → Pushed P all met all met
-pushed_none all met = record { more = []; is = sym (append_nil all); each = λ t h. absurd h; known = λ k. k }
+pushed_none all met = record { more = []; is = sym (append-nil all); each = λ t h. absurd h; known = λ k. k }
 
 -- what was added twice
 pub pushed_more : {P : Term → Type 0} (a b c : List Term) (m n o : List TypeName) → Pushed P a m b n → Pushed P b n c o → Pushed P a m c o

@@ -46,7 +46,7 @@ fn by_underlying<'a, T: TypeTable>(
     from: &'a Term,
     to: &'a Term,
 ) -> bool
-    ensures { Decides (UnderlyingAssigns (T.lookup types.now.table.now) profile from.now to.now) result }
+    ensures { Decides result (UnderlyingAssigns (T.lookup types.now.table.now) profile from.now to.now) }
 {
     if are_named(from, to) {
         return false;
@@ -59,7 +59,7 @@ fn by_underlying<'a, T: TypeTable>(
 
 // Whether a channel of both directions has the element of another channel.
 fn is_channel_of(from: &Term, to: &Term) -> bool
-    ensures { Decides (AreChannels (out-Term from.now) (out-Term to.now)) result }
+    ensures { Decides result (AreChannels (out-Term from.now) (out-Term to.now)) }
 {
     match from {
         Term::Chan(Direction::Both, element) => match to {
@@ -71,7 +71,7 @@ fn is_channel_of(from: &Term, to: &Term) -> bool
 }
 
 fn by_channel<'a, T: TypeTable>(types: &Lookup<'a, T>, from: &'a Term, to: &'a Term) -> bool
-    ensures { Decides (ChannelAssigns (T.lookup types.now.table.now) from.now to.now) result }
+    ensures { Decides result (ChannelAssigns (T.lookup types.now.table.now) from.now to.now) }
 {
     if are_named(from, to) {
         return false;
@@ -87,7 +87,7 @@ pub fn decide<'a, T: TypeTable>(
     to: &'a Term,
     profile: bool,
 ) -> Result<bool, NoMemory>
-    ensures { IfOk result (Decides (Assignable (T.lookup types.now.table.now) profile from.now to.now)) }
+    ensures { IfOk result (λ answer. Decides answer (Assignable (T.lookup types.now.table.now) profile from.now to.now)) }
 {
     if identical(from, to) {
         return Ok(true);
@@ -111,7 +111,7 @@ pub fn assignable_in<T: TypeTable>(
     to: &Term,
     profile: bool,
 ) -> Result<bool, NoMemory>
-    ensures { IfOk result (Decides (Assignable (T.lookup types.now) profile from.now to.now)) }
+    ensures { IfOk result (λ answer. Decides answer (Assignable (T.lookup types.now) profile from.now to.now)) }
 {
     let error = error_type(alloc)?;
     let lookup = Lookup::new(types, &error);
@@ -131,7 +131,7 @@ pub fn assignable(
     to: &Term,
     profile: bool,
 ) -> Result<bool, NoMemory>
-    ensures { IfOk result (Decides (Assignable (table_of world.now.packages) profile from.now to.now)) }
+    ensures { IfOk result (λ answer. Decides answer (Assignable (table_of world.now.packages) profile from.now to.now)) }
 {
     assignable_in(alloc, world, from, to, profile)
 }

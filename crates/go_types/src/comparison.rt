@@ -6,8 +6,8 @@ ghost use Rattle.go_model.specs.types.Comparison.{Comparable};
 ghost use Rattle.go_selectors.specs.Search.{Adds};
 ghost use Rattle.go_types.specs.Parts.{SeesTerm, Pushes, PushesFields, Looked, PartAt};
 
-use crate::part::Part;
 use go_base::memory::NoMemory;
+use go_model::types::borrowed::BorrowedTerm;
 use go_model::types::table::TypeTable;
 use go_model::types::term::{Field, Term};
 use go_model::types::world::World;
@@ -35,7 +35,7 @@ fn sees<'a>(seen: &mut IndexSet<Name<'a>>, term: &'a Term) -> Result<bool, NoMem
 
 // Adds a type, unless it is a name that was seen.
 fn push<'a>(
-    all: &mut Vec<Part<'a>>,
+    all: &mut Vec<BorrowedTerm<'a>>,
     seen: &mut IndexSet<Name<'a>>,
     term: &'a Term,
 ) -> Result<(), NoMemory>
@@ -44,12 +44,12 @@ fn push<'a>(
     if sees(seen, term)? {
         return Ok(());
     }
-    all.push(Part::new(term))?;
+    all.push(BorrowedTerm::new(term))?;
     Ok(())
 }
 
 fn push_fields<'a>(
-    all: &mut Vec<Part<'a>>,
+    all: &mut Vec<BorrowedTerm<'a>>,
     seen: &mut IndexSet<Name<'a>>,
     fields: &'a [Field],
 ) -> Result<(), NoMemory>
@@ -64,7 +64,7 @@ fn push_fields<'a>(
 // Whether a type is compared by its parts, which are added.
 fn look<'a, T: TypeTable>(
     types: &Lookup<'a, T>,
-    all: &mut Vec<Part<'a>>,
+    all: &mut Vec<BorrowedTerm<'a>>,
     seen: &mut IndexSet<Name<'a>>,
     term: &'a Term,
 ) -> Result<bool, NoMemory>
@@ -86,7 +86,7 @@ fn look<'a, T: TypeTable>(
     }
 }
 
-fn part_at<'a>(all: &Vec<Part<'a>>, at: usize) -> Option<&'a Term>
+fn part_at<'a>(all: &Vec<BorrowedTerm<'a>>, at: usize) -> Option<&'a Term>
     ensures { PartAt all.now.items at result }
 {
     match all.get(at) {
@@ -101,7 +101,7 @@ pub fn decide<'a, T: TypeTable>(
     types: &Lookup<'a, T>,
     term: &'a Term,
 ) -> Result<bool, NoMemory>
-    ensures { IfOk result (Decides (Comparable (T.lookup types.now.table.now) term.now)) }
+    ensures { IfOk result (λ answer. Decides answer (Comparable (T.lookup types.now.table.now) term.now)) }
 {
     let mut all = Vec::new(alloc);
     let mut seen = IndexSet::new(alloc);
@@ -122,7 +122,7 @@ pub fn decide<'a, T: TypeTable>(
 /// Whether two values of a type can be compared, where a table of types tells the names in it, as
 /// [`comparable`] says.
 pub fn comparable_in<T: TypeTable>(alloc: Global, types: &T, term: &Term) -> Result<bool, NoMemory>
-    ensures { IfOk result (Decides (Comparable (T.lookup types.now) term.now)) }
+    ensures { IfOk result (λ answer. Decides answer (Comparable (T.lookup types.now) term.now)) }
 {
     let error = error_type(alloc)?;
     let lookup = Lookup::new(types, &error);
@@ -133,7 +133,7 @@ pub fn comparable_in<T: TypeTable>(alloc: Global, types: &T, term: &Term) -> Res
 /// Whether two values of a type of a world can be compared: not where a slice, a map or a function
 /// is underneath the type, one of its fields or its elements, at any depth; else they can.
 pub fn comparable(alloc: Global, world: &World, term: &Term) -> Result<bool, NoMemory>
-    ensures { IfOk result (Decides (Comparable (table_of world.now.packages) term.now)) }
+    ensures { IfOk result (λ answer. Decides answer (Comparable (table_of world.now.packages) term.now)) }
 {
     comparable_in(alloc, world, term)
 }

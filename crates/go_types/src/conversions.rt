@@ -93,7 +93,7 @@ fn same_bare<'a, T: TypeTable>(
     from: &'a Term,
     to: &'a Term,
 ) -> Result<bool, NoMemory>
-    ensures { IfOk result (Decides (bare (T.lookup types.now.table.now) from.now ≡ bare (T.lookup types.now.table.now) to.now)) }
+    ensures { IfOk result (λ answer. Decides answer (bare (T.lookup types.now.table.now) from.now ≡ bare (T.lookup types.now.table.now) to.now)) }
 {
     let left = bare(alloc, types, from)?;
     let right = bare(alloc, types, to)?;
@@ -119,7 +119,7 @@ fn by_underlying<'a, T: TypeTable>(
     from: &'a Term,
     to: &'a Term,
 ) -> Result<bool, NoMemory>
-    ensures { IfOk result (Decides (UnderlyingConverts (T.lookup types.now.table.now) profile from.now to.now)) }
+    ensures { IfOk result (λ answer. Decides answer (UnderlyingConverts (T.lookup types.now.table.now) profile from.now to.now)) }
 {
     if is_barred(types, profile, from, to) {
         return Ok(false);
@@ -135,7 +135,7 @@ fn by_pointer<'a, T: TypeTable>(
     from: &'a Term,
     to: &'a Term,
 ) -> Result<bool, NoMemory>
-    ensures { IfOk result (Decides (PointerConverts (T.lookup types.now.table.now) profile from.now to.now)) }
+    ensures { IfOk result (λ answer. Decides answer (PointerConverts (T.lookup types.now.table.now) profile from.now to.now)) }
 {
     match from {
         Term::Pointer(base) => match to {
@@ -158,7 +158,7 @@ pub fn decide<'a, T: TypeTable>(
     to: &'a Term,
     profile: bool,
 ) -> Result<bool, NoMemory>
-    ensures { IfOk result (Decides (Convertible (T.lookup types.now.table.now) profile from.now to.now)) }
+    ensures { IfOk result (λ answer. Decides answer (Convertible (T.lookup types.now.table.now) profile from.now to.now)) }
 {
     if basics_convert(types, from, to) {
         return Ok(true);
@@ -182,7 +182,7 @@ pub fn convertible_in<T: TypeTable>(
     to: &Term,
     profile: bool,
 ) -> Result<bool, NoMemory>
-    ensures { IfOk result (Decides (Convertible (T.lookup types.now) profile from.now to.now)) }
+    ensures { IfOk result (λ answer. Decides answer (Convertible (T.lookup types.now) profile from.now to.now)) }
 {
     let error = error_type(alloc)?;
     let lookup = Lookup::new(types, &error);
@@ -202,7 +202,7 @@ pub fn convertible(
     to: &Term,
     profile: bool,
 ) -> Result<bool, NoMemory>
-    ensures { IfOk result (Decides (Convertible (table_of world.now.packages) profile from.now to.now)) }
+    ensures { IfOk result (λ answer. Decides answer (Convertible (table_of world.now.packages) profile from.now to.now)) }
 {
     convertible_in(alloc, world, from, to, profile)
 }

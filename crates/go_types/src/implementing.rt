@@ -24,7 +24,7 @@ const FEW_METHODS: usize = 4;
 
 // Whether what was found is this method, and callable on the type itself.
 fn is_called(found: &Found, method: &Method) -> bool
-    ensures { Decides (IsCalled method.now.signature found.now) result }
+    ensures { Decides result (IsCalled method.now.signature found.now) }
 {
     match found {
         Found::MethodAt(at) => {
@@ -43,7 +43,7 @@ fn has_method<'a, T: TypeTable>(
     term: &'a Term,
     method: &Method,
 ) -> Result<bool, NoMemory>
-    ensures { IfOk result (Decides (HasMethod (T.lookup types.now.table.now) term.now method.now)) }
+    ensures { IfOk result (λ answer. Decides answer (HasMethod (T.lookup types.now.table.now) term.now method.now)) }
 {
     let found = types.find(alloc, term, &method.sel)?;
     let called = is_called(&found, method);
@@ -56,7 +56,7 @@ fn has_few<'a, T: TypeTable>(
     term: &'a Term,
     methods: &[Method],
 ) -> Result<bool, NoMemory>
-    ensures { IfOk result (Decides (HasMethods (T.lookup types.now.table.now) term.now methods.now)) }
+    ensures { IfOk result (λ answer. Decides answer (HasMethods (T.lookup types.now.table.now) term.now methods.now)) }
 {
     for method in methods {
         if !has_method(alloc, types, term, method)? {
@@ -67,7 +67,7 @@ fn has_few<'a, T: TypeTable>(
 }
 
 fn is_candidate(candidates: &BTreeMap<Sel, Candidate<'_>>, method: &Method) -> bool
-    ensures { Decides (IsCandidate candidates.now method.now) result }
+    ensures { Decides result (IsCandidate candidates.now method.now) }
 {
     match called_at(candidates, &method.sel) {
         Some(signature) => same_signature(signature, &method.signature),
@@ -75,8 +75,9 @@ fn is_candidate(candidates: &BTreeMap<Sel, Candidate<'_>>, method: &Method) -> b
     }
 }
 
-fn are_candidates(candidates: &BTreeMap<Sel, Candidate<'_>>, methods: &[Method]) -> bool
-    ensures { Decides (AreCandidates candidates.now methods.now) result }
+/// Whether each method is one of these, callable on the type itself.
+pub fn are_candidates(candidates: &BTreeMap<Sel, Candidate<'_>>, methods: &[Method]) -> bool
+    ensures { Decides result (AreCandidates candidates.now methods.now) }
 {
     for method in methods {
         if !is_candidate(candidates, method) {
@@ -92,7 +93,7 @@ fn has_methods<'a, T: TypeTable>(
     term: &'a Term,
     methods: &[Method],
 ) -> Result<bool, NoMemory>
-    ensures { IfOk result (Decides (HasMethods (T.lookup types.now.table.now) term.now methods.now)) }
+    ensures { IfOk result (λ answer. Decides answer (HasMethods (T.lookup types.now.table.now) term.now methods.now)) }
 {
     if methods.len() <= FEW_METHODS {
         let has = has_few(alloc, types, term, methods)?;
@@ -110,7 +111,7 @@ pub fn decide<'a, T: TypeTable>(
     term: &'a Term,
     interface: &'a Term,
 ) -> Result<bool, NoMemory>
-    ensures { IfOk result (Decides (Implements (T.lookup types.now.table.now) term.now interface.now)) }
+    ensures { IfOk result (λ answer. Decides answer (Implements (T.lookup types.now.table.now) term.now interface.now)) }
 {
     match types.under(interface) {
         Term::Interface(methods) => {
@@ -129,7 +130,7 @@ pub fn implements_in<T: TypeTable>(
     term: &Term,
     interface: &Term,
 ) -> Result<bool, NoMemory>
-    ensures { IfOk result (Decides (Implements (T.lookup types.now) term.now interface.now)) }
+    ensures { IfOk result (λ answer. Decides answer (Implements (T.lookup types.now) term.now interface.now)) }
 {
     let error = error_type(alloc)?;
     let lookup = Lookup::new(types, &error);
@@ -146,7 +147,7 @@ pub fn implements(
     term: &Term,
     interface: &Term,
 ) -> Result<bool, NoMemory>
-    ensures { IfOk result (Decides (Implements (table_of world.now.packages) term.now interface.now)) }
+    ensures { IfOk result (λ answer. Decides answer (Implements (table_of world.now.packages) term.now interface.now)) }
 {
     implements_in(alloc, world, term, interface)
 }

@@ -1,8 +1,8 @@
 //! Named types, and types of other packages than a client's.
 ghost use Rattle.std.specs.Prelude.{◌≡◌};
-ghost use Rattle.go_model.specs.types.Imports.{is_named, is_imported, is_imported_struct, is_imported_open};
+ghost use Rattle.go_model.specs.types.Imports.{is_named, is_imported_struct, is_imported_open};
 
-use go_model::types::names::TypeName;
+use go_model::types::names::is_imported;
 use go_model::types::table::TypeTable;
 use go_model::types::term::Term;
 use go_selectors::lookup::Lookup;
@@ -16,12 +16,6 @@ pub(crate) fn is_named(term: &Term) -> bool
         Term::Named(_) => true,
         _ => false,
     }
-}
-
-fn is_imported(name: &TypeName) -> bool
-    ensures { result ≡ is_imported name.now }
-{
-    name.path.bytes() != b"".as_slice() && name.path.bytes() != b"-client".as_slice()
 }
 
 /// Whether a type is a defined struct of another package than the client's.

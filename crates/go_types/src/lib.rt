@@ -7,5 +7,4 @@ pub mod conversions;
 pub mod implementing;
 mod imports;
 pub mod laws;
-mod part;
 mod tags;

@@ -2,6 +2,7 @@
 use crate::terms::{exported, of_every_form, taking_int};
 use go_base::list::List;
 use go_base::memory::NoMemory;
+use go_base::shared::Shared;
 use go_base::text::Text;
 use go_model::constants::value::{Untyped, Value};
 use go_model::types::package::{ConstTerm, Defined, Entity, MethodOf, Object, Package};
@@ -62,14 +63,14 @@ fn package(alloc: Global) -> Result<Package, NoMemory> {
         path: Text::of(alloc, b"m/p")?,
         name: Text::of(alloc, b"p")?,
         from_std: true,
-        objects,
-        defined,
+        objects: Shared::new(alloc, objects)?,
+        defined: Shared::new(alloc, defined)?,
     })
 }
 
-// How many objects, defined types and methods the copy of the package has.
+// How many objects, defined types and methods a copy of the package has, when it is shared.
 fn counts(alloc: Global) -> Result<(usize, usize, usize), NoMemory> {
-    let copied = package(alloc)?.copy(alloc)?;
+    let copied = package(alloc)?.copy(alloc)?.share(alloc)?;
     let mut methods = 0usize;
     for defined in copied.defined.items() {
         methods = methods.saturating_add(defined.methods.items().len());

@@ -66,8 +66,8 @@ fn package_of(alloc: Global, path: &[u8], types: List<Defined>) -> Result<Packag
         path: Text::of(alloc, path)?,
         name: Text::of(alloc, b"p")?,
         from_std: false,
-        objects,
-        defined: types,
+        objects: Shared::new(alloc, objects)?,
+        defined: Shared::new(alloc, types)?,
     })
 }
 

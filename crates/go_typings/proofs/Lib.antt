@@ -11,6 +11,7 @@ pub mod LocalRules
 pub mod SameImports
 pub mod SameReferences
 pub mod SameAsks
+pub mod WholeRegion
 pub mod ReachedConstants
 pub mod SameTypings
 pub mod FoundImports

@@ -20,11 +20,11 @@ use Rattle.go_usability.specs.inner.Alternatives.{is_interface, SameUnnamed, Ass
 pub denied : {P : Type 0} (b : Bool) → b ≡ false → (IsTrue b ↔ P) → P → ⊥
 denied b f i p = true≢false (sym (i.1 p) ∙ f)
 
-pub granted : {P : Type 0} (b : Bool) → b ≡ true → Decides P b → P
-granted {P} b f d = subst (Decides P) f d
+pub granted : {P : Type 0} (b : Bool) → b ≡ true → Decides b P → P
+granted {P} b f d = subst (λ b. Decides b P) f d
 
-pub refused : {P : Type 0} (b : Bool) → b ≡ false → Decides P b → P → ⊥
-refused {P} b f d = subst (Decides P) f d
+pub refused : {P : Type 0} (b : Bool) → b ≡ false → Decides b P → P → ⊥
+refused {P} b f d = subst (λ b. Decides b P) f d
 
 -- ---- levels
 
@@ -91,7 +91,7 @@ module _ (E : Env) (from to : Term) where
   assigns_table (assign_channel c) = table_channel c
 
   -- where an interface is underneath the target
-  pub beneath_interface : (answer : Bool) → is_interface (under E.table to) ≡ true → Decides (SameUnnamed E from to) answer → AssignsBeneath E from to answer
+  pub beneath_interface : (answer : Bool) → is_interface (under E.table to) ≡ true → Decides answer (SameUnnamed E from to) → AssignsBeneath E from to answer
   beneath_interface true i d = inr (inl (record { same = d.0; unnamed = d.1; permitted = by E.profile }))
     where
       ms : (ms : List Method) × (under E.table to ≡ Term-F.Interface ms)
@@ -112,7 +112,7 @@ module _ (E : Env) (from to : Term) where
   beneath_interface false i d = (λ u. d (u.same, u.unnamed), λ c. true≢false (sym i ∙ (channel_to (under E.table from) (under E.table to) c.channels).1))
 
   -- where none is
-  pub beneath_other : (answer : Bool) → is_interface (under E.table to) ≡ false → Decides (TableAssigns E.table E.profile from to) answer → AssignsBeneath E from to answer
+  pub beneath_other : (answer : Bool) → is_interface (under E.table to) ≡ false → Decides answer (TableAssigns E.table E.profile from to) → AssignsBeneath E from to answer
   beneath_other true i (table_identical e) = inl e
   beneath_other true i (table_underlying u) = inr (inl u)
   beneath_other true i (table_interface (ms, e, h)) = absurd (true≢false (sym (an_interface (under E.table to) ms e) ∙ i))
@@ -120,7 +120,7 @@ module _ (E : Env) (from to : Term) where
   beneath_other false i d = (λ u. d (table_underlying u), λ c. d (table_channel c))
 
   -- once each case was tried
-  pub assigned : (answer : Bool) → (from ≡ to → ⊥) → (Implements E from to → ⊥) → Entered E from → Entered E to → AssignsBeneath E from to answer → Decides (Assignable E from to) answer
+  pub assigned : (answer : Bool) → (from ≡ to → ⊥) → (Implements E from to → ⊥) → Entered E from → Entered E to → AssignsBeneath E from to answer → Decides answer (Assignable E from to)
   assigned true a b f t (inl e) = assign_identical e
   assigned true a b f t (inr (inl u)) = assign_underlying f t u
   assigned true a b f t (inr (inr c)) = assign_channel c

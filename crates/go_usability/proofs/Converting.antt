@@ -91,10 +91,10 @@ pointers_convert T profile a b (table_basic e) = absurd (true≢false (sym (ap i
 pub pointer_converts : (T : Table) (profile : Bool) (a b : Term) → UnderlyingConverts T profile a b → TableConverts T profile (pointer_to a) (pointer_to b)
 pointer_converts T profile a b u = table_pointer (record { base = a; other = b; from_is = out_pointer a; to_is = out_pointer b; converts = u })
 
-pub beneath_decides : (E : Env) (from to left right : Term) (answer : Bool) → left ≡ pointer_to from → right ≡ pointer_to to → Decides (TableConverts E.table E.profile left right) answer → Decides (ConvertsBeneath E from to) answer
-beneath_decides E from to left right answer e f d = by answer (subst (λ (x : Term). Decides (TableConverts E.table E.profile (pointer_to from) x) answer) f (subst (λ (x : Term). Decides (TableConverts E.table E.profile x right) answer) e d))
+pub beneath_decides : (E : Env) (from to left right : Term) (answer : Bool) → left ≡ pointer_to from → right ≡ pointer_to to → Decides answer (TableConverts E.table E.profile left right) → Decides answer (ConvertsBeneath E from to)
+beneath_decides E from to left right answer e f d = by answer (subst (λ (x : Term). Decides answer (TableConverts E.table E.profile (pointer_to from) x)) f (subst (λ (x : Term). Decides answer (TableConverts E.table E.profile x right)) e d))
   where
-    by : (b : Bool) → Decides (TableConverts E.table E.profile (pointer_to from) (pointer_to to)) b → Decides (ConvertsBeneath E from to) b
+    by : (b : Bool) → Decides b (TableConverts E.table E.profile (pointer_to from) (pointer_to to)) → Decides b (ConvertsBeneath E from to)
     by true c = pointers_convert E.table E.profile from to c
     by false c = λ x. elim x [ inl s ↦ c (table_assignable (table_identical (ap pointer_to s))) | inr u ↦ c (pointer_converts E.table E.profile from to u) ]
 
@@ -135,7 +135,7 @@ module _ (E : Env) (from to : Term) where
     converts_unentered n c (convert_basic e) = c (basic_entered e)
 
     -- an interface is underneath the target
-    pub converts_interface : (answer : Bool) → are_pointers (out-Term from) (out-Term to) ≡ false → Entered E from → Entered E to → is_interface (under E.table to) ≡ true → Decides (ConvertsBeneath E from to) answer → Decides (Convertible E from to) answer
+    pub converts_interface : (answer : Bool) → are_pointers (out-Term from) (out-Term to) ≡ false → Entered E from → Entered E to → is_interface (under E.table to) ≡ true → Decides answer (ConvertsBeneath E from to) → Decides answer (Convertible E from to)
     converts_interface true n f t i (inl e) = convert_assignable (assign_identical e)
     converts_interface true n f t i (inr u) = convert_underlying f t u
     converts_interface false n f t i d = none
@@ -157,7 +157,7 @@ module _ (E : Env) (from to : Term) where
     converts_other n f t i (table_basic e) = convert_basic e
 
     -- two pointers
-    pub converts_pointers : (answer : Bool) → are_pointers (out-Term from) (out-Term to) ≡ true → TableConverts E.table E.profile from to → Decides (BasesEntered E (out-Term from) (out-Term to)) answer → Decides (Convertible E from to) answer
+    pub converts_pointers : (answer : Bool) → are_pointers (out-Term from) (out-Term to) ≡ true → TableConverts E.table E.profile from to → Decides answer (BasesEntered E (out-Term from) (out-Term to)) → Decides answer (Convertible E from to)
     converts_pointers answer p c d = by answer d
       where
         are : (a : Term) × (b : Term) × (out-Term from ≡ Term-F.Pointer a) × (out-Term to ≡ Term-F.Pointer b)
@@ -190,6 +190,6 @@ module _ (E : Env) (from to : Term) where
         unentered n (convert_pointer b q) = n (subst (λ (k : Layer). BasesEntered E k (Term-F.Pointer are.1)) are.2 (subst (BasesEntered E (out-Term from)) are.3 b))
         unentered n (convert_basic e) = true≢false (sym (ap (λ l. is_pointer_layer (under_layer E.table l)) are.2) ∙ (basic_from E.table from to e).based)
 
-        by : (b : Bool) → Decides (BasesEntered E (out-Term from) (out-Term to)) b → Decides (Convertible E from to) b
+        by : (b : Bool) → Decides b (BasesEntered E (out-Term from) (out-Term to)) → Decides b (Convertible E from to)
         by true h = convert_pointer h (record { base = are.0; other = are.1; from_is = are.2; to_is = are.3; converts = beneath })
         by false h = unentered (λ x. h (subst (λ (k : Layer). BasesEntered E k (out-Term to)) (sym are.2) (subst (BasesEntered E (Term-F.Pointer are.0)) (sym are.3) x)))

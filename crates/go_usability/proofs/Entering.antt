@@ -110,15 +110,15 @@ module _ (E : Env) (t : Term) where
       whole : (v : Term) → Has all v → Has (take at all) v
       whole v i = subst (λ (z : List Term). Has z v) (sym (take_all at all h)) i
 
-  pub not_entered : (at : ℕ) (all : List Term) (met : List TypeName) (part : Term) (answer : Bool) → Enters at all met → at < length all → part ≡ get_or all at part → answer ≡ false → Decides (Entered E part) answer → EnteredBelow E t → ⊥
-  not_entered at all met part answer w h e f d b = (subst (Decides (Entered E part)) f d) (b part (w.leads part (item_has all at part h e)))
+  pub not_entered : (at : ℕ) (all : List Term) (met : List TypeName) (part : Term) (answer : Bool) → Enters at all met → at < length all → part ≡ get_or all at part → answer ≡ false → Decides answer (Entered E part) → EnteredBelow E t → ⊥
+  not_entered at all met part answer w h e f d b = (subst (λ b. Decides b (Entered E part)) f d) (b part (w.leads part (item_has all at part h e)))
 
-pub entered_so : (E : Env) (t : Term) (answer : Bool) → answer ≡ true → Decides (Entered E t) answer → Entered E t
-entered_so E t answer e d = subst (Decides (Entered E t)) e d
+pub entered_so : (E : Env) (t : Term) (answer : Bool) → answer ≡ true → Decides answer (Entered E t) → Entered E t
+entered_so E t answer e d = subst (λ b. Decides b (Entered E t)) e d
 
-pub compared : (E : Env) (t : Term) (comparable entered : Bool) → comparable ≡ true → Decides (Comparable E.table t) comparable → Decides (EnteredBelow E t) entered → Decides (Compares E t) entered
-compared E t comparable true e c d = record { comparable = subst (Decides (Comparable E.table t)) e c; entered = d }
+pub compared : (E : Env) (t : Term) (comparable entered : Bool) → comparable ≡ true → Decides comparable (Comparable E.table t) → Decides entered (EnteredBelow E t) → Decides entered (Compares E t)
+compared E t comparable true e c d = record { comparable = subst (λ b. Decides b (Comparable E.table t)) e c; entered = d }
 compared E t comparable false e c d = λ x. d x.entered
 
-pub incomparable : (E : Env) (t : Term) (comparable : Bool) → comparable ≡ false → Decides (Comparable E.table t) comparable → Compares E t → ⊥
-incomparable E t comparable e c x = (subst (Decides (Comparable E.table t)) e c) x.comparable
+pub incomparable : (E : Env) (t : Term) (comparable : Bool) → comparable ≡ false → Decides comparable (Comparable E.table t) → Compares E t → ⊥
+incomparable E t comparable e c x = (subst (λ b. Decides b (Comparable E.table t)) e c) x.comparable

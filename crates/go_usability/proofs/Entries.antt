@@ -27,9 +27,9 @@ module _ (E : Env) (n : TypeName) where
   entry_none b o f e t i h = let k : ◌≡◌ {A = Option Defined} None (Some h.0) = sym (ap entry_of i) ∙ t ∙ sym (beside b f e) ∙ h.1 in absurd (cc)
 
   module _ (s : Sel) where
-    pub told_none : (b : Bool) → b ≡ false → Decides (EnteredLayer E (Term-F.Named n)) b → ToldLayer E s (Term-F.Named n) → ⊥
-    told_none b f d h = (subst (Decides (EnteredLayer E (Term-F.Named n))) f d) (h.0, h.1)
+    pub told_none : (b : Bool) → b ≡ false → Decides b (EnteredLayer E (Term-F.Named n)) → ToldLayer E s (Term-F.Named n) → ⊥
+    told_none b f d h = (subst (λ b. Decides b (EnteredLayer E (Term-F.Named n))) f d) (h.0, h.1)
 
-    pub told_had : (b m : Bool) → b ≡ true → Decides (EnteredLayer E (Term-F.Named n)) b → m ≡ is_among s (E.missing n) → Decides (ToldLayer E s (Term-F.Named n)) (not m)
-    told_had b false t d e = let h : EnteredLayer E (Term-F.Named n) = subst (Decides (EnteredLayer E (Term-F.Named n))) t d in (h.0, h.1, sym e)
+    pub told_had : (b m : Bool) → b ≡ true → Decides b (EnteredLayer E (Term-F.Named n)) → m ≡ is_among s (E.missing n) → Decides (not m) (ToldLayer E s (Term-F.Named n))
+    told_had b false t d e = let h : EnteredLayer E (Term-F.Named n) = subst (λ b. Decides b (EnteredLayer E (Term-F.Named n))) t d in (h.0, h.1, sym e)
     told_had b true t d e = λ h. true≢false (e ∙ h.2)

@@ -130,7 +130,7 @@ in_set E t s g h = record { depth = h.found.depth; through = h.through; owner = 
     by true r = r
     by false r = r
 
-pub held : (E : Env) (t : Term) (s : Sel) (g : Signature) (r : Option Find) (answer : Bool) → FindsIn E s t r → Decides (called_in false r ≡ Some g) answer → Decides (HasMethod E false t s g) answer
+pub held : (E : Env) (t : Term) (s : Sel) (g : Signature) (r : Option Find) (answer : Bool) → FindsIn E s t r → Decides answer (called_in false r ≡ Some g) → Decides answer (HasMethod E false t s g)
 held E t s g r true f d = subst (Gives (HasMethod E false t s)) d (calls E s t false r f)
 held E t s g r false f d = λ m. by m (called_in false r) refl (calls E s t false r f)
   where
@@ -143,7 +143,7 @@ held E t s g r false f d = λ m. by m (called_in false r) refl (calls E s t fals
 under_interface : (T : Table) (u v : Term) → out-Term v ≡ under T u → (ms : List Method) → v ≡ term.Interface ms → under T u ≡ Term-F.Interface ms
 under_interface T u v is ms s = sym is ∙ ap out-Term s ∙ outs-Interface ms
 
-pub implements_decides : (E : Env) (t i v : Term) (ms gs : List Method) (answer : Bool) → out-Term v ≡ under E.table i → v ≡ term.Interface ms → gs ≡ ms → Decides (HoldsEach E t gs) answer → Decides (Implements E t i) answer
+pub implements_decides : (E : Env) (t i v : Term) (ms gs : List Method) (answer : Bool) → out-Term v ≡ under E.table i → v ≡ term.Interface ms → gs ≡ ms → Decides answer (HoldsEach E t gs) → Decides answer (Implements E t i)
 implements_decides E t i v ms gs true u s q d = (ms, under_interface E.table i v u ms s, subst (HoldsEach E t) q d)
 implements_decides E t i v ms gs false u s q d = λ n. d (subst (HoldsEach E t) (same n.0 ms (sym n.1 ∙ under_interface E.table i v u ms s) ∙ sym q) n.2)
   where

@@ -177,12 +177,12 @@ uses E o t truth e a = subst (λ (x : Operand). UsableAs E x t) (sym (stands_for
 uses E o t no_pointer e a = subst (λ (x : Operand). UsableAs E x t) (sym (stands_for o no_pointer e)) (use_nil a)
 uses E o t nothing e a = absurd a
 
-pub use_decides : (E : Env) (o : Operand) (t : Term) (s : Stand) (answer : Bool) → s ≡ stand_of o → Decides (Uses E s t) answer → Decides (UsableAs E o t) answer
+pub use_decides : (E : Env) (o : Operand) (t : Term) (s : Stand) (answer : Bool) → s ≡ stand_of o → Decides answer (Uses E s t) → Decides answer (UsableAs E o t)
 use_decides E o t s true e d = uses E o t s (sym e) d
 use_decides E o t s false e d = λ u. d (subst (λ (x : Stand). Uses E x t) (sym e) (used E o t u))
 
 -- the default type can hold the value
-pub default_decides : (E : Env) (k : Untyped) (v : Value) (b : Basic) (answer : Bool) → out-Term (default_type k) ≡ Term-F.Plain b → answer ≡ is_representable v b E.bits → Decides (DefaultHolds E k v) answer
+pub default_decides : (E : Env) (k : Untyped) (v : Value) (b : Basic) (answer : Bool) → out-Term (default_type k) ≡ Term-F.Plain b → answer ≡ is_representable v b E.bits → Decides answer (DefaultHolds E k v)
 default_decides E k v b true e r = (b, e, sym r)
 default_decides E k v b false e r = λ h. true≢false (sym h.2 ∙ ap (λ x. is_representable v x E.bits) (same h.0 b (sym h.1 ∙ e)) ∙ sym r)
   where

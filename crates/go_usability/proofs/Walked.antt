@@ -1,5 +1,5 @@
 -- A walk over the levels of a search decides whether each type on them is told.
-use Rattle.std.proofs.Common.{◌≡◌, ◌≤◌, ◌<◌, ◌+◌, ℕ, zero, suc, Bool, true, false, ◌⊎◌, inl, inr, List, [], ◌∷◌, ◌++◌, length, take, drop, get_or, refl, sym, ap, ◌∙◌, subst, arith, length-append}
+use Rattle.std.proofs.Common.{◌≡◌, ◌≤◌, ◌<◌, ◌+◌, ℕ, zero, suc, Bool, true, false, ◌⊎◌, inl, inr, List, [], ◌∷◌, ◌++◌, length, take, drop, get_or, refl, sym, ap, ◌∙◌, subst, arith, length-append, append-nil}
 use Rattle.std.proofs.lemmas.List.{take-append-drop}
 use Rattle.go_base.specs.Gathered.{gather}
 use Rattle.go_base.specs.Lists.{Has}
@@ -36,16 +36,12 @@ all_more a b c m n o ts us p q = (
   λ k u h. elim (has-split ts us u h) [ inl x ↦ pushed_has b c n o u q.0 (p.1 k u x) | inr y ↦ q.1 (p.0.known k) u y ],
 )
 
-append_nil : {A : Type 0} (xs : List A) → xs ++ [] ≡ xs
-append_nil [] = refl
-append_nil (x ∷ xs) = ap (λ ys. x ∷ ys) (append_nil xs)
-
 -- one more item of a list was gathered
 pub gathered_more : {A : Type 0} (f : A → List Term) (a b c : List Term) (m n o : List TypeName) (xs ys : List A) (x : A) → ys ≡ xs ++ x ∷ [] → PushesAll a m b n (gather f xs) → PushesAll b n c o (f x) → PushesAll a m c o (gather f ys)
 gathered_more f a b c m n o xs ys x e p q = subst (PushesAll a m c o) (sym joined) (all_more a b c m n o (gather f xs) (f x) p q)
   where
     joined : gather f ys ≡ gather f xs ++ f x
-    joined = ap (gather f) e ∙ gather-append f xs (x ∷ []) ∙ ap (λ w. gather f xs ++ w) (append_nil (f x))
+    joined = ap (gather f) e ∙ gather-append f xs (x ∷ []) ∙ ap (λ w. gather f xs ++ w) (append-nil (f x))
 
 -- ---- lists
 
@@ -152,24 +148,24 @@ visits_so E s layer old seen new newer answer told e v = subst (Visits E s layer
 
 -- ---- from where paths begin
 
-pub told_decides : (E : Env) (s : Sel) (depth : ℕ) (t at : Term) (begun told : Bool) → at ≡ (start E.table t).term → begun ≡ true → Decides (Begins E t) begun → Decides (ToldDown E s depth at) told → Decides (ToldFrom E s depth t) told
-told_decides E s depth t at begun true e f b d = (subst (Decides (Begins E t)) f b, down_to E s depth (start E.table t) (subst (ToldDown E s depth) e d))
+pub told_decides : (E : Env) (s : Sel) (depth : ℕ) (t at : Term) (begun told : Bool) → at ≡ (start E.table t).term → begun ≡ true → Decides begun (Begins E t) → Decides told (ToldDown E s depth at) → Decides told (ToldFrom E s depth t)
+told_decides E s depth t at begun true e f b d = (subst (λ b. Decides b (Begins E t)) f b, down_to E s depth (start E.table t) (subst (ToldDown E s depth) e d))
 told_decides E s depth t at begun false e f b d = λ h. d (subst (ToldDown E s depth) (sym e) (to_down E s depth (start E.table t) h.1))
 
-pub not_begun : (E : Env) (s : Sel) (depth : ℕ) (t : Term) (begun : Bool) → begun ≡ false → Decides (Begins E t) begun → ToldFrom E s depth t → ⊥
-not_begun E s depth t begun f b h = (subst (Decides (Begins E t)) f b) h.0
+pub not_begun : (E : Env) (s : Sel) (depth : ℕ) (t : Term) (begun : Bool) → begun ≡ false → Decides begun (Begins E t) → ToldFrom E s depth t → ⊥
+not_begun E s depth t begun f b h = (subst (λ b. Decides b (Begins E t)) f b) h.0
 
 -- ---- a level, type by type
 
 module _ (E : Env) (s : Sel) (layer : List Term) (i : ℕ) (x t : Term) (answer : Bool) (h : i < length layer) (e : x ≡ get_or layer i x) (q : t ≡ x) where
   -- one isn't told
-  pub untold_level : answer ≡ false → Decides (Told E s t) answer → (u : Term) × Has layer u × (Told E s u → ⊥)
-  untold_level f d = (x, item_has layer i x h e, λ k. (subst (Decides (Told E s t)) f d) (subst (Told E s) (sym q) k))
+  pub untold_level : answer ≡ false → Decides answer (Told E s t) → (u : Term) × Has layer u × (Told E s u → ⊥)
+  untold_level f d = (x, item_has layer i x h e, λ k. (subst (λ b. Decides b (Told E s t)) f d) (subst (Told E s) (sym q) k))
 
   -- one more is, and the types one field further were added
-  pub told_more : (a b c : List Term) (m n o : List TypeName) → answer ≡ true → Decides (Told E s t) answer → Visits E s (take i layer) a m b n true → PushesAll b n c o (further E.table t) → Visits E s (take (i + 1) layer) a m c o true
+  pub told_more : (a b c : List Term) (m n o : List TypeName) → answer ≡ true → Decides answer (Told E s t) → Visits E s (take i layer) a m b n true → PushesAll b n c o (further E.table t) → Visits E s (take (i + 1) layer) a m c o true
   told_more a b c m n o f d v p = (
-    λ u j. elim (has-back (take i layer) x u (subst (λ (w : List Term). Has w u) taken j)) [ inl k ↦ v.0 u k | inr k ↦ subst (Told E s) (q ∙ k) (subst (Decides (Told E s t)) f d) ],
+    λ u j. elim (has-back (take i layer) x u (subst (λ (w : List Term). Has w u) taken j)) [ inl k ↦ v.0 u k | inr k ↦ subst (Told E s) (q ∙ k) (subst (λ b. Decides b (Told E s t)) f d) ],
     gathered_more (further E.table) a b c m n o (take i layer) (take (i + 1) layer) x taken v.1 (subst (λ (w : Term). PushesAll b n c o (further E.table w)) q p),
   )
     where

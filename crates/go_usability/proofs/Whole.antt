@@ -40,12 +40,12 @@ module _ (E : Env) (ms : List Method) (t : Term) where
       known_none : Known none fresh
       known_none n h = absurd (subst (λ (w : List TypeName). Has w n) f h)
 
-  pub next_tells : (at : ℕ) (all new : List Term) (met newer : List TypeName) (part : Term) (answer : Bool) → Tells at all met → at < length all → part ≡ get_or all at part → answer ≡ true → Decides (ToldEach E ms part) answer → PushesAll all met new newer (further E.table part) → Tells (at + 1) new newer
+  pub next_tells : (at : ℕ) (all new : List Term) (met newer : List TypeName) (part : Term) (answer : Bool) → Tells at all met → at < length all → part ≡ get_or all at part → answer ≡ true → Decides answer (ToldEach E ms part) → PushesAll all met new newer (further E.table part) → Tells (at + 1) new newer
   next_tells at all new met newer part answer w h e f d p = record {
     known = p.0.known w.known;
     from = pushed_has all new met newer t p.0 w.from;
     within = (let k = ap length p.0.is in let j = length-append all p.0.more in omega (arith, k, j, h));
-    told = λ u j. elim (has-back (take at all) part u (subst (λ (z : List Term). Has z u) taken j)) [ inl a ↦ w.told u a | inr s ↦ subst (ToldEach E ms) s (subst (Decides (ToldEach E ms part)) f d) ];
+    told = λ u j. elim (has-back (take at all) part u (subst (λ (z : List Term). Has z u) taken j)) [ inl a ↦ w.told u a | inr s ↦ subst (ToldEach E ms) s (subst (λ b. Decides b (ToldEach E ms part)) f d) ];
     closed = λ u j v i. elim (has-back (take at all) part u (subst (λ (z : List Term). Has z u) taken j)) [
       | inl a ↦ pushed_has all new met newer v p.0 (w.closed u a v i)
       | inr s ↦ p.1 w.known v (subst (λ (z : Term). Has (further E.table z) v) (sym s) i)
@@ -66,17 +66,17 @@ module _ (E : Env) (ms : List Method) (t : Term) where
       reached zero v (inr n) = absurd n
       reached (suc n) v j = let a = gather_of (further E.table) (level E.table n t) v j in w.closed a.0 (whole a.0 (reached n a.0 a.1)) v a.2
 
-pub told_so : (E : Env) (ms : List Method) (t at : Term) (begun told : Bool) → at ≡ (start E.table t).term → begun ≡ true → Decides (Begins E t) begun → (told ≡ true → ToldWhole E ms at) → told ≡ true → ToldFor E ms t
-told_so E ms t at begun told e f b d g = (subst (Decides (Begins E t)) f b, subst (ToldWhole E ms) e (d g))
+pub told_so : (E : Env) (ms : List Method) (t at : Term) (begun told : Bool) → at ≡ (start E.table t).term → begun ≡ true → Decides begun (Begins E t) → (told ≡ true → ToldWhole E ms at) → told ≡ true → ToldFor E ms t
+told_so E ms t at begun told e f b d g = (subst (λ b. Decides b (Begins E t)) f b, subst (ToldWhole E ms) e (d g))
 
 -- ---- the methods of the set
 
 module _ (E : Env) (t : Term) (callable : Candidates) (ms : List Method) (holds : HoldMethodSet E.table t callable) where
-  pub not_candidates : (answer : Bool) → answer ≡ false → Decides (AreCandidates callable ms) answer → HoldsEach E t ms → ⊥
-  not_candidates answer f d each = (subst (Decides (AreCandidates callable ms)) f d) (λ m h. (holds (out-Method m).sel (out-Method m).signature).1 (in_set E t (out-Method m).sel (out-Method m).signature (each m h)))
+  pub not_candidates : (answer : Bool) → answer ≡ false → Decides answer (AreCandidates callable ms) → HoldsEach E t ms → ⊥
+  not_candidates answer f d each = (subst (λ b. Decides b (AreCandidates callable ms)) f d) (λ m h. (holds (out-Method m).sel (out-Method m).signature).1 (in_set E t (out-Method m).sel (out-Method m).signature (each m h)))
 
-  pub are_held : (answer : Bool) → answer ≡ true → Decides (AreCandidates callable ms) answer → ToldFor E ms t → HoldsEach E t ms
-  are_held answer f d told m h = made ((holds (out-Method m).sel (out-Method m).signature).0 ((subst (Decides (AreCandidates callable ms)) f d) m h))
+  pub are_held : (answer : Bool) → answer ≡ true → Decides answer (AreCandidates callable ms) → ToldFor E ms t → HoldsEach E t ms
+  are_held answer f d told m h = made ((holds (out-Method m).sel (out-Method m).signature).0 ((subst (λ b. Decides b (AreCandidates callable ms)) f d) m h))
     where
       reached : (pointer through : Bool) → Reaches pointer through → Reaches pointer (if through then true else false)
       reached pointer true r = r

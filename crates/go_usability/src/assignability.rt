@@ -30,7 +30,7 @@ pub(crate) fn is_interface<'a>(context: &Context<'a>, term: &'a Term) -> bool
 }
 
 fn is_same_unnamed<'a>(context: &Context<'a>, from: &'a Term, to: &'a Term) -> bool
-    ensures { Decides (SameUnnamed (env_of context.now.env.now) from.now to.now) result }
+    ensures { Decides result (SameUnnamed (env_of context.now.env.now) from.now to.now) }
 {
     if is_named(from) && is_named(to) {
         return false;
@@ -64,7 +64,7 @@ pub fn assignable<'a>(
     from: &'a Term,
     to: &'a Term,
 ) -> Result<bool, NoMemory>
-    ensures { IfOk result (Decides (Assignable (env_of context.now.env.now) from.now to.now)) }
+    ensures { IfOk result (λ answer. Decides answer (Assignable (env_of context.now.env.now) from.now to.now)) }
 {
     if identical(from, to) {
         return Ok(true);

@@ -35,7 +35,7 @@ fn push_parts<'a>(
 
 // Whether each type to which a path leads has its entry.
 fn entered_below<'a>(context: &Context<'a>, alloc: Global, term: &'a Term) -> Result<bool, NoMemory>
-    ensures { IfOk result (Decides (EnteredBelow (env_of context.now.env.now) term.now)) }
+    ensures { IfOk result (λ answer. Decides answer (EnteredBelow (env_of context.now.env.now) term.now)) }
 {
     let mut list = Worklist::new(alloc);
     list.push(term)?;
@@ -56,7 +56,7 @@ fn entered_below<'a>(context: &Context<'a>, alloc: Global, term: &'a Term) -> Re
 /// Whether two values of a type can be compared, and each type to which a path through fields and elements
 /// leads has its entry.
 pub fn compares<'a>(context: &Context<'a>, alloc: Global, term: &'a Term) -> Result<bool, NoMemory>
-    ensures { IfOk result (Decides (Compares (env_of context.now.env.now) term.now)) }
+    ensures { IfOk result (λ answer. Decides answer (Compares (env_of context.now.env.now) term.now)) }
 {
     if !table::comparable(context, alloc, term)? {
         return Ok(false);

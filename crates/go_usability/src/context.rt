@@ -49,7 +49,7 @@ impl<'a> Context<'a> {
 
     // Whether a name has its entry.
     fn has_entry(&self, name: &TypeName) -> bool
-        ensures { Decides (EnteredLayer (env_of self.now.env.now) (Term-F.Named name.now)) result }
+        ensures { Decides result (EnteredLayer (env_of self.now.env.now) (Term-F.Named name.now)) }
     {
         if is_error(name) {
             return true;
@@ -62,7 +62,7 @@ impl<'a> Context<'a> {
 
     // Whether a name has its entry, and each of its methods of this selector is had.
     fn is_name_told(&self, sel: &Sel, name: &TypeName) -> bool
-        ensures { Decides (ToldLayer (env_of self.now.env.now) sel.now (Term-F.Named name.now)) result }
+        ensures { Decides result (ToldLayer (env_of self.now.env.now) sel.now (Term-F.Named name.now)) }
     {
         if !self.has_entry(name) {
             return false;
@@ -72,7 +72,7 @@ impl<'a> Context<'a> {
 
     /// Whether a type has its entry, where it is a name.
     pub fn is_entered(&self, term: &Term) -> bool
-        ensures { Decides (Entered (env_of self.now.env.now) term.now) result }
+        ensures { Decides result (Entered (env_of self.now.env.now) term.now) }
     {
         match term {
             Term::Named(name) => self.has_entry(name),
@@ -82,7 +82,7 @@ impl<'a> Context<'a> {
 
     /// Whether it is known where paths from a type begin.
     pub(crate) fn begins(&self, term: &Term) -> bool
-        ensures { Decides (Begins (env_of self.now.env.now) term.now) result }
+        ensures { Decides result (Begins (env_of self.now.env.now) term.now) }
     {
         match term {
             Term::Pointer(base) => self.is_entered(base.value()),
@@ -92,7 +92,7 @@ impl<'a> Context<'a> {
 
     /// Whether a type has its entry, where it is a name, and each of its methods of this selector is had.
     pub(crate) fn is_told(&self, sel: &Sel, term: &Term) -> bool
-        ensures { Decides (Told (env_of self.now.env.now) sel.now term.now) result }
+        ensures { Decides result (Told (env_of self.now.env.now) sel.now term.now) }
     {
         match term {
             Term::Named(name) => self.is_name_told(sel, name),

@@ -2,7 +2,6 @@
 ghost use Rattle.std.specs.Prelude.{◌≡◌, IfOk};
 ghost use Rattle.go_model.specs.declared.types.term.Term.{out-Term};
 ghost use Rattle.go_model.specs.types.Conversions.{Convertible as TableConverts};
-ghost use Rattle.go_model.specs.types.Terms.{pointer_to};
 ghost use Rattle.go_rules.specs.Scopes.{env_of};
 ghost use Rattle.go_rules.specs.Usability.{Assignable, BasesEntered, Convertible};
 ghost use Rattle.go_selectors.specs.Answers.{Decides};
@@ -12,8 +11,7 @@ use crate::assignability::{assignable, is_interface};
 use crate::context::Context;
 use crate::table;
 use go_base::memory::NoMemory;
-use go_base::shared::Shared;
-use go_model::types::term::Term;
+use go_model::types::term::{Term, pointer_to};
 use std::alloc::Global;
 
 fn are_pointers(from: &Term, to: &Term) -> bool
@@ -24,7 +22,7 @@ fn are_pointers(from: &Term, to: &Term) -> bool
 
 // Whether the bases of two pointer types have their entries.
 fn bases_entered(context: &Context<'_>, from: &Term, to: &Term) -> bool
-    ensures { Decides (BasesEntered (env_of context.now.env.now) (out-Term from.now) (out-Term to.now)) result }
+    ensures { Decides result (BasesEntered (env_of context.now.env.now) (out-Term from.now) (out-Term to.now)) }
 {
     match from {
         Term::Pointer(base) => match to {
@@ -37,12 +35,6 @@ fn bases_entered(context: &Context<'_>, from: &Term, to: &Term) -> bool
     }
 }
 
-fn pointer_to(alloc: Global, base: &Term) -> Result<Term, NoMemory>
-    ensures { IfOk result (λ term. term ≡ pointer_to base.now) }
-{
-    Ok(Term::Pointer(Shared::new(alloc, base.copy(alloc)?)?))
-}
-
 // Whether a value of one type is convertible to another, whatever each is borrowed from.
 fn converts_between(
     context: &Context<'_>,
@@ -50,7 +42,7 @@ fn converts_between(
     from: &Term,
     to: &Term,
 ) -> Result<bool, NoMemory>
-    ensures { IfOk result (Decides (TableConverts (env_of context.now.env.now).table (env_of context.now.env.now).profile from.now to.now)) }
+    ensures { IfOk result (λ answer. Decides answer (TableConverts (env_of context.now.env.now).table (env_of context.now.env.now).profile from.now to.now)) }
 {
     table::convertible(context, alloc, from, to)
 }
@@ -62,7 +54,7 @@ fn converts_beneath(
     from: &Term,
     to: &Term,
 ) -> Result<bool, NoMemory>
-    ensures { IfOk result (Decides (ConvertsBeneath (env_of context.now.env.now) from.now to.now)) }
+    ensures { IfOk result (λ answer. Decides answer (ConvertsBeneath (env_of context.now.env.now) from.now to.now)) }
 {
     let left = pointer_to(alloc, from)?;
     let right = pointer_to(alloc, to)?;
@@ -79,7 +71,7 @@ fn converts_else<'a>(
 ) -> Result<bool, NoMemory>
     requires table { TableConverts (env_of context.now.env.now).table (env_of context.now.env.now).profile from.now to.now }
     requires unassignable { Assignable (env_of context.now.env.now) from.now to.now → ⊥ }
-    ensures { IfOk result (Decides (Convertible (env_of context.now.env.now) from.now to.now)) }
+    ensures { IfOk result (λ answer. Decides answer (Convertible (env_of context.now.env.now) from.now to.now)) }
 {
     if are_pointers(from, to) {
         return Ok(bases_entered(context, from, to));
@@ -108,7 +100,7 @@ pub fn convertible<'a>(
     from: &'a Term,
     to: &'a Term,
 ) -> Result<bool, NoMemory>
-    ensures { IfOk result (Decides (Convertible (env_of context.now.env.now) from.now to.now)) }
+    ensures { IfOk result (λ answer. Decides answer (Convertible (env_of context.now.env.now) from.now to.now)) }
 {
     if assignable(context, alloc, from, to)? {
         return Ok(true);

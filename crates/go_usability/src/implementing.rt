@@ -3,7 +3,6 @@ ghost use Rattle.std.specs.Prelude.{IfOk};
 ghost use Rattle.go_rules.specs.Scopes.{env_of};
 ghost use Rattle.go_rules.specs.Usability.{Implements};
 ghost use Rattle.go_selectors.specs.Answers.{Decides};
-ghost use Rattle.go_selectors.specs.Candidates.{AreCandidates, IsCandidate};
 ghost use Rattle.go_usability.specs.inner.Methods.{Holds, HoldsEach, IsCalled};
 
 use crate::context::Context;
@@ -12,20 +11,17 @@ use crate::table;
 use crate::told::told_for;
 use go_base::memory::NoMemory;
 use go_model::types::found::Found;
-use go_model::types::names::Sel;
 use go_model::types::term::{Method, Term};
-use go_selectors::candidate::Candidate;
-use go_selectors::candidates::called_at;
 use go_selectors::identity::same_signature;
+use go_types::implementing::are_candidates;
 use std::alloc::Global;
-use std::collections::BTreeMap;
 
 // Up to so many methods are searched for one by one: a search keeps less in memory than a map of all.
 const FEW_METHODS: usize = 4;
 
 // Whether what was found is this method, and callable on a value that isn't addressable.
 fn is_called(found: &Option<Found>, method: &Method) -> bool
-    ensures { Decides (IsCalled found.now method.now) result }
+    ensures { Decides result (IsCalled found.now method.now) }
 {
     match called(found, false) {
         Some(signature) => same_signature(signature, &method.signature),
@@ -39,7 +35,7 @@ fn holds<'a>(
     term: &'a Term,
     method: &Method,
 ) -> Result<bool, NoMemory>
-    ensures { IfOk result (Decides (Holds (env_of context.now.env.now) term.now method.now)) }
+    ensures { IfOk result (λ answer. Decides answer (Holds (env_of context.now.env.now) term.now method.now)) }
 {
     let answer = found(context, alloc, term, &method.sel)?;
     let called = is_called(&answer, method);
@@ -52,7 +48,7 @@ fn holds_each<'a>(
     term: &'a Term,
     methods: &[Method],
 ) -> Result<bool, NoMemory>
-    ensures { IfOk result (Decides (HoldsEach (env_of context.now.env.now) term.now methods.now)) }
+    ensures { IfOk result (λ answer. Decides answer (HoldsEach (env_of context.now.env.now) term.now methods.now)) }
 {
     for method in methods {
         if !holds(context, alloc, term, method)? {
@@ -62,26 +58,6 @@ fn holds_each<'a>(
     Ok(true)
 }
 
-fn is_candidate(candidates: &BTreeMap<Sel, Candidate<'_>>, method: &Method) -> bool
-    ensures { Decides (IsCandidate candidates.now method.now) result }
-{
-    match called_at(candidates, &method.sel) {
-        Some(signature) => same_signature(signature, &method.signature),
-        None => false,
-    }
-}
-
-fn are_candidates(candidates: &BTreeMap<Sel, Candidate<'_>>, methods: &[Method]) -> bool
-    ensures { Decides (AreCandidates candidates.now methods.now) result }
-{
-    for method in methods {
-        if !is_candidate(candidates, method) {
-            return false;
-        }
-    }
-    true
-}
-
 // By one search for all, where the types on all levels are told; else one by one.
 fn holds_many<'a>(
     context: &Context<'a>,
@@ -89,7 +65,7 @@ fn holds_many<'a>(
     term: &'a Term,
     methods: &[Method],
 ) -> Result<bool, NoMemory>
-    ensures { IfOk result (Decides (HoldsEach (env_of context.now.env.now) term.now methods.now)) }
+    ensures { IfOk result (λ answer. Decides answer (HoldsEach (env_of context.now.env.now) term.now methods.now)) }
 {
     let callable = table::candidates(context, alloc, term)?;
     if !are_candidates(&callable, methods) {
@@ -108,7 +84,7 @@ fn holds_all<'a>(
     term: &'a Term,
     methods: &[Method],
 ) -> Result<bool, NoMemory>
-    ensures { IfOk result (Decides (HoldsEach (env_of context.now.env.now) term.now methods.now)) }
+    ensures { IfOk result (λ answer. Decides answer (HoldsEach (env_of context.now.env.now) term.now methods.now)) }
 {
     if methods.len() <= FEW_METHODS {
         let answer = holds_each(context, alloc, term, methods)?;
@@ -127,7 +103,7 @@ pub fn implements<'a>(
     term: &'a Term,
     interface: &'a Term,
 ) -> Result<bool, NoMemory>
-    ensures { IfOk result (Decides (Implements (env_of context.now.env.now) term.now interface.now)) }
+    ensures { IfOk result (λ answer. Decides answer (Implements (env_of context.now.env.now) term.now interface.now)) }
 {
     match context.under(interface) {
         Term::Interface(methods) => {

@@ -10,7 +10,6 @@ pub mod finding;
 pub mod implementing;
 pub mod matching;
 pub mod operands;
-mod part;
 mod table;
 mod told;
 pub mod usable;

@@ -51,7 +51,7 @@ pub(crate) fn assignable<'a>(
     from: &'a Term,
     to: &'a Term,
 ) -> Result<bool, NoMemory>
-    ensures { IfOk result (Decides (Assignable (env_of context.now.env.now).table (env_of context.now.env.now).profile from.now to.now)) }
+    ensures { IfOk result (λ answer. Decides answer (Assignable (env_of context.now.env.now).table (env_of context.now.env.now).profile from.now to.now)) }
 {
     let profile = context.env.is_profile();
     let answer = assignability::decide(alloc, &context.types, from, to, profile)?;
@@ -65,7 +65,7 @@ pub(crate) fn convertible<'a>(
     from: &'a Term,
     to: &'a Term,
 ) -> Result<bool, NoMemory>
-    ensures { IfOk result (Decides (Convertible (env_of context.now.env.now).table (env_of context.now.env.now).profile from.now to.now)) }
+    ensures { IfOk result (λ answer. Decides answer (Convertible (env_of context.now.env.now).table (env_of context.now.env.now).profile from.now to.now)) }
 {
     let profile = context.env.is_profile();
     let answer = conversions::decide(alloc, &context.types, from, to, profile)?;
@@ -78,7 +78,7 @@ pub(crate) fn comparable<'a>(
     alloc: Global,
     term: &'a Term,
 ) -> Result<bool, NoMemory>
-    ensures { IfOk result (Decides (Comparable (env_of context.now.env.now).table term.now)) }
+    ensures { IfOk result (λ answer. Decides answer (Comparable (env_of context.now.env.now).table term.now)) }
 {
     let answer = comparison::decide(alloc, &context.types, term)?;
     Ok(answer)

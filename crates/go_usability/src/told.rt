@@ -6,9 +6,9 @@ ghost use Rattle.go_selectors.specs.Answers.{Decides};
 ghost use Rattle.go_usability.specs.inner.Levels.{further, PushesAll, Visits, ToldDown, ToldEach, ToldFor, ToldFrom, ToldWhole};
 
 use crate::context::Context;
-use crate::part::Part;
 use crate::worklist::Worklist;
 use go_base::memory::NoMemory;
+use go_model::types::borrowed::BorrowedTerm;
 use go_model::types::names::Sel;
 use go_model::types::term::{Method, Term};
 use std::alloc::Global;
@@ -35,7 +35,7 @@ fn visit<'a>(
     context: &Context<'a>,
     list: &mut Worklist<'a>,
     sel: &Sel,
-    layer: &Vec<Part<'a>>,
+    layer: &Vec<BorrowedTerm<'a>>,
 ) -> Result<bool, NoMemory>
     ensures { IfOk result (Visits (env_of context.now.env.now) sel.now layer.now.items list.old.all.items list.old.seen.keys list.new.all.items list.new.seen.keys) }
 {
@@ -57,7 +57,7 @@ fn told_down<'a>(
     sel: &Sel,
     depth: u32,
 ) -> Result<bool, NoMemory>
-    ensures { IfOk result (Decides (ToldDown (env_of context.now.env.now) sel.now depth term.now)) }
+    ensures { IfOk result (λ answer. Decides answer (ToldDown (env_of context.now.env.now) sel.now depth term.now)) }
 {
     let mut list = Worklist::new(alloc);
     list.push(term)?;
@@ -75,7 +75,7 @@ fn told_down<'a>(
 
 // Whether a type is told for the selector of each method.
 fn is_told_each(context: &Context<'_>, term: &Term, methods: &[Method]) -> bool
-    ensures { Decides (ToldEach (env_of context.now.env.now) methods.now term.now) result }
+    ensures { Decides result (ToldEach (env_of context.now.env.now) methods.now term.now) }
 {
     for method in methods {
         if !context.is_told(&method.sel, term) {
@@ -136,7 +136,7 @@ pub(crate) fn told_from<'a>(
     sel: &Sel,
     depth: u32,
 ) -> Result<bool, NoMemory>
-    ensures { IfOk result (Decides (ToldFrom (env_of context.now.env.now) sel.now depth term.now)) }
+    ensures { IfOk result (λ answer. Decides answer (ToldFrom (env_of context.now.env.now) sel.now depth term.now)) }
 {
     if !context.begins(term) {
         return Ok(false);

@@ -33,14 +33,14 @@ pub fn holds_nil(term: &Term) -> bool
 
 /// Whether the default type of an untyped kind can hold a value.
 pub fn default_holds(context: &Context<'_>, kind: Untyped, value: &Value) -> bool
-    ensures { Decides (DefaultHolds (env_of context.now.env.now) kind value.now) result }
+    ensures { Decides result (DefaultHolds (env_of context.now.env.now) kind value.now) }
 {
     representable(value, default_basic(kind), context.env.bits())
 }
 
 // Whether an untyped constant may be used where this is underneath.
 fn constant_fits(context: &Context<'_>, kind: Untyped, value: &Value, term: &Term) -> bool
-    ensures { Decides (ConstantFits (env_of context.now.env.now) kind value.now (out-Term term.now)) result }
+    ensures { Decides result (ConstantFits (env_of context.now.env.now) kind value.now (out-Term term.now)) }
 {
     match term {
         Term::Plain(basic) => representable(value, *basic, context.env.bits()),
@@ -73,7 +73,7 @@ fn uses<'a>(
     standing: &Standing<'a>,
     term: &'a Term,
 ) -> Result<bool, NoMemory>
-    ensures { IfOk result (Decides (Uses (env_of context.now.env.now) (stood standing.now) term.now)) }
+    ensures { IfOk result (λ answer. Decides answer (Uses (env_of context.now.env.now) (stood standing.now) term.now)) }
 {
     match standing {
         Standing::OfType(from) => assignable(context, alloc, from, term),
@@ -96,7 +96,7 @@ pub fn usable<'a>(
     operand: &'a Operand,
     term: &'a Term,
 ) -> Result<bool, NoMemory>
-    ensures { IfOk result (Decides (UsableAs (env_of context.now.env.now) operand.now term.now)) }
+    ensures { IfOk result (λ answer. Decides answer (UsableAs (env_of context.now.env.now) operand.now term.now)) }
 {
     let answer = uses(context, alloc, &stands(operand), term)?;
     Ok(answer)

@@ -6,8 +6,8 @@ ghost use Rattle.go_types.specs.Parts.{SeesTerm, Pushes, PushesFields, PartAt};
 ghost use Rattle.go_model.specs.types.Selectors.{base_of};
 ghost use Rattle.go_usability.specs.inner.Levels.{embedded, PushesAll};
 
-use crate::part::Part;
 use go_base::memory::NoMemory;
+use go_model::types::borrowed::BorrowedTerm;
 use go_model::types::term::{Field, Term};
 use go_selectors::name::Name;
 use indexmap::IndexSet;
@@ -17,7 +17,7 @@ use std::alloc::Global;
 #[derive(Drop)]
 pub(crate) struct Worklist<'a> {
     alloc: Global,
-    all: Vec<Part<'a>>,
+    all: Vec<BorrowedTerm<'a>>,
     seen: IndexSet<Name<'a>>,
 }
 
@@ -67,7 +67,7 @@ impl<'a> Worklist<'a> {
         if sees(&mut self.seen, term)? {
             return Ok(());
         }
-        self.all.push(Part::new(term))?;
+        self.all.push(BorrowedTerm::new(term))?;
         Ok(())
     }
 
@@ -120,13 +120,13 @@ impl<'a> Worklist<'a> {
     }
 
     /// The types from a place on.
-    pub(crate) fn tail(&self, from: usize) -> Result<Vec<Part<'a>>, NoMemory>
+    pub(crate) fn tail(&self, from: usize) -> Result<Vec<BorrowedTerm<'a>>, NoMemory>
         requires { from ≤ length self.now.all.items }
         ensures { IfOk result (λ tail. tail.items ≡ drop from self.now.all.items) }
     {
         let mut tail = Vec::new(self.alloc);
         for part in &self.all[from..] {
-            tail.push(Part::new(part.term()))?;
+            tail.push(BorrowedTerm::new(part.term()))?;
         }
         Ok(tail)
     }

@@ -4,6 +4,8 @@ use crate::objects::{defined, entity, type_entity};
 use crate::read::{Stack, split, text};
 use crate::refusal::Refusal;
 use go_base::list::List;
+use go_base::memory::NoMemory;
+use go_base::shared::Shared;
 use go_base::text::Text;
 use go_model::types::package::{Defined, Object, Package};
 use go_model::types::world::World;
@@ -51,20 +53,20 @@ impl Making {
     }
 
     /// The whole package.
-    pub fn package(self) -> Package {
+    pub fn package(self, alloc: Global) -> Result<Package, NoMemory> {
         let Making {
             path,
             name,
             objects,
             defined,
         } = self;
-        Package {
+        Ok(Package {
             path,
             name,
             from_std: false,
-            objects,
-            defined,
-        }
+            objects: Shared::new(alloc, objects)?,
+            defined: Shared::new(alloc, defined)?,
+        })
     }
 }
 

@@ -6,10 +6,10 @@ use Rattle.go_model.specs.declared.constants.value.Value.TheVariants as value
 use Rattle.go_model.specs.declared.types.package.ConstTerm.{ConstTerm}
 use Rattle.go_model.specs.declared.types.package.ConstTerm.TheVariants as constant
 use Rattle.go_model.specs.declared.types.term.Term.{Term, Term-F}
-use Rattle.go_model.specs.types.Terms.{Layer}
+use Rattle.go_model.specs.types.Terms.{Layer, slice_of}
 use Rattle.go_model.specs.types.Underlying.{under}
 use Rattle.go_rules.specs.Environments.{Env}
-use Rattle.go_rules.specs.Expressions.{IsString, slice_of}
+use Rattle.go_rules.specs.Expressions.{IsString}
 use Rattle.go_rules.specs.Operands.{basic_term, constant_of, is_variable, plain}
 use Rattle.go_rules.specs.declared.operand.Operand.{Operand}
 

@@ -11,7 +11,7 @@ use Rattle.go_typings.specs.Sources.{PackageSource}
 -- the answer tells whether the declaration of the number meets what it is asked in the scopes where it stands
 abbrev pub IsMetThere : Scopes → List ℕ → List Declaration → ℕ → Bool → Type 0
 IsMetThere c name ds n answer =
-    (u : PackageSource) → declarations u ≡ ds → u.name ≡ name → u.path ≡ c.path → (d : Declaration) → slice_get ds n ≡ Some d → Decides (Asks (env_of (at_declaration c d)) u n d.form) answer
+    (u : PackageSource) → declarations u ≡ ds → u.name ≡ name → u.path ≡ c.path → (d : Declaration) → slice_get ds n ≡ Some d → Decides answer (Asks (env_of (at_declaration c d)) u n d.form)
 
 -- there is an answer for each declaration
 pub record AreMetThere (c : Scopes) (name : List ℕ) (ds : List Declaration) (answers : List Bool) : Type 0 where

@@ -32,7 +32,7 @@ module _ (ds : List Declaration) where
   pub record IsOfType (IsShared : List ℕ → Type 0) (type : List ℕ) (rows : List MethodRow) (n : ℕ) (b : Base) : Type 0 where
     pub name : b.name.now ≡ type
     pub row : HasNumber rows n
-    pub only : Decides (IsAlone IsShared (method_name ds n)) b.is_only
+    pub only : Decides b.is_only (IsAlone IsShared (method_name ds n))
 
   -- besides what was told before, the rows of the type are
   pub record TellsRows (IsShared : List ℕ → Type 0) (type : List ℕ) (rows : List MethodRow) (old new : List (Option Base)) : Type 0 where

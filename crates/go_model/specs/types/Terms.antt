@@ -20,9 +20,13 @@ abbrev pub signature_of : Layer → Option Signature
 signature_of (Term-F.Func g) = Some g
 signature_of l = None
 
--- the type of a level
+-- the pointer type to a type
 abbrev pub pointer_to : Term → Term
 pointer_to base = roll-Term (Term-F.Pointer base)
+
+-- the slice type of an element
+abbrev pub slice_of : Term → Term
+slice_of element = roll-Term (Term-F.Slice element)
 
 -- two selectors are the same name of the same package
 abbrev pub same_sel : Sel → Sel → Bool

@@ -6,6 +6,7 @@ use crate::types::package::{ConstTerm, Defined, Entity, MethodOf, Object, Packag
 use crate::types::term::{Signature, Term};
 use go_base::list::List;
 use go_base::memory::NoMemory;
+use go_base::shared::Shared;
 use go_base::text::Text;
 use std::alloc::Global;
 
@@ -159,8 +160,21 @@ impl Package {
             path: copy_text(alloc, &self.path)?,
             name: copy_text(alloc, &self.name)?,
             from_std: self.from_std,
-            objects: copy_objects(alloc, self.objects.items())?,
-            defined: copy_defined(alloc, self.defined.items())?,
+            objects: Shared::new(alloc, copy_objects(alloc, self.objects.items())?)?,
+            defined: Shared::new(alloc, copy_defined(alloc, self.defined.items())?)?,
+        })
+    }
+
+    /// The same package, whose objects and defined types are shared: only path and name take memory.
+    pub fn share(&self, alloc: Global) -> Result<Package, NoMemory>
+        ensures { IfOk result (λ shared. shared ≡ self.now) }
+    {
+        Ok(Package {
+            path: copy_text(alloc, &self.path)?,
+            name: copy_text(alloc, &self.name)?,
+            from_std: self.from_std,
+            objects: self.objects.share()?,
+            defined: self.defined.share()?,
         })
     }
 }

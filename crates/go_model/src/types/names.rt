@@ -1,5 +1,6 @@
 //! Names of types, and selectors.
 ghost use Rattle.std.specs.Prelude.{◌≡◌};
+ghost use Rattle.go_model.specs.types.Imports.{is_imported};
 
 use go_base::text::Text;
 
@@ -25,6 +26,13 @@ impl Drop for TypeName {
     fn drop(self) {
         let TypeName { path: _, name: _ } = self;
     }
+}
+
+/// Whether a type is of another package than a client's, and not predeclared.
+pub fn is_imported(name: &TypeName) -> bool
+    ensures { result ≡ is_imported name.now }
+{
+    name.path.bytes() != b"".as_slice() && name.path.bytes() != b"-client".as_slice()
 }
 
 /// A selector: the name of a field or method, and the import path of the package that declares it,

@@ -9,6 +9,7 @@ use crate::types::keyed::find_key;
 use crate::types::names::Sel;
 use crate::types::term::{Signature, Term};
 use go_base::list::List;
+use go_base::shared::Shared;
 use go_base::text::Text;
 
 /// The type of a constant: a type, or the kind of an untyped one.
@@ -92,13 +93,13 @@ impl Drop for Defined {
 }
 
 /// A package: its import path, its name, whether it is of the standard library, and its objects and
-/// defined types, each ordered by name.
+/// defined types, each ordered by name. Worlds that have the same package share these.
 pub struct Package {
     pub path: Text,
     pub name: Text,
     pub from_std: bool,
-    pub objects: List<Object>,
-    pub defined: List<Defined>,
+    pub objects: Shared<List<Object>>,
+    pub defined: Shared<List<Defined>>,
 }
 
 impl Drop for Package {

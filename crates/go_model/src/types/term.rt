@@ -1,14 +1,16 @@
 //! Types as terms, after the Go specification's "Types": two of them are identical exactly where
 //! they are equal.
-ghost use Rattle.std.specs.Prelude.{◌≡◌};
+ghost use Rattle.std.specs.Prelude.{◌≡◌, IfOk};
 ghost use Rattle.go_model.specs.declared.types.term.Term.{out-Term};
-ghost use Rattle.go_model.specs.types.Terms.{signature_of};
+ghost use Rattle.go_model.specs.types.Terms.{pointer_to, signature_of, slice_of};
 
 use crate::constants::value::Basic;
 use crate::types::names::{Sel, TypeName};
 use go_base::list::List;
+use go_base::memory::NoMemory;
 use go_base::shared::Shared;
 use go_base::text::Text;
+use std::alloc::Global;
 
 /// The direction of a channel type.
 #[derive(Clone, Copy, Debug, PartialEq, Eq)]
@@ -59,6 +61,20 @@ impl Term {
             Term::Interface(_) => None,
         }
     }
+}
+
+/// The pointer type to a type.
+pub fn pointer_to(alloc: Global, base: &Term) -> Result<Term, NoMemory>
+    ensures { IfOk result (λ pointer. pointer ≡ pointer_to base.now) }
+{
+    Ok(Term::Pointer(Shared::new(alloc, base.copy(alloc)?)?))
+}
+
+/// The slice type of an element.
+pub fn slice_of(alloc: Global, element: &Term) -> Result<Term, NoMemory>
+    ensures { IfOk result (λ slice. slice ≡ slice_of element.now) }
+{
+    Ok(Term::Slice(Shared::new(alloc, element.copy(alloc)?)?))
 }
 
 impl Drop for Term {

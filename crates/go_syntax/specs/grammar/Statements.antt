@@ -6,6 +6,7 @@ use Rattle.go_syntax.specs.declared.body.BodyRange.{BodyRange}
 use Rattle.go_syntax.specs.declared.declaration.ConstSpec.{ConstSpec}
 use Rattle.go_syntax.specs.declared.declaration.VarSpec.{VarSpec}
 use Rattle.go_syntax.specs.declared.expression.Expr.{Expr}
+use Rattle.go_syntax.specs.declared.expression.Expr.TheVariants as expr
 use Rattle.go_syntax.specs.declared.name.Name.{Name}
 use Rattle.go_base.specs.declared.operator.AssignOperator.{AssignOperator}
 use Rattle.go_base.specs.declared.operator.AssignOperator.TheVariants as assign
@@ -76,9 +77,10 @@ pub data IsInit (Body : ℕ → Rule BodyRange) : ℕ → List Terminal → Opti
   init_empty : {h : ℕ} {ts rest : List Terminal} → Takes kind.Semicolon ts rest → IsInit Body h ts (Some (statement (start_of ts) stmt.Empty)) rest
   init_some : {h : ℕ} {ts u rest : List Terminal} {k : StmtKind} → IsSimple Body false h ts k u → Takes kind.Semicolon u rest → IsInit Body h ts (Some (statement (start_of ts) k)) rest
 
--- what a case of a select waits for: a send, or a receive alone or on the right of `=` or `:=`
+-- what a case of a select waits for: a send, or a receive alone or on the right of `=` or `:=`. A receive may stand in parentheses
 pub data IsReceive (Body : ℕ → Rule BodyRange) : ℕ → List Terminal → Expr → List Terminal → Type 0 where
   receive : {h : ℕ} {ts u rest : List Terminal} {x : Expr} → Takes kind.Arrow ts u → IsUnary Body true h ts x rest → IsReceive Body h ts x rest
+  receive_paren : {h : ℕ} {ts u v rest : List Terminal} {x : Expr} → Takes kind.LeftParen ts u → IsReceive Body h u x v → Takes kind.RightParen v rest → IsReceive Body (suc h) ts (expr.Paren x) rest
 
 pub data IsCommunication (Body : ℕ → Rule BodyRange) : ℕ → List Terminal → StmtKind → List Terminal → Type 0 where
   communication_send : {h : ℕ} {ts u v rest : List Terminal} {x y : Expr} → IsExpr Body true h ts x u → Takes kind.Arrow u v → IsExpr Body true h v y rest → IsCommunication Body (suc h) ts (stmt.Send x y) rest

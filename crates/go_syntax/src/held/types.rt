@@ -53,6 +53,64 @@ impl HeldType {
     }
 }
 
+/// Types in the making, as those of a clause.
+pub struct HeldTypes {
+    trees: List<Type>,
+}
+
+impl Drop for HeldTypes {
+    fn drop(self) {
+        let HeldTypes { trees: _ } = self;
+    }
+}
+
+impl Model for HeldTypes {
+    ghost use Rattle.go_syntax.specs.declared.types.«Type».{«Type»};
+    ghost use Rattle.go_syntax.specs.contracts.types.«Type» as t;
+    ghost use Rattle.std.specs.Coded.{codes, coded_list};
+    ghost use Rattle.std.specs.Prelude.{List as Sequence};
+
+    ghost Value = { Sequence «Type» };
+
+    ghost coded = { coded_list (Prim.hlevel (codes, t.the_row.coded)) };
+
+    ghost view = { λ h. h.trees };
+}
+
+impl HeldTypes {
+    /// No tree.
+    pub fn new(alloc: Global) -> HeldTypes
+        ensures { result ≡ [] }
+    {
+        HeldTypes {
+            trees: List::new(alloc),
+        }
+    }
+
+    /// How many trees there are.
+    pub fn len(&self) -> usize
+        ensures { result ≡ length self.now }
+    {
+        self.trees.items().len()
+    }
+
+    /// Appends a tree. One that found no room is given up.
+    pub fn push(&mut self, tree: Type) -> Result<(), NoMemory>
+        ensures ok { OnOk result (self.new ≡ self.old ++ tree ∷ []) }
+        ensures err { OnErr result (self.new ≡ self.old) }
+    {
+        self.trees.push(tree)
+    }
+
+    /// The trees, moved out.
+    pub fn take(self) -> List<Type>
+        ensures { result ≡ self }
+    {
+        let HeldTypes { trees } = self;
+        trees
+    }
+}
+
 /// Parameters and a result in the making.
 pub struct HeldSignature {
     tree: Whole<Signature>,

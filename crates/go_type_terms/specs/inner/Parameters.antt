@@ -4,7 +4,8 @@ use Rattle.go_model.specs.declared.types.term.Term.{Term}
 use Rattle.go_syntax.specs.declared.name.Name.{Name}
 use Rattle.go_syntax.specs.declared.types.ParameterDecl.{ParameterDecl, out-ParameterDecl}
 use Rattle.go_rules.specs.Environments.{Env}
-use Rattle.go_rules.specs.Expressions.{OfParameters, OfType, for_names, slice_of}
+use Rattle.go_model.specs.types.Terms.{slice_of}
+use Rattle.go_rules.specs.Expressions.{OfParameters, OfType, for_names}
 
 -- the types of the names, which are of this type; a variadic parameter is one, and of the slice type
 abbrev pub GivesTerms : (variadic : Bool) → List Name → Term → List Term → Type 0

@@ -7,10 +7,10 @@ use Rattle.api_breaks.proofs.InterfaceLosses.{uncounted, served, gone_lost}
 use Rattle.api_breaks.proofs.interfaces.push_gone.Goals as goal
 
 pub returns-then-not-counts : goal.returns-then-not-counts
-returns-then-not-counts c = uncounted c.args.old.now c.args.after.now c.args.method.now c.args.losses.now.items (subst (Decides (Counts c.args.old.now (method_sel c.args.method.now))) c.if-not-counts.true c.counts.ensures)
+returns-then-not-counts c = uncounted c.args.old.now c.args.after.now c.args.method.now c.args.losses.now.items (subst (λ b. Decides b (Counts c.args.old.now (method_sel c.args.method.now))) c.if-not-counts.true c.counts.ensures)
 
 pub returns-then-has_serving : goal.returns-then-has_serving
-returns-then-has_serving c = served c.args.old.now c.args.after.now c.args.method.now c.args.losses.now.items (subst (Decides (HasServing c.args.old.now c.args.after.now c.args.method.now)) c.if-has_serving.true c.has_serving.ensures)
+returns-then-has_serving c = served c.args.old.now c.args.after.now c.args.method.now c.args.losses.now.items (subst (λ b. Decides b (HasServing c.args.old.now c.args.after.now c.args.method.now)) c.if-has_serving.true c.has_serving.ensures)
 
 pub returns : goal.returns
-returns c = gone_lost c.args.old.now c.args.after.now c.args.method.now c.args.losses.now.items c.push_method.new.losses.items (subst (Decides (Counts c.args.old.now (method_sel c.args.method.now))) c.if-not-counts.false c.counts.ensures) (subst (Decides (HasServing c.args.old.now c.args.after.now c.args.method.now)) c.if-has_serving.false c.has_serving.ensures) c.in_ok-push_method.ensures
+returns c = gone_lost c.args.old.now c.args.after.now c.args.method.now c.args.losses.now.items c.push_method.new.losses.items (subst (λ b. Decides b (Counts c.args.old.now (method_sel c.args.method.now))) c.if-not-counts.false c.counts.ensures) (subst (λ b. Decides b (HasServing c.args.old.now c.args.after.now c.args.method.now)) c.if-has_serving.false c.has_serving.ensures) c.in_ok-push_method.ensures

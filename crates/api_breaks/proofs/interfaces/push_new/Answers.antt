@@ -6,7 +6,7 @@ use Rattle.api_breaks.proofs.InterfaceLosses.{not_new, new_lost}
 use Rattle.api_breaks.proofs.interfaces.push_new.Goals as goal
 
 pub returns-then-has_sel : goal.returns-then-has_sel
-returns-then-has_sel c = not_new c.args.losses.now.items c.args.before.now c.args.method.now (subst (Decides (HasSel c.args.before.now (method_sel c.args.method.now))) c.if-has_sel.true c.has_sel.ensures)
+returns-then-has_sel c = not_new c.args.losses.now.items c.args.before.now c.args.method.now (subst (λ b. Decides b (HasSel c.args.before.now (method_sel c.args.method.now))) c.if-has_sel.true c.has_sel.ensures)
 
 pub returns : goal.returns
-returns c = new_lost c.args.losses.now.items c.push_method.new.losses.items c.args.before.now c.args.method.now (subst (Decides (HasSel c.args.before.now (method_sel c.args.method.now))) c.if-has_sel.false c.has_sel.ensures) c.in_ok-push_method.ensures
+returns c = new_lost c.args.losses.now.items c.push_method.new.losses.items c.args.before.now c.args.method.now (subst (λ b. Decides b (HasSel c.args.before.now (method_sel c.args.method.now))) c.if-has_sel.false c.has_sel.ensures) c.in_ok-push_method.ensures

@@ -7,10 +7,10 @@ use Rattle.api_breaks.proofs.MethodSetLosses.{method_uncounted, method_kept, met
 use Rattle.api_breaks.proofs.method_sets.push_lost.Goals as goal
 
 pub returns-then-not-counts : goal.returns-then-not-counts
-returns-then-not-counts c = method_uncounted c.args.old.now c.args.callable.now c.args.method.now c.args.losses.now.items (subst (Decides (Counts c.args.old.now (method_sel c.args.method.now))) c.if-not-counts.true c.counts.ensures)
+returns-then-not-counts c = method_uncounted c.args.old.now c.args.callable.now c.args.method.now c.args.losses.now.items (subst (λ b. Decides b (Counts c.args.old.now (method_sel c.args.method.now))) c.if-not-counts.true c.counts.ensures)
 
 pub returns-then-keeps_method : goal.returns-then-keeps_method
-returns-then-keeps_method c = method_kept c.args.old.now c.args.callable.now c.args.method.now c.args.losses.now.items (subst (Decides (KeptIn c.args.old.now c.args.callable.now c.args.method.now)) c.if-keeps_method.true c.keeps_method.ensures)
+returns-then-keeps_method c = method_kept c.args.old.now c.args.callable.now c.args.method.now c.args.losses.now.items (subst (λ b. Decides b (KeptIn c.args.old.now c.args.callable.now c.args.method.now)) c.if-keeps_method.true c.keeps_method.ensures)
 
 pub returns : goal.returns
-returns c = method_lost c.args.old.now c.args.callable.now c.args.method.now c.args.losses.now.items c.push.new.self.items c.in_ok-sel.sel (subst (Decides (Counts c.args.old.now (method_sel c.args.method.now))) c.if-not-counts.false c.counts.ensures) (subst (Decides (KeptIn c.args.old.now c.args.callable.now c.args.method.now)) c.if-keeps_method.false c.keeps_method.ensures) c.in_ok-sel.ensures c.in_ok-push.ensures.items
+returns c = method_lost c.args.old.now c.args.callable.now c.args.method.now c.args.losses.now.items c.push.new.self.items c.in_ok-sel.sel (subst (λ b. Decides b (Counts c.args.old.now (method_sel c.args.method.now))) c.if-not-counts.false c.counts.ensures) (subst (λ b. Decides b (KeptIn c.args.old.now c.args.callable.now c.args.method.now)) c.if-keeps_method.false c.keeps_method.ensures) c.in_ok-sel.ensures c.in_ok-push.ensures.items

@@ -11,9 +11,9 @@ use Rattle.go_asks.proofs.members.interface_meets.Goals as goal
 pub returns-then-not-branch : goal.returns-then-not-branch
 returns-then-not-branch c =
     first_fails (Once (methods_names c.args.elements.now)) (Each (λ (x : InterfaceElem). ElementMeets (env_in c.args.context.now) (out-InterfaceElem x)) c.args.elements.now) c.in_ok-are_once.field-0 c.if-not-branch.true
-    (subst (λ (ns : List (List ℕ)). Decides (Once ns) c.in_ok-are_once.field-0) (ap texts_of c.items.ensures ∙ c.in_ok-names.ensures) c.in_ok-are_once.ensures)
+    (subst (λ (ns : List (List ℕ)). Decides c.in_ok-are_once.field-0 (Once ns)) (ap texts_of c.items.ensures ∙ c.in_ok-names.ensures) c.in_ok-are_once.ensures)
 
 pub returns : goal.returns
 returns c =
     second_decides (Once (methods_names c.args.elements.now)) (Each (λ (x : InterfaceElem). ElementMeets (env_in c.args.context.now) (out-InterfaceElem x)) c.args.elements.now) c.in_ok-are_once.field-0 c.if-not-branch.false
-    (subst (λ (ns : List (List ℕ)). Decides (Once ns) c.in_ok-are_once.field-0) (ap texts_of c.items.ensures ∙ c.in_ok-names.ensures) c.in_ok-are_once.ensures) c.in_ok-each.each c.in_ok-each.ensures
+    (subst (λ (ns : List (List ℕ)). Decides c.in_ok-are_once.field-0 (Once ns)) (ap texts_of c.items.ensures ∙ c.in_ok-names.ensures) c.in_ok-are_once.ensures) c.in_ok-each.each c.in_ok-each.ensures

@@ -15,7 +15,7 @@ returns-then-has_none c = usable_empty (env_in c.args.context.now) c.args.form.n
 
 pub returns-in_ok-answer-in-Ok : goal.returns-in_ok-answer-in-Ok
 returns-in_ok-answer-in-Ok c = usable_given (env_in c.args.context.now) c.args.form.now c.args.count c.args.values.now (decided_false (c.args.values.now ≡ []) _ c.if-has_none.false c.has_none.ensures) c.in-Ok.term c.in-Ok.operands c.in-Ok.ensures.0 c.in-Ok.ensures.1 c.in_ok-answer-in-Ok.answer
-    (subst (λ (os : List Operand). Decides (Each (λ (o : Operand). UsableAs (env_in c.args.context.now) o c.in-Ok.term) os) c.in_ok-answer-in-Ok.answer) c.items.ensures c.in_ok-answer-in-Ok.ensures)
+    (subst (λ (os : List Operand). Decides c.in_ok-answer-in-Ok.answer (Each (λ (o : Operand). UsableAs (env_in c.args.context.now) o c.in-Ok.term) os)) c.items.ensures c.in_ok-answer-in-Ok.ensures)
 
 pub returns-in-Err-Untyped : goal.returns-in-Err-Untyped
 returns-in-Err-Untyped c = usable_none (env_in c.args.context.now) c.args.form.now c.args.count c.args.values.now (decided_false (c.args.values.now ≡ []) _ c.if-has_none.false c.has_none.ensures) (none_told (GivesValues (env_in c.args.context.now) c.args.form.now c.args.count c.args.values.now) c.in-Err-Untyped.field-0 c.in-Err-Untyped.field-0-is c.in-Err-Untyped.ensures)

@@ -1,4 +1,4 @@
-use Rattle.std.proofs.Common.{ℕ, List, ap, ◌∙◌, subst}
+use Rattle.std.proofs.Common.{ℕ, List, ap, ◌∙◌, subst, sym}
 use Rattle.go_declarations.specs.Listings.{declarations_of}
 use Rattle.go_declared.proofs.NamesInOrder.{names_listed}
 use Rattle.go_declared.specs.NameTables.{AreDeclared, entries_of, names_in, texts_of}
@@ -18,12 +18,14 @@ returns c = λ s t.
     let a = entries_at c.args.had.now in
     let names = names_listed c.in_ok-listed.listed ∙ ap names_in c.in_ok-listed.ensures.entries in
     package_of s u a t c.args.names.now (subst (λ (xs : List Declaration). AreDeclared xs c.args.names.now) c.requires.listed c.requires.names) c.in_ok-listed.ensures.ordered
-    c.in_ok-of.field-0 c.in_ok-of-2.field-0 c.in_ok-objects.objects c.in_ok-defined.defined
+    c.in_ok-of.field-0 c.in_ok-of-2.field-0 c.in_ok-shared_objects.shared_objects c.in_ok-shared_defined.shared_defined
     (c.in_ok-of.ensures ∙ c.bytes.ensures) (c.in_ok-of-2.ensures ∙ c.bytes-2.ensures)
-    (c.in_ok-objects.ensures
+    (c.in_ok-shared_objects.ensures
+    ∙ c.in_ok-objects.ensures
     ∙ ap (λ (xs : List Declaration). objects_named (denoted u.path a xs) (texts_of c.items.result.now)) c.requires.listed
     ∙ ap (objects_named (denoted u.path a (declarations u))) (ap texts_of c.items.ensures ∙ names))
-    (subst (λ (ns : List (List ℕ)). AreDefined (own_defined u a) ns c.in_ok-defined.defined) (ap texts_of c.items-2.ensures ∙ names) c.in_ok-defined.ensures)
+    (subst (AreDefined (own_defined u a) (names_in c.args.names.now)) (sym c.in_ok-shared_defined.ensures)
+    (subst (λ (ns : List (List ℕ)). AreDefined (own_defined u a) ns c.in_ok-defined.defined) (ap texts_of c.items-2.ensures ∙ names) c.in_ok-defined.ensures))
 
 pub objects-requires : goal.objects-requires
 objects-requires c =

@@ -4,4 +4,4 @@ use Rattle.go_selectors.specs.Answers.{Decides}
 use Rattle.go_types.proofs.implementing.implements_in.Goals as goal
 
 pub returns : goal.returns
-returns g c = subst (λ x. Decides (Implements (g.T.TypeTable.lookup x) c.args.term.now c.args.interface.now) c.in_ok-answer.answer) c.new-lookup.ensures c.in_ok-answer.ensures
+returns g c = subst (λ x. Decides c.in_ok-answer.answer (Implements (g.T.TypeTable.lookup x) c.args.term.now c.args.interface.now)) c.new-lookup.ensures c.in_ok-answer.ensures

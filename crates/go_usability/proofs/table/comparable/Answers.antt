@@ -5,4 +5,4 @@ use Rattle.go_selectors.specs.Answers.{Decides}
 use Rattle.go_usability.proofs.table.comparable.Goals as goal
 
 pub returns : goal.returns
-returns c = subst (λ x. Decides (Comparable (env_of x).table c.args.term.now) c.in_ok-answer.answer) c.args.context.now.same c.in_ok-answer.ensures
+returns c = subst (λ x. Decides c.in_ok-answer.answer (Comparable (env_of x).table c.args.term.now)) c.args.context.now.same c.in_ok-answer.ensures

@@ -1,6 +1,0 @@
-use Rattle.std.proofs.Common.{take}
-use Rattle.go_selectors.specs.Candidates.{AreCandidates}
-use Rattle.go_usability.proofs.implementing.are_candidates.Given as goal
-
-abbrev pub invariant-loop-method : goal.invariant-loop-method
-invariant-loop-method l = AreCandidates l.candidates (take l.method-index l.methods)
