@@ -24,7 +24,7 @@ use Rattle.api_correspond.proofs.Places.{at_within, at_get, at_same, at_has}
 use Rattle.api_correspond.proofs.Selected.{placed_item, item_placed}
 use Rattle.api_breaks.specs.declared.broken.Lost.{Lost}
 use Rattle.api_breaks.specs.declared.broken.Lost.TheVariants as lost
-use Rattle.api_breaks.specs.inner.Interfaces.{HasSealing, Serves, HasServing, ServesAt, HasSel, lost_method, KeepsMethod, IsMethodGone, AreMethodsGone, WasMethod, IsMethodNew, AreMethodsNew, IsSealedApart, KeepsOpen, IsNewWhere, KeepsMethods, IsOfMethods, sealed_apart, methods_gone, methods_new, KeepsInterface, IsInterfaceLoss}
+use Rattle.api_breaks.specs.inner.Interfaces.{HasSealing, Serves, HasServing, ServesAt, HasSel, lost_method, KeepsMethod, IsMethodGone, AreMethodsGone, WasMethod, IsMethodNew, AreMethodsNew, IsSealedApart, KeepsWhere, IsNewWhere, KeepsMethods, IsOfMethods, sealed_apart, methods_gone, methods_new, KeepsInterface, IsInterfaceLoss}
 use Rattle.api_breaks.specs.inner.Telling.{Tells, KeptBy}
 use Rattle.api_breaks.proofs.PairLosses.{some_told}
 use Rattle.api_breaks.proofs.Telling.{told_kept, told_lost, told_as, told_both}
@@ -140,13 +140,13 @@ module _ (ls : List Lost) where
   pub new_lost : (grown : List Lost) (ms : List Method) (n : Method) → (HasSel ms (method_sel n) → ⊥) → grown ≡ ls ++ lost_method n ∷ [] → Tells (WasMethod ms n) (IsMethodNew ms n) ls grown
   new_lost grown ms n k g = told_lost ls grown (lost_method n) g (k, refl) (λ l s. s.1)
 
-  pub sealed_old : (ms ns : List Method) (first second : Bool) → first ≡ true → Tells (KeepsOpen first second ms ns) (IsNewWhere first second ms ns) ls ls
+  pub sealed_old : (ms ns : List Method) (first second : Bool) → first ≡ true → Tells (KeepsWhere first second ms ns) (IsNewWhere first second ms ns) ls ls
   sealed_old ms ns first second e = told_kept ls (λ f. absurd (true≢false (sym e ∙ f))) (λ l h. true≢false (sym e ∙ h.0))
 
-  pub sealed_new : (ms ns : List Method) (first second : Bool) → second ≡ true → Tells (KeepsOpen first second ms ns) (IsNewWhere first second ms ns) ls ls
+  pub sealed_new : (ms ns : List Method) (first second : Bool) → second ≡ true → Tells (KeepsWhere first second ms ns) (IsNewWhere first second ms ns) ls ls
   sealed_new ms ns first second e = told_kept ls (λ f s. absurd (true≢false (sym e ∙ s))) (λ l h. true≢false (sym e ∙ h.1))
 
-  pub open_lost : (grown : List Lost) (ms ns : List Method) (first second : Bool) → first ≡ false → second ≡ false → Tells (KeptBy (WasMethod ms) ns) (AreMethodsNew ms ns) ls grown → Tells (KeepsOpen first second ms ns) (IsNewWhere first second ms ns) ls grown
+  pub open_lost : (grown : List Lost) (ms ns : List Method) (first second : Bool) → first ≡ false → second ≡ false → Tells (KeptBy (WasMethod ms) ns) (AreMethodsNew ms ns) ls grown → Tells (KeepsWhere first second ms ns) (IsNewWhere first second ms ns) ls grown
   open_lost grown ms ns first second e f t = told_as ls grown (λ k x y. k) (λ l h. (e, f, h)) (λ l h. h.2) t
 
   pub alike_kept : (first second : Bool) → first ≡ second → Tells (first ≡ second) (IsSealedApart first second) ls ls
@@ -157,14 +157,14 @@ module _ (ls : List Lost) where
 
 -- the methods of two interfaces
 module _ (old new : Packages) (ms ns : List Method) (first second : Bool) (f : Decides first (HasSealing old ms)) (s : Decides second (HasSealing new ns)) where
-  pub methods_exact : (a b c d : List Lost) → Tells (first ≡ second) (IsSealedApart first second) a b → Tells (KeptBy (KeepsMethod old ns) ms) (AreMethodsGone old ms ns) b c → Tells (KeepsOpen first second ms ns) (IsNewWhere first second ms ns) c d → Tells (KeepsMethods old new ms ns) (IsOfMethods old new ms ns) a d
+  pub methods_exact : (a b c d : List Lost) → Tells (first ≡ second) (IsSealedApart first second) a b → Tells (KeptBy (KeepsMethod old ns) ms) (AreMethodsGone old ms ns) b c → Tells (KeepsWhere first second ms ns) (IsNewWhere first second ms ns) c d → Tells (KeepsMethods old new ms ns) (IsOfMethods old new ms ns) a d
   methods_exact a b c d t u v = told_both a b d kept apart late back t (told_both b c d (λ k l. (k, l)) (λ l h. inl h) (λ l h. inr h) (λ l h. h) u v)
     where
-      kept : first ≡ second → KeptBy (KeepsMethod old ns) ms × KeepsOpen first second ms ns → KeepsMethods old new ms ns
+      kept : first ≡ second → KeptBy (KeepsMethod old ns) ms × KeepsWhere first second ms ns → KeepsMethods old new ms ns
       kept e k = record {
         alike = alike (HasSealing old ms) (HasSealing new ns) first second f s e;
         methods = k.0;
-        closed = λ n o. k.1 (not_false (HasSealing old ms) first f n) (not_false (HasSealing new ns) second s o);
+        open_kept = λ n o. k.1 (not_false (HasSealing old ms) first f n) (not_false (HasSealing new ns) second s o);
       }
 
       apart : (l : Lost) → IsSealedApart first second l → IsOfMethods old new ms ns l

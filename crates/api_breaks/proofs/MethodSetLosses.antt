@@ -66,7 +66,7 @@ module _ (old new : Packages) (t u : Term) where
       in_set s g i = subst (λ (x : Sel). InSet (types_of old) t x (out-Method (made s g)).signature) (at_sel s g) (subst (λ (x : Signature). InSet (types_of old) t s x) (at_type s g) i)
 
       -- the same of the selector and the signature themselves
-      kept_in : (s : Sel) (g : Signature) → KeptIn old callable (made s g) → KeepsInSet old new t u s g
+      kept_in : (s : Sel) (g : Signature) → KeptIn old callable (made s g) → KeepsInSet old new u s g
       kept_in s g k = (k.0, subst (λ (x : Sel). InSet (types_of new) u x k.0) (sym (at_sel s g)) ((h (method_sel (made s g)) k.0).0 k.1), (λ i. k.2 (subst (λ (x : Sel). is_std_sel old x ≡ true) (at_sel s g) i) ∙ sym (at_type s g)))
 
       kept : KeptBy (KeepsCalled old callable) ms → KeepsSet old new t u

@@ -13,7 +13,7 @@ use Rattle.go_model.specs.declared.types.package.Package.{Package}
 use Rattle.go_model.specs.declared.types.package.Object.{Object}
 use Rattle.go_model.specs.declared.types.package.Entity.{Entity}
 use Rattle.api_correspond.specs.Publics.{package_at, IsPublic, IsExportedName, Exports, qualified}
-use Rattle.api_correspond.specs.Rules.{KeepsKind, KeepsConstant, KeepsObject, KeepsPath}
+use Rattle.api_correspond.specs.Rules.{CoversName, KeepsName, CoversObjects, KeepsKind, KeepsConstant, KeepsObject, KeepsPath}
 use Rattle.api_correspond.specs.inner.Members.{OfSome}
 use Rattle.api_correspond.proofs.Growing.{grows_none, grows_one, grows_as, grows_both, of_none}
 use Rattle.api_correspond.proofs.Lookups.{first_member, member_first}
@@ -124,21 +124,22 @@ module _ (old new : Packages) (world : IsWorld old) where
 
   -- an object that the new package of its path doesn't have
   gone_sound : (path : List ℕ) (p q : Package) (a : Object) (b : Break) → IsPublic old path → IsPublic new path → package_at old path ≡ Some p → package_at new path ≡ Some q → Has p.objects a → IsExportedName a.name → (o : Option Object) → first_with object_name q.objects a.name ≡ o → IsGone path a o b → IsPackageBreak old new b
-  gone_sound path p q a b s t e f m x None r h = object_gone path a (record { shown = s; exported = x; there = object_there (package_at old path) p a a.name e (member_first object_name p.objects a (kept_package path p e) m) }) t
+  gone_sound path p q a b s t e f m x None r h = object_gone path a (record { exported = record { shown = s; exported = x; there = object_there (package_at old path) p a a.name e (member_first object_name p.objects a (kept_package path p e) m) }; still = t })
       (λ k. none_some (first_with object_name q.objects a.name) k.0 r (ap (first_with object_name q.objects) (sym k.2) ∙ object_back (package_at new path) q k.0 k.0.name f k.1.there))
       h
   gone_sound path p q a b s t e f m x (Some c) r h =
       let same : c.name ≡ a.name = first_key object_name q.objects a.name c (sym r) in
       let before : Exports old path a = record { shown = s; exported = x; there = object_there (package_at old path) p a a.name e (member_first object_name p.objects a (kept_package path p e) m) } in
       let after : Exports new path c = record { shown = t; exported = subst IsExportedName (sym same) x; there = object_there (package_at new path) q c c.name f (ap (first_with object_name q.objects) same ∙ r) } in
-      elim h [ inl k ↦ object_of_other_kind path a c before after same k.0 k.1 | inr k ↦ constant_apart path a c before after same k.0 k.1 ]
+      let both_have : CoversObjects old new path a c = record { before = before; after = after; same = same } in
+      elim h [ inl k ↦ object_of_other_kind path a c both_have k.0 k.1 | inr k ↦ constant_apart path a c both_have k.0 k.1 ]
 
   path_sound : (path : List ℕ) (b : Break) → IsPublic old path → IsOfPath old new path b → IsPackageBreak old new b
   path_sound path b s (inl h) = package_gone path s h.0 h.1
   path_sound path b s (inr h) = let k = both path b (package_at old path) (package_at new path) h.1 in told k.0 k.1 k.2 k.3 k.4
     where
       told : (p q : Package) → package_at old path ≡ Some p → package_at new path ≡ Some q → IsOfBoth path p q b → IsPackageBreak old new b
-      told p q e f (inl r) = package_renamed path p q s h.0 e f r.0 r.1
+      told p q e f (inl r) = package_renamed path p q (record { shown = s; still = h.0; before = e; after = f }) r.0 r.1
       told p q e f (inr m) = gone_sound path p q m.0 b s h.0 e f m.1 m.2.0 (first_with object_name q.objects m.0.name) refl m.2.1
 
   of_both : (path : List ℕ) (p q : Package) (b : Break) → package_at old path ≡ Some p → package_at new path ≡ Some q → IsPublic new path → IsOfBoth path p q b → IsOfPath old new path b
@@ -182,36 +183,37 @@ module _ (old new : Packages) (world : IsWorld old) where
 
       back : (d : Break) → IsPackageBreak old new d → Has bs d
       back d (package_gone path s n e) = g.complete d (path, s, inl (n, e))
-      back d (package_renamed path p q s t e f n r) = g.complete d (path, s, of_both path p q d e f t (inl (n, r)))
-      back d (object_gone path a x t n r) =
-          let p = in_old path a x in
-          let q = found_package new later path t in
-          g.complete d (path, x.shown, of_object path p.0 q.0 a d p.1 q.1 t p.2 x.exported None (not_kept path q.0 a t q.1 x.exported n (first_with object_name q.0.objects a.name) refl) r)
-      back d (object_of_other_kind path a c x y same n r) = of_two path a c d x y same (inl (n, r))
-      back d (constant_apart path a c x y same n r) = of_two path a c d x y same (inr (n, r))
+      back d (package_renamed path p q x n r) = g.complete d (path, x.shown, of_both path p q d x.before x.after x.still (inl (n, r)))
+      back d (object_gone path a x n r) =
+          let y = x.exported in
+          let p = in_old path a y in
+          let q = found_package new later path x.still in
+          g.complete d (path, y.shown, of_object path p.0 q.0 a d p.1 q.1 x.still p.2 y.exported None (not_kept path q.0 a x.still q.1 y.exported n (first_with object_name q.0.objects a.name) refl) r)
+      back d (object_of_other_kind path a c x n r) = of_two path a c d x.before x.after x.same (inl (n, r))
+      back d (constant_apart path a c x n r) = of_two path a c d x.before x.after x.same (inr (n, r))
 
   -- where nothing is told, all is kept
   module _ (later : IsWorld new) (none : (b : Break) → IsPackageBreak old new b → ⊥) where
-    name_same : (path : List ℕ) (p q : Package) → IsPublic old path → IsPublic new path → package_at old path ≡ Some p → package_at new path ≡ Some q → q.name ≡ p.name
-    name_same path p q s t e f = elim (same_texts q.name p.name) [ inl x ↦ x | inr n ↦ absurd (none (broken path (lost.Name q.name)) (package_renamed path p q s t e f n refl)) ]
+    name_same : (path : List ℕ) (p q : Package) → CoversName old new path p q → KeepsName p q
+    name_same path p q x = elim (same_texts q.name p.name) [ inl e ↦ e | inr n ↦ absurd (none (broken path (lost.Name q.name)) (package_renamed path p q x n refl)) ]
 
     object_kept : (path : List ℕ) (a : Object) → Exports old path a → (t : IsPublic new path) → (q : Package) → package_at new path ≡ Some q → (o : Option Object) → first_with object_name q.objects a.name ≡ o → KeepsObject new path a
-    object_kept path a x t q f None r = absurd (none (broken (qualified path a.name) lost.Removed) (object_gone path a x t (λ k. none_some (first_with object_name q.objects a.name) k.0 r (ap (first_with object_name q.objects) (sym k.2) ∙ object_back (package_at new path) q k.0 k.0.name f k.1.there)) refl))
+    object_kept path a x t q f None r = absurd (none (broken (qualified path a.name) lost.Removed) (object_gone path a (record { exported = x; still = t }) (λ k. none_some (first_with object_name q.objects a.name) k.0 r (ap (first_with object_name q.objects) (sym k.2) ∙ object_back (package_at new path) q k.0 k.0.name f k.1.there)) refl))
     object_kept path a x t q f (Some c) r =
         let same : c.name ≡ a.name = first_key object_name q.objects a.name c (sym r) in
         (c, record { shown = t; exported = subst IsExportedName (sym same) x.exported; there = object_there (package_at new path) q c c.name f (ap (first_with object_name q.objects) same ∙ r) }, same)
 
-    pub path_keeps : (path : List ℕ) → IsPublic old path → KeepsPath old new path
-    path_keeps path s = record {
-      package_kept = elim (has_text new.publics path) [ inl x ↦ x | inr n ↦ absurd (none (broken path lost.Package) (package_gone path s n refl)) ];
-      name_kept = λ t p q e f. name_same path p q s t e f;
-      objects = λ a x t. (let q = found_package new later path t in object_kept path a x t q.0 q.1 (first_with object_name q.0.objects a.name) refl);
-      kinds = λ a c x y e. elim (kind_decided a.entity c.entity) [ inl k ↦ k | inr n ↦ absurd (none (broken (qualified path a.name) (lost.Kind (sort_of a.entity) (sort_of c.entity))) (object_of_other_kind path a c x y e n refl)) ];
-      constants = λ a c x y e. elim (constant_decided a.entity c.entity) [ inl k ↦ k | inr n ↦ absurd (none (broken (qualified path a.name) (lost.Constant path a.entity c.entity)) (constant_apart path a c x y e n refl)) ];
+    pub path_keeps : (path : List ℕ) → KeepsPath old new path
+    path_keeps path = record {
+      package_kept = λ s. elim (has_text new.publics path) [ inl x ↦ x | inr n ↦ absurd (none (broken path lost.Package) (package_gone path s n refl)) ];
+      name_kept = name_same path;
+      objects = λ a x. (let q = found_package new later path x.still in object_kept path a x.exported x.still q.0 q.1 (first_with object_name q.0.objects a.name) refl);
+      kinds = λ a c x. elim (kind_decided a.entity c.entity) [ inl k ↦ k | inr n ↦ absurd (none (broken (qualified path a.name) (lost.Kind (sort_of a.entity) (sort_of c.entity))) (object_of_other_kind path a c x n refl)) ];
+      constants = λ a c x. elim (constant_decided a.entity c.entity) [ inl k ↦ k | inr n ↦ absurd (none (broken (qualified path a.name) (lost.Constant path a.entity c.entity)) (constant_apart path a c x n refl)) ];
     }
 
-pub paths_kept : (old new : Packages) → IsWorld old → IsWorld new → (bs : List Break) → ((b : Break) → Has bs b ↔ IsPackageBreak old new b) → bs ≡ [] → (path : List ℕ) → IsPublic old path → KeepsPath old new path
-paths_kept old new world later bs x e path s = path_keeps old new world later (λ b k. subst (λ (w : List Break). Has w b) e ((x b).1 k)) path s
+pub paths_kept : (old new : Packages) → IsWorld old → IsWorld new → (bs : List Break) → ((b : Break) → Has bs b ↔ IsPackageBreak old new b) → bs ≡ [] → (path : List ℕ) → KeepsPath old new path
+paths_kept old new world later bs x e path = path_keeps old new world later (λ b k. subst (λ (w : List Break). Has w b) e ((x b).1 k)) path
 
 pub paths_begun : (old new : Packages) (bs : List Break) → bs ≡ [] → Grows (OfSome (IsOfPath old new) []) [] bs
 paths_begun old new bs e = subst (Grows (OfSome (IsOfPath old new) []) []) (sym e) (of_none (IsOfPath old new) [])

@@ -77,11 +77,11 @@ module _ (old new : Packages) (p : TypePair) (s : Sel) (ls : List Lost) where
 -- two structs
 module _ (old new : Packages) (p : TypePair) where
   pub sels_foreign : (ls : List Lost) → have_structs old new p ≡ false → Tells (KeepsSels old new p) (IsSelectableLoss old new p) ls ls
-  sels_foreign ls e = told_kept ls (λ s f o x h d. absurd (true≢false (sym o ∙ e))) (λ l h. true≢false (sym h.0 ∙ e))
+  sels_foreign ls e = told_kept ls (λ s f x. absurd (true≢false (sym x.structs ∙ e))) (λ l h. true≢false (sym h.0 ∙ e))
 
   pub sels_lost : (sels : List Sel) (xs ys : List Lost) → have_structs old new p ≡ true → HoldDeepFields (types_of old) p.old sels → Tells (KeptBy (KeepsSel old new p) sels) (AreSelLosses old new p sels) xs ys → Tells (KeepsSels old new p) (IsSelectableLoss old new p) xs ys
   sels_lost sels xs ys e h t = told_as xs ys
-      (λ k s f o x w d. k s (h s f x w d) x f w d)
+      (λ k s f x. k s (h s f x.exported x.found x.deep) x.exported f x.found x.deep)
       (λ l k. (e, (k.0, k.2)))
       (λ l k. (k.1.0, h k.1.0 k.1.1.1.0 k.1.1.0 k.1.1.1.1 k.1.1.1.2, k.1.1))
       t

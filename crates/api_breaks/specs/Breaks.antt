@@ -1,12 +1,9 @@
 -- What is broken: each rule that a new world doesn't keep, with the package or the object that it is reported for.
 -- Public source: README of golang.org/x/exp/apidiff, "Compatibility, Types and Names"; the words for what is lost are own.
-use Rattle.std.specs.Prelude.{◌≡◌, ◌≤◌, ◌&&◌, ℕ, true, List, Some}
-use Rattle.go_base.specs.Lists.{Has}
+use Rattle.std.specs.Prelude.{◌≡◌, ℕ, List}
 use Rattle.go_model.specs.types.Members.{field_sel}
-use Rattle.go_model.specs.types.Underlying.{under, fields_of, methods_of}
-use Rattle.go_model.specs.types.MethodSets.{InSet, Implements, method_sel}
-use Rattle.go_model.specs.types.Selectors.{Finds}
-use Rattle.go_model.specs.declared.types.found.Found.TheVariants.{FieldAt}
+use Rattle.go_model.specs.types.Underlying.{under}
+use Rattle.go_model.specs.types.MethodSets.{method_sel}
 use Rattle.go_model.specs.declared.types.found.FieldFound.{FieldFound}
 use Rattle.go_model.specs.types.Terms.{pointer_to}
 use Rattle.go_model.specs.worlds.Worlds.{Packages}
@@ -20,9 +17,9 @@ use Rattle.go_model.specs.declared.types.term.Field.{Field}
 use Rattle.go_model.specs.declared.types.names.Sel.{Sel}
 use Rattle.go_model.specs.declared.types.term.Method.{Method}
 use Rattle.go_model.specs.declared.types.term.Signature.{Signature}
-use Rattle.api_correspond.specs.Publics.{types_of, package_at, IsPublic, IsExported, Exports, qualified}
-use Rattle.api_correspond.specs.OwnedPairs.{Owned, are_of_module}
-use Rattle.api_correspond.specs.Rules.{KeepsPackage, KeepsObject, KeepsKind, KeepsConstant, KeepsType, KeepsUnderlying, KeepsField, KeepsComparable, KeepsSealing, KeepsInterfaceMethod, KeepsClosed, IsSealed, Counts, have_structs, have_interfaces, have_method_sets, KeepsInSet, KeepsSelectable, KeepsApart, IsSealedPair, IsOwned}
+use Rattle.api_correspond.specs.Publics.{types_of, qualified}
+use Rattle.api_correspond.specs.OwnedPairs.{Owned}
+use Rattle.api_correspond.specs.Rules.{CoversPackage, KeepsPackage, CoversName, KeepsName, CoversObject, KeepsObject, CoversObjects, KeepsKind, KeepsConstant, KeepsType, CoversUnderlying, KeepsUnderlying, CoversField, KeepsField, CoversSelectable, KeepsSelectable, CoversComparable, KeepsComparable, CoversInterfaces, KeepsSealing, CoversInterfaceMethod, KeepsInterfaceMethod, CoversOpen, KeepsOpen, CoversInSet, KeepsInSet, CoversImplementing, KeepsImplementing, CoversApart, KeepsApart}
 use Rattle.api_breaks.specs.declared.broken.Sort.{Sort}
 use Rattle.api_breaks.specs.declared.broken.Sort.TheVariants as sort
 use Rattle.api_breaks.specs.declared.broken.Lost.{Lost}
@@ -38,32 +35,32 @@ sort_of (entity.TypeOf t) = sort.Type
 abbrev pub broken : List ℕ → Lost → Break
 broken owner what = record { owner = owner; lost = what }
 
--- what packages and their objects lose
+-- what packages and their objects lose: what a rule covers isn't kept
 pub data IsPackageBreak (old new : Packages) (b : Break) : Type 0 where
-  package_gone : (path : List ℕ) → IsPublic old path → (KeepsPackage old new path → ⊥) → broken path lost.Package ≡ b → IsPackageBreak old new b
-  package_renamed : (path : List ℕ) (p q : Package) → IsPublic old path → IsPublic new path → package_at old path ≡ Some p → package_at new path ≡ Some q → (q.name ≡ p.name → ⊥) → broken path (lost.Name q.name) ≡ b → IsPackageBreak old new b
-  object_gone : (path : List ℕ) (a : Object) → Exports old path a → IsPublic new path → (KeepsObject new path a → ⊥) → broken (qualified path a.name) lost.Removed ≡ b → IsPackageBreak old new b
-  object_of_other_kind : (path : List ℕ) (a c : Object) → Exports old path a → Exports new path c → c.name ≡ a.name → (KeepsKind a.entity c.entity → ⊥) → broken (qualified path a.name) (lost.Kind (sort_of a.entity) (sort_of c.entity)) ≡ b → IsPackageBreak old new b
-  constant_apart : (path : List ℕ) (a c : Object) → Exports old path a → Exports new path c → c.name ≡ a.name → (KeepsConstant a.entity c.entity → ⊥) → broken (qualified path a.name) (lost.Constant path a.entity c.entity) ≡ b → IsPackageBreak old new b
+  package_gone : (path : List ℕ) → CoversPackage old path → (KeepsPackage new path → ⊥) → broken path lost.Package ≡ b → IsPackageBreak old new b
+  package_renamed : (path : List ℕ) (p q : Package) → CoversName old new path p q → (KeepsName p q → ⊥) → broken path (lost.Name q.name) ≡ b → IsPackageBreak old new b
+  object_gone : (path : List ℕ) (a : Object) → CoversObject old new path a → (KeepsObject new path a → ⊥) → broken (qualified path a.name) lost.Removed ≡ b → IsPackageBreak old new b
+  object_of_other_kind : (path : List ℕ) (a c : Object) → CoversObjects old new path a c → (KeepsKind a.entity c.entity → ⊥) → broken (qualified path a.name) (lost.Kind (sort_of a.entity) (sort_of c.entity)) ≡ b → IsPackageBreak old new b
+  constant_apart : (path : List ℕ) (a c : Object) → CoversObjects old new path a c → (KeepsConstant a.entity c.entity → ⊥) → broken (qualified path a.name) (lost.Constant path a.entity c.entity) ≡ b → IsPackageBreak old new b
 
 -- what a pair of types loses, by the rules on one pair
 pub data IsLoss (old new : Packages) (p : TypePair) (l : Lost) : Type 0 where
   types_apart : (KeepsType old new p → ⊥) → lost.Type p.old p.new ≡ l → IsLoss old new p l
-  underlying_apart : are_of_module old new p ≡ true → (KeepsUnderlying old new p → ⊥) → lost.Underlying (roll-Term (under (types_of old) p.old)) (roll-Term (under (types_of new) p.new)) ≡ l → IsLoss old new p l
-  field_gone : (f : Field) → (are_of_module old new p && have_structs old new p) ≡ true → Has (fields_of (under (types_of old) p.old)) f → IsExported (field_sel f) → (KeepsField new p f → ⊥) → lost.Field (field_sel f).name ≡ l → IsLoss old new p l
-  not_selectable : (s : Sel) (f : FieldFound) → have_structs old new p ≡ true → IsExported s → Finds (types_of old) s p.old (FieldAt f) → 1 ≤ f.depth → (KeepsSelectable new p s f → ⊥) → lost.Selectable s.name ≡ l → IsLoss old new p l
-  not_comparable : (KeepsComparable old new p → ⊥) → lost.Comparable ≡ l → IsLoss old new p l
-  sealing_apart : (are_of_module old new p && have_interfaces old new p) ≡ true → (KeepsSealing old new p → ⊥) → lost.Sealing ≡ l → IsLoss old new p l
-  interface_method_gone : (m : Method) → (are_of_module old new p && have_interfaces old new p) ≡ true → Has (methods_of (under (types_of old) p.old)) m → Counts old (method_sel m) → (KeepsInterfaceMethod old new p m → ⊥) → lost.InterfaceMethod (method_sel m) ≡ l → IsLoss old new p l
-  interface_method_new : (n : Method) → (are_of_module old new p && have_interfaces old new p) ≡ true → (IsSealed old p.old → ⊥) → (IsSealed new p.new → ⊥) → Has (methods_of (under (types_of new) p.new)) n → (KeepsClosed old p n → ⊥) → lost.InterfaceMethod (method_sel n) ≡ l → IsLoss old new p l
-  method_gone : (s : Sel) (g : Signature) → have_method_sets old new p ≡ true → Counts old s → InSet (types_of old) p.old s g → (KeepsInSet old new p.old p.new s g → ⊥) → lost.Method s ≡ l → IsLoss old new p l
-  pointer_method_gone : (s : Sel) (g : Signature) → have_method_sets old new p ≡ true → Counts old s → InSet (types_of old) (pointer_to p.old) s g → (KeepsInSet old new (pointer_to p.old) (pointer_to p.new) s g → ⊥) → lost.Method s ≡ l → IsLoss old new p l
+  underlying_apart : CoversUnderlying old new p → (KeepsUnderlying old new p → ⊥) → lost.Underlying (roll-Term (under (types_of old) p.old)) (roll-Term (under (types_of new) p.new)) ≡ l → IsLoss old new p l
+  field_gone : (f : Field) → CoversField old new p f → (KeepsField new p f → ⊥) → lost.Field (field_sel f).name ≡ l → IsLoss old new p l
+  not_selectable : (s : Sel) (f : FieldFound) → CoversSelectable old new p s f → (KeepsSelectable new p s f → ⊥) → lost.Selectable s.name ≡ l → IsLoss old new p l
+  not_comparable : CoversComparable old new p → (KeepsComparable new p → ⊥) → lost.Comparable ≡ l → IsLoss old new p l
+  sealing_apart : CoversInterfaces old new p → (KeepsSealing old new p → ⊥) → lost.Sealing ≡ l → IsLoss old new p l
+  interface_method_gone : (m : Method) → CoversInterfaceMethod old new p m → (KeepsInterfaceMethod old new p m → ⊥) → lost.InterfaceMethod (method_sel m) ≡ l → IsLoss old new p l
+  interface_method_new : (n : Method) → CoversOpen old new p n → (KeepsOpen old p n → ⊥) → lost.InterfaceMethod (method_sel n) ≡ l → IsLoss old new p l
+  method_gone : (s : Sel) (g : Signature) → CoversInSet old new p p.old s g → (KeepsInSet old new p.new s g → ⊥) → lost.Method s ≡ l → IsLoss old new p l
+  pointer_method_gone : (s : Sel) (g : Signature) → CoversInSet old new p (pointer_to p.old) s g → (KeepsInSet old new (pointer_to p.new) s g → ⊥) → lost.Method s ≡ l → IsLoss old new p l
 
 -- what it loses by the rules on it and another pair
 pub data IsLossAmong (old new : Packages) (p : TypePair) (l : Lost) : Type 0 where
-  not_implementing : (i : TypePair) → IsSealedPair old new i → Implements (types_of old) p.old i.old → (Implements (types_of new) p.new i.new → ⊥) → lost.Implements i.old ≡ l → IsLossAmong old new p l
-  pointer_not_implementing : (i : TypePair) → IsSealedPair old new i → Implements (types_of old) (pointer_to p.old) i.old → (Implements (types_of new) (pointer_to p.new) i.new → ⊥) → lost.Implements i.old ≡ l → IsLossAmong old new p l
-  not_apart : (q : TypePair) → IsOwned old new q → are_of_module old new p ≡ true → (KeepsApart p q → ⊥) → lost.OneToOne p.old p.new ≡ l → IsLossAmong old new p l
+  not_implementing : (i : TypePair) → CoversImplementing old new p.old i → (KeepsImplementing new p.new i → ⊥) → lost.Implements i.old ≡ l → IsLossAmong old new p l
+  pointer_not_implementing : (i : TypePair) → CoversImplementing old new (pointer_to p.old) i → (KeepsImplementing new (pointer_to p.new) i → ⊥) → lost.Implements i.old ≡ l → IsLossAmong old new p l
+  not_apart : (q : TypePair) → CoversApart old new p q → (KeepsApart p q → ⊥) → lost.OneToOne p.old p.new ≡ l → IsLossAmong old new p l
 
 -- what is broken, by all rules
 pub data IsBreak (old new : Packages) (b : Break) : Type 0 where

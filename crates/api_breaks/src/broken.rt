@@ -31,9 +31,9 @@ pub enum Lost {
     /// A constant is typed in one world alone, of another untyped kind, or has another value: the path of
     /// its package, the old and the new constant.
     Constant(Text, Entity, Entity),
-    /// The old and the new type of a pair don't match.
+    /// The outermost constructors of the types of a pair differ: the old and the new type.
     Type(Term, Term),
-    /// What is underneath the types of a pair doesn't match: what is, in the old and in the new one.
+    /// So do those of what is underneath: what is, in the old and in the new one.
     Underlying(Term, Term),
     /// A field at the top level of a struct is gone: its name.
     Field(Text),
@@ -41,13 +41,13 @@ pub enum Lost {
     Selectable(Text),
     /// A type can't be compared any more.
     Comparable,
-    /// One of two interfaces alone has unexported methods.
+    /// One of two interfaces alone is sealed.
     Sealing,
-    /// A method of an interface is gone, or is new where other packages can implement it.
+    /// A method of an interface is gone, or is new where it is open.
     InterfaceMethod(Sel),
     /// A method of a type that isn't an interface is gone.
     Method(Sel),
-    /// A type doesn't implement an interface any more that no other package can implement: the old interface.
+    /// A type doesn't implement a sealed interface any more: the old interface.
     Implements(Term),
     /// A type corresponds to several types, or one of several types to it: the old and the new type.
     OneToOne(Term, Term),

@@ -10,7 +10,7 @@ ghost use Rattle.api_correspond.specs.Publics.{of_std};
 ghost use Rattle.api_correspond.specs.Rules.{is_sealing, is_std_sel, Counts};
 ghost use Rattle.api_correspond.specs.inner.BySel.{ArePlaces};
 ghost use Rattle.api_correspond.specs.inner.Tables.{ItemAt};
-ghost use Rattle.api_breaks.specs.inner.Interfaces.{HasSealing, Serves, HasServing, ServesAt, HasSel, KeepsMethod, IsMethodGone, AreMethodsGone, WasMethod, IsMethodNew, AreMethodsNew, IsSealedApart, KeepsOpen, IsNewWhere, KeepsMethods, IsOfMethods, KeepsInterface, IsInterfaceLoss, lost_method};
+ghost use Rattle.api_breaks.specs.inner.Interfaces.{HasSealing, Serves, HasServing, ServesAt, HasSel, KeepsMethod, IsMethodGone, AreMethodsGone, WasMethod, IsMethodNew, AreMethodsNew, IsSealedApart, KeepsWhere, IsNewWhere, KeepsMethods, IsOfMethods, KeepsInterface, IsInterfaceLoss, lost_method};
 ghost use Rattle.api_breaks.specs.inner.Telling.{Tells, KeptBy};
 
 use crate::broken::Lost;
@@ -226,7 +226,7 @@ fn push_all_new(
     Ok(())
 }
 
-// Adds the methods that are new, where neither interface has unexported methods.
+// Adds the methods that are new, where both interfaces are open.
 fn push_open(
     alloc: Global,
     first: bool,
@@ -235,7 +235,7 @@ fn push_open(
     after: &[Method],
     losses: &mut Vec<Lost>,
 ) -> Result<(), NoMemory>
-    ensures { OnOk result (Tells (KeepsOpen first second before.now after.now) (IsNewWhere first second before.now after.now) losses.old.items losses.new.items) }
+    ensures { OnOk result (Tells (KeepsWhere first second before.now after.now) (IsNewWhere first second before.now after.now) losses.old.items losses.new.items) }
 {
     if first {
         return Ok(());
@@ -247,7 +247,7 @@ fn push_open(
     Ok(())
 }
 
-// Adds that one of two interfaces alone has unexported methods.
+// Adds that one of two interfaces alone is sealed.
 fn push_sealing(first: bool, second: bool, losses: &mut Vec<Lost>) -> Result<(), NoMemory>
     ensures { OnOk result (Tells (first ≡ second) (IsSealedApart first second) losses.old.items losses.new.items) }
 {

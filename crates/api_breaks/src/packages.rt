@@ -3,7 +3,7 @@ ghost use Rattle.std.specs.Prelude.{◌≡◌, ◌++◌, ◌∷◌, [], ℕ, Lis
 ghost use Rattle.go_base.specs.Growing.{Grows};
 ghost use Rattle.go_base.specs.Lists.{Ascending, Has};
 ghost use Rattle.go_model.specs.worlds.Worlds.{object_name};
-ghost use Rattle.api_correspond.specs.Publics.{IsPublic, qualified};
+ghost use Rattle.api_correspond.specs.Publics.{qualified};
 ghost use Rattle.api_correspond.specs.Rules.{KeepsPath};
 ghost use Rattle.api_breaks.specs.declared.broken.Break.{Break};
 ghost use Rattle.api_breaks.specs.Breaks.{IsPackageBreak, broken};
@@ -177,7 +177,7 @@ fn push_path(
 /// What the public packages of the old world and their exported objects lose.
 pub fn package_breaks(alloc: Global, old: &World, new: &World) -> Result<Vec<Break>, NoMemory>
     ensures exact { IfOk result (λ breaks. (b : Break) → Has breaks.items b ↔ IsPackageBreak old.now new.now b) }
-    ensures kept { IfOk result (λ breaks. breaks.items ≡ [] → (path : Sequence ℕ) → IsPublic old.now path → KeepsPath old.now new.now path) }
+    ensures kept { IfOk result (λ breaks. breaks.items ≡ [] → (path : Sequence ℕ) → KeepsPath old.now new.now path) }
 {
     let _packages = old.packages();
     let _later = new.packages();

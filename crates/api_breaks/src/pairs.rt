@@ -8,10 +8,10 @@ ghost use Rattle.go_selectors.specs.Answers.{Decides};
 ghost use Rattle.api_correspond.specs.OwnedPairs.{are_of_module};
 ghost use Rattle.go_type_images.specs.Levels.{struct_layer, interface_layer};
 ghost use Rattle.api_correspond.specs.Publics.{types_of};
-ghost use Rattle.api_correspond.specs.Rules.{KeepsType, KeepsComparable, KeepsPair};
+ghost use Rattle.api_correspond.specs.Rules.{KeepsType, CoversComparable, KeepsPair};
 ghost use Rattle.api_correspond.specs.inner.BySel.{ArePlaces};
 ghost use Rattle.api_breaks.specs.Breaks.{IsLoss};
-ghost use Rattle.api_breaks.specs.inner.Pairs.{KeepsLayer, KeepsUnderneath, KeepsIn, KeepsFields, same_form, IsTypesLoss, IsUnderlyingLoss, IsComparableLoss, HasField, IsFieldGone, AreFieldsGone, IsFieldsLoss};
+ghost use Rattle.api_breaks.specs.inner.Pairs.{KeepsLayer, KeepsUnderneath, KeepsIn, KeepsFields, KeepsComparison, same_form, IsTypesLoss, IsUnderlyingLoss, IsComparableLoss, HasField, IsFieldGone, AreFieldsGone, IsFieldsLoss};
 ghost use Rattle.api_breaks.specs.inner.Telling.{Tells, KeptBy};
 
 use crate::broken::Lost;
@@ -78,7 +78,7 @@ pub(crate) fn are_of_module(old: &World, new: &World, pair: &TypePair) -> bool
     is_of_module(old, &pair.old) && is_of_module(new, &pair.new)
 }
 
-// Adds that the types don't match.
+// Adds that the outermost constructors differ.
 fn push_types(
     alloc: Global,
     old: &World,
@@ -107,7 +107,7 @@ fn keeps_layer(old: &World, new: &World, before: &Term, after: &Term) -> bool
     have_same_form(before, after)
 }
 
-// Adds that what is underneath types of the module doesn't match.
+// Adds that what is underneath types of the module differs so.
 fn push_underlying<'a>(
     alloc: Global,
     error: &'a Defined,
@@ -133,24 +133,20 @@ fn push_underlying<'a>(
     Ok(())
 }
 
-// Whether a type that can be compared stays so, where the outermost constructors match.
-fn keeps_comparable(
+// Whether the old type can be compared, and the outermost constructor is the same.
+fn was_comparable(
     alloc: Global,
     old: &World,
     new: &World,
     pair: &TypePair,
 ) -> Result<bool, NoMemory>
-    ensures { IfOk result (λ answer. Decides answer (KeepsComparable old.now new.now pair.now)) }
+    ensures { IfOk result (λ answer. Decides answer (CoversComparable old.now new.now pair.now)) }
 {
     if !types_match(old, new, &pair.old, &pair.new) {
-        return Ok(true);
+        return Ok(false);
     }
     let before = comparable(alloc, old, &pair.old)?;
-    if !before {
-        return Ok(true);
-    }
-    let after = comparable(alloc, new, &pair.new)?;
-    Ok(after)
+    Ok(before)
 }
 
 // Adds that a type can't be compared any more.
@@ -161,10 +157,14 @@ fn push_comparable(
     pair: &TypePair,
     losses: &mut Vec<Lost>,
 ) -> Result<(), NoMemory>
-    ensures { OnOk result (Tells (KeepsComparable old.now new.now pair.now) (IsComparableLoss old.now new.now pair.now) losses.old.items losses.new.items) }
+    ensures { OnOk result (Tells (KeepsComparison old.now new.now pair.now) (IsComparableLoss old.now new.now pair.now) losses.old.items losses.new.items) }
 {
-    let keeps = keeps_comparable(alloc, old, new, pair)?;
-    if keeps {
+    let was = was_comparable(alloc, old, new, pair)?;
+    if !was {
+        return Ok(());
+    }
+    let after = comparable(alloc, new, &pair.new)?;
+    if after {
         return Ok(());
     }
     losses.push(Lost::Comparable)?;

@@ -22,7 +22,7 @@ use Rattle.go_model.specs.declared.types.term.Signature.{Signature}
 use Rattle.go_selectors.specs.Candidates.{Candidates, called_at, HoldMethodSet}
 use Rattle.go_type_images.specs.declared.pair.TypePair.{TypePair}
 use Rattle.api_correspond.specs.Publics.{types_of, IsExported}
-use Rattle.api_correspond.specs.Outermost.{Match, pair, side_by_side}
+use Rattle.api_correspond.specs.Outermost.{SameOutermost, pair, side_by_side}
 use Rattle.go_type_images.specs.Parts.{parts, function_type, field_type, method_type}
 use Rattle.api_correspond.specs.OwnedPairs.{are_of_module, have_members, receiver, Leads, to_part, to_part_underneath, to_field, to_promoted_field, to_method}
 use Rattle.go_type_images.specs.Levels.{is_structured}
@@ -98,10 +98,10 @@ module _ (old new : Packages) (p : TypePair) where
   some_members xs ys zs e g h = grows_both xs ys zs (λ q m. (e, inl m)) (λ q m. (e, inr m)) (λ q m. m.1) g h
 
 -- parts, where the outermost constructors match or don't
-pub no_parts : (old new : Packages) (l k : Layer) (xs : List TypePair) → (Match old new l k → ⊥) → Grows (IsPart old new l k) xs xs
+pub no_parts : (old new : Packages) (l k : Layer) (xs : List TypePair) → (SameOutermost old new l k → ⊥) → Grows (IsPart old new l k) xs xs
 no_parts old new l k xs n = grows_none xs (λ q h. n h.0)
 
-pub some_parts : (old new : Packages) (l k : Layer) (xs ys : List TypePair) (ss ts : List Term) → Match old new l k → ss ≡ parts l → ts ≡ parts k → ys ≡ xs ++ side_by_side ss ts → Grows (IsPart old new l k) xs ys
+pub some_parts : (old new : Packages) (l k : Layer) (xs ys : List TypePair) (ss ts : List Term) → SameOutermost old new l k → ss ≡ parts l → ts ≡ parts k → ys ≡ xs ++ side_by_side ss ts → Grows (IsPart old new l k) xs ys
 some_parts old new l k xs ys ss ts m e f g = grows_all xs (side_by_side (parts l) (parts k)) ys (g ∙ ap (λ w. xs ++ side_by_side w ts) e ∙ ap (λ w. xs ++ side_by_side (parts l) w) f) (λ q h. (m, h)) (λ q h. h.1)
 
 -- the field that a selector finds

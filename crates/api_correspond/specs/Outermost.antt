@@ -54,9 +54,9 @@ outermost w (Term-F.Func g) = function_head g
 outermost w (Term-F.Struct fs) = structure (map field_head fs)
 outermost w (Term-F.Interface ms) = interface (map method_sel ms)
 
--- two types match in their outermost constructors, the first in the old packages, the second in the new
-abbrev pub Match : Packages → Packages → Layer → Layer → Type 0
-Match old new k l = outermost old k ≡ outermost new l
+-- two types have the same outermost constructor, the first in the old packages, the second in the new
+abbrev pub SameOutermost : Packages → Packages → Layer → Layer → Type 0
+SameOutermost old new k l = outermost old k ≡ outermost new l
 
 abbrev pub pair : Term → Term → TypePair
 pair s t = record { old = s; new = t }

@@ -23,7 +23,7 @@ use Rattle.go_model.specs.declared.types.term.Signature.{Signature}
 use Rattle.go_type_images.specs.declared.pair.TypePair.{TypePair}
 use Rattle.api_correspond.specs.declared.pair.OwnedPair.{OwnedPair}
 use Rattle.api_correspond.specs.Publics.{types_of, is_of_module, IsExported, Exports, IsOwner, qualified}
-use Rattle.api_correspond.specs.Outermost.{Match, pair, side_by_side}
+use Rattle.api_correspond.specs.Outermost.{SameOutermost, pair, side_by_side}
 use Rattle.go_type_images.specs.Levels.{struct_layer, is_structured}
 use Rattle.go_type_images.specs.Parts.{function_type, field_type, parts}
 
@@ -71,9 +71,9 @@ receiver T t = receiver_layer t (under T t)
 -- a pair of types leads to another
 pub data Leads (old new : Packages) (p : TypePair) : TypePair → Type 0 where
   -- to the parts, where the outermost constructors match
-  to_part : {q : TypePair} → Match old new (out-Term p.old) (out-Term p.new) → Has (side_by_side (parts (out-Term p.old)) (parts (out-Term p.new))) q → Leads old new p q
+  to_part : {q : TypePair} → SameOutermost old new (out-Term p.old) (out-Term p.new) → Has (side_by_side (parts (out-Term p.old)) (parts (out-Term p.new))) q → Leads old new p q
   -- from types of the module to the parts of what is underneath, where that matches and is neither a struct nor an interface
-  to_part_underneath : {q : TypePair} → are_of_module old new p ≡ true → Match old new (under (types_of old) p.old) (under (types_of new) p.new) → is_structured (under (types_of old) p.old) ≡ false → Has (side_by_side (parts (under (types_of old) p.old)) (parts (under (types_of new) p.new))) q → Leads old new p q
+  to_part_underneath : {q : TypePair} → are_of_module old new p ≡ true → SameOutermost old new (under (types_of old) p.old) (under (types_of new) p.new) → is_structured (under (types_of old) p.old) ≡ false → Has (side_by_side (parts (under (types_of old) p.old)) (parts (under (types_of new) p.new))) q → Leads old new p q
   -- from types of the module to the types of an exported field that stands in both
   to_field : (f g : Field) → are_of_module old new p ≡ true → Has (fields_of (under (types_of old) p.old)) f → Has (fields_of (under (types_of new) p.new)) g → IsExported (field_sel f) → field_sel g ≡ field_sel f → Leads old new p (pair (field_type f) (field_type g))
   -- to the types of an exported field that is found below the top level in the old type, and at any depth in the new
@@ -85,6 +85,16 @@ pub data Leads (old new : Packages) (p : TypePair) : TypePair → Type 0 where
 pub data Owned (old new : Packages) : List ℕ → TypePair → Type 0 where
   from_object : {name owner : List ℕ} {p : TypePair} → FromObject old new name p → IsOwner old name p.old owner → Owned old new owner p
   led_to : {leader owner : List ℕ} {p q : TypePair} → Owned old new leader p → Leads old new p q → IsOwner old leader q.old owner → Owned old new owner q
+
+-- a pair that some object owns
+abbrev pub IsOwned : Packages → Packages → TypePair → Type 0
+IsOwned old new p = (owner : List ℕ) × Owned old new owner p
+
+-- a list of owned pairs, among them those of the exported objects and those to which its pairs lead; so it holds all
+pub record HoldsOwned (old new : Packages) (pairs : List TypePair) : Type 0 where
+  pub owned : (p : TypePair) → Has pairs p → IsOwned old new p
+  pub begun : (name : List ℕ) (p : TypePair) → FromObject old new name p → Has pairs p
+  pub followed : (p q : TypePair) → Has pairs p → Leads old new p q → Has pairs q
 
 abbrev pub pair_of : OwnedPair → TypePair
 pair_of r = pair r.old r.new

@@ -1,10 +1,9 @@
--- What a new world keeps of an old one: each rule says what the new one has where the old one has something.
+-- What a new world keeps of an old one. Of each rule one definition says what it covers, and one what is kept of that.
 -- Public source: README of golang.org/x/exp/apidiff, "Compatibility, Types and Names"; what is stricter is own: the new fields that
 -- make a type incomparable, members that are promoted, types that aren't exported, and interfaces with unexported methods.
-use Rattle.std.specs.Prelude.{◌≡◌, ◌≤◌, ◌⊎◌, ◌&&◌, ◌||◌, ℕ, not, Bool, true, false, List, Option, None, Some}
+use Rattle.std.specs.Prelude.{◌≡◌, ◌≤◌, ◌⊎◌, ◌&&◌, ◌||◌, ℕ, not, Bool, true, List, Some}
 use Rattle.go_base.specs.Lists.{Has}
-use Rattle.go_model.specs.types.Tables.{Table}
-use Rattle.go_model.specs.types.Terms.{Layer, pointer_to}
+use Rattle.go_model.specs.types.Terms.{pointer_to}
 use Rattle.go_model.specs.types.Underlying.{under, fields_of, methods_of}
 use Rattle.go_model.specs.types.Selectors.{Finds}
 use Rattle.go_model.specs.types.MethodSets.{InSet, Implements, method_sel}
@@ -19,27 +18,46 @@ use Rattle.go_model.specs.declared.types.package.Entity.TheVariants as entity
 use Rattle.go_model.specs.declared.types.package.ConstTerm.TheVariants as constant
 use Rattle.go_model.specs.declared.types.found.Found.TheVariants.{FieldAt}
 use Rattle.go_model.specs.declared.types.found.FieldFound.{FieldFound}
-use Rattle.go_model.specs.declared.types.term.Term.{Term, Term-F, out-Term}
+use Rattle.go_model.specs.declared.types.term.Term.{Term, out-Term}
 use Rattle.go_model.specs.declared.types.term.Field.{Field}
-use Rattle.go_model.specs.declared.types.term.Method.{Method, out-Method}
+use Rattle.go_model.specs.declared.types.term.Method.{Method}
 use Rattle.go_model.specs.declared.types.term.Signature.{Signature}
 use Rattle.go_type_images.specs.declared.pair.TypePair.{TypePair}
 use Rattle.api_correspond.specs.Publics.{types_of, package_at, of_module, of_std, IsPublic, IsExported, Exports}
-use Rattle.api_correspond.specs.Outermost.{Match}
-use Rattle.api_correspond.specs.OwnedPairs.{Owned, are_of_module, are_structs}
+use Rattle.api_correspond.specs.Outermost.{SameOutermost}
+use Rattle.api_correspond.specs.OwnedPairs.{IsOwned, are_of_module, are_structs}
 use Rattle.go_type_images.specs.Levels.{struct_layer, interface_layer}
 
 -- `package`: a public package stays public
-abbrev pub KeepsPackage : Packages → Packages → List ℕ → Type 0
-KeepsPackage old new path = IsPublic new path
+abbrev pub CoversPackage : Packages → List ℕ → Type 0
+CoversPackage old path = IsPublic old path
+
+abbrev pub KeepsPackage : Packages → List ℕ → Type 0
+KeepsPackage new path = IsPublic new path
 
 -- `name`: a package that is public in both keeps its name
-abbrev pub KeepsName : Packages → Packages → List ℕ → Type 0
-KeepsName old new path = (p q : Package) → package_at old path ≡ Some p → package_at new path ≡ Some q → q.name ≡ p.name
+pub record CoversName (old new : Packages) (path : List ℕ) (p q : Package) : Type 0 where
+  pub shown : IsPublic old path
+  pub still : IsPublic new path
+  pub before : package_at old path ≡ Some p
+  pub after : package_at new path ≡ Some q
 
--- `removed`: an exported object has a new exported object of its name
+abbrev pub KeepsName : Package → Package → Type 0
+KeepsName p q = q.name ≡ p.name
+
+-- `removed`: an exported object has a new exported object of its name, where its package stays public
+pub record CoversObject (old new : Packages) (path : List ℕ) (a : Object) : Type 0 where
+  pub exported : Exports old path a
+  pub still : IsPublic new path
+
 abbrev pub KeepsObject : Packages → List ℕ → Object → Type 0
-KeepsObject new path before = (after : Object) × Exports new path after × (after.name ≡ before.name)
+KeepsObject new path a = (b : Object) × Exports new path b × (b.name ≡ a.name)
+
+-- `kind` and `constant`: an exported object of each world, of one name
+pub record CoversObjects (old new : Packages) (path : List ℕ) (a b : Object) : Type 0 where
+  pub before : Exports old path a
+  pub after : Exports new path b
+  pub same : b.name ≡ a.name
 
 -- `kind`: a constant stays a constant, a variable a variable, a type a type, and a function a function or becomes a variable
 abbrev pub KeepsKind : Entity → Entity → Type 0
@@ -57,33 +75,50 @@ KeepsConstant (entity.Const (constant.OfKind k) v) (entity.Const (constant.OfKin
 KeepsConstant (entity.Const t v) (entity.Const u w) = ⊥
 KeepsConstant a b = Unit {0}
 
--- `type`: the types of a pair match in their outermost constructors
+-- `type`: the types of each pair have the same outermost constructor
 abbrev pub KeepsType : Packages → Packages → TypePair → Type 0
-KeepsType old new p = Match old new (out-Term p.old) (out-Term p.new)
+KeepsType old new p = SameOutermost old new (out-Term p.old) (out-Term p.new)
 
--- `underlying`: so does what is underneath types of the module, or both have a struct, or both an interface
-abbrev pub KeepsUnderlying : Packages → Packages → TypePair → Type 0
-KeepsUnderlying old new p = Match old new (under (types_of old) p.old) (under (types_of new) p.new) ⊎ ((struct_layer (under (types_of old) p.old) && struct_layer (under (types_of new) p.new)) || (interface_layer (under (types_of old) p.old) && interface_layer (under (types_of new) p.new))) ≡ true
+-- `underlying`: so has what is underneath types of the module, or both have a struct, or both an interface
+abbrev pub CoversUnderlying : Packages → Packages → TypePair → Type 0
+CoversUnderlying old new p = are_of_module old new p ≡ true
 
--- both types have structs underneath, and both interfaces
 abbrev pub have_structs : Packages → Packages → TypePair → Bool
 have_structs old new p = struct_layer (under (types_of old) p.old) && struct_layer (under (types_of new) p.new)
 
 abbrev pub have_interfaces : Packages → Packages → TypePair → Bool
 have_interfaces old new p = interface_layer (under (types_of old) p.old) && interface_layer (under (types_of new) p.new)
 
+abbrev pub KeepsUnderlying : Packages → Packages → TypePair → Type 0
+KeepsUnderlying old new p = SameOutermost old new (under (types_of old) p.old) (under (types_of new) p.new) ⊎ (have_structs old new p || have_interfaces old new p) ≡ true
+
 -- `fields`: of types of the module with structs, each exported field is a field of the new one
+pub record CoversField (old new : Packages) (p : TypePair) (f : Field) : Type 0 where
+  pub structs : (are_of_module old new p && have_structs old new p) ≡ true
+  pub there : Has (fields_of (under (types_of old) p.old)) f
+  pub exported : IsExported (field_sel f)
+
 abbrev pub KeepsField : Packages → TypePair → Field → Type 0
 KeepsField new p f = (g : Field) × Has (fields_of (under (types_of new) p.new)) g × (field_sel g ≡ field_sel f)
 
 -- `selectable`: an exported selector that finds a field of a struct below the top level finds one in the new struct, through a
 -- pointer where it did
+pub record CoversSelectable (old new : Packages) (p : TypePair) (s : Sel) (f : FieldFound) : Type 0 where
+  pub structs : have_structs old new p ≡ true
+  pub exported : IsExported s
+  pub found : Finds (types_of old) s p.old (FieldAt f)
+  pub deep : 1 ≤ f.depth
+
 abbrev pub KeepsSelectable : Packages → TypePair → Sel → FieldFound → Type 0
 KeepsSelectable new p s f = (g : FieldFound) × Finds (types_of new) s p.new (FieldAt g) × (f.through_pointer ≡ true → g.through_pointer ≡ true)
 
--- `comparable`: where the outermost constructors match, a comparable type stays comparable
-abbrev pub KeepsComparable : Packages → Packages → TypePair → Type 0
-KeepsComparable old new p = Match old new (out-Term p.old) (out-Term p.new) → Comparable (types_of old) p.old → Comparable (types_of new) p.new
+-- `comparable`: where the outermost constructor is the same, a comparable type stays comparable
+pub record CoversComparable (old new : Packages) (p : TypePair) : Type 0 where
+  pub alike : SameOutermost old new (out-Term p.old) (out-Term p.new)
+  pub before : Comparable (types_of old) p.old
+
+abbrev pub KeepsComparable : Packages → TypePair → Type 0
+KeepsComparable new p = Comparable (types_of new) p.new
 
 -- a method that no other package can declare: an unexported one of a package of the module
 abbrev pub is_sealing : Packages → Sel → Bool
@@ -97,84 +132,105 @@ is_std_sel w s = of_std (package_at w s.«package»)
 abbrev pub Counts : Packages → Sel → Type 0
 Counts w s = IsExported s ⊎ (is_std_sel w s ≡ true)
 
--- an interface with an unexported method of the module
+-- an interface is sealed by an unexported method of the module, and open without one: code elsewhere can implement it
 abbrev pub IsSealed : Packages → Term → Type 0
 IsSealed w t = (m : Method) × Has (methods_of (under (types_of w) t)) m × (is_sealing w (method_sel m) ≡ true)
 
--- the new interface has a method of the selector; one that is an unexported one of std in the old world has an identical signature
-abbrev pub HasAsMethod : Packages → Packages → Term → Method → Type 0
-HasAsMethod old new t m = (n : Method) × Has (methods_of (under (types_of new) t)) n × (method_sel n ≡ method_sel m) × (is_std_sel old (method_sel m) ≡ true → n ≡ m)
+abbrev pub IsOpen : Packages → Term → Type 0
+IsOpen w t = IsSealed w t → ⊥
 
--- `interface-methods`: of types of the module with interfaces, both have unexported methods or neither
+-- `interface-methods`: of types of the module with interfaces, both are sealed or both open
+abbrev pub CoversInterfaces : Packages → Packages → TypePair → Type 0
+CoversInterfaces old new p = (are_of_module old new p && have_interfaces old new p) ≡ true
+
 pub record KeepsSealing (old new : Packages) (p : TypePair) : Type 0 where
   pub kept : IsSealed old p.old → IsSealed new p.new
   pub not_new : IsSealed new p.new → IsSealed old p.old
 
--- each method that counts is kept
+-- each method that counts is one of the new interface; an unexported one of std has an identical signature
+pub record CoversInterfaceMethod (old new : Packages) (p : TypePair) (m : Method) : Type 0 where
+  pub interfaces : CoversInterfaces old new p
+  pub there : Has (methods_of (under (types_of old) p.old)) m
+  pub counts : Counts old (method_sel m)
+
 abbrev pub KeepsInterfaceMethod : Packages → Packages → TypePair → Method → Type 0
-KeepsInterfaceMethod old new p m = HasAsMethod old new p.new m
+KeepsInterfaceMethod old new p m = (n : Method) × Has (methods_of (under (types_of new) p.new)) n × (method_sel n ≡ method_sel m) × (is_std_sel old (method_sel m) ≡ true → n ≡ m)
 
--- and without unexported methods none is new
-abbrev pub KeepsClosed : Packages → TypePair → Method → Type 0
-KeepsClosed old p n = (m : Method) × Has (methods_of (under (types_of old) p.old)) m × (method_sel m ≡ method_sel n)
+-- and a method of an open interface that stays open isn't new
+pub record CoversOpen (old new : Packages) (p : TypePair) (n : Method) : Type 0 where
+  pub interfaces : CoversInterfaces old new p
+  pub before : IsOpen old p.old
+  pub after : IsOpen new p.new
+  pub there : Has (methods_of (under (types_of new) p.new)) n
 
--- `method-set`: a method of the set is one of the new set; an unexported one of std has an identical signature
-abbrev pub KeepsInSet : Packages → Packages → Term → Term → Sel → Signature → Type 0
-KeepsInSet old new s t sel g = (h : Signature) × InSet (types_of new) t sel h × (is_std_sel old sel ≡ true → h ≡ g)
+abbrev pub KeepsOpen : Packages → TypePair → Method → Type 0
+KeepsOpen old p n = (m : Method) × Has (methods_of (under (types_of old) p.old)) m × (method_sel m ≡ method_sel n)
 
 -- types of the module that aren't interfaces, or two structs that aren't defined types: their method sets are compared
 abbrev pub have_method_sets : Packages → Packages → TypePair → Bool
 have_method_sets old new p = (are_of_module old new p && not (interface_layer (under (types_of old) p.old)) && not (interface_layer (under (types_of new) p.new))) || are_structs p
 
--- `implements`: an old type that implements an owned interface with an unexported method of the module, to which a new interface
--- corresponds, implements that one, and so does its pointer
-pub record KeepsImplementing (old new : Packages) (p i : TypePair) : Type 0 where
-  pub value : Implements (types_of old) p.old i.old → Implements (types_of new) p.new i.new
-  pub pointer : Implements (types_of old) (pointer_to p.old) i.old → Implements (types_of new) (pointer_to p.new) i.new
+-- `method-set`: a method of the set of a type of the pair, or of the pointer to it, is one of the new set; an unexported one of std
+-- has an identical signature
+pub record CoversInSet (old new : Packages) (p : TypePair) (t : Term) (s : Sel) (g : Signature) : Type 0 where
+  pub sets : have_method_sets old new p ≡ true
+  pub counts : Counts old s
+  pub there : InSet (types_of old) t s g
+
+abbrev pub KeepsInSet : Packages → Packages → Term → Sel → Signature → Type 0
+KeepsInSet old new u s g = (h : Signature) × InSet (types_of new) u s h × (is_std_sel old s ≡ true → h ≡ g)
+
+-- an owned sealed interface, to which a new interface corresponds
+pub record IsSealedPair (old new : Packages) (i : TypePair) : Type 0 where
+  pub owned : IsOwned old new i
+  pub sealed : IsSealed old i.old
+  pub still : interface_layer (under (types_of new) i.new) ≡ true
+
+-- `implements`: an old type of a pair that implements such an interface, or the pointer to it, implements the new one
+pub record CoversImplementing (old new : Packages) (t : Term) (i : TypePair) : Type 0 where
+  pub sealed : IsSealedPair old new i
+  pub before : Implements (types_of old) t i.old
+
+abbrev pub KeepsImplementing : Packages → Term → TypePair → Type 0
+KeepsImplementing new u i = Implements (types_of new) u i.new
 
 -- `one-to-one`: of types of the module, the old one corresponds to no other new type, and the new one to no other old type
+pub record CoversApart (old new : Packages) (p q : TypePair) : Type 0 where
+  pub in_module : are_of_module old new p ≡ true
+  pub owned : IsOwned old new q
+
 pub record KeepsApart (p q : TypePair) : Type 0 where
   pub same_old : q.old ≡ p.old → q.new ≡ p.new
   pub same_new : q.new ≡ p.new → q.old ≡ p.old
 
--- what a path that is public in the old world keeps: its package, the name and the objects of that
+-- what a path keeps: its package, the name and the objects of that
 pub record KeepsPath (old new : Packages) (path : List ℕ) : Type 0 where
-  pub package_kept : KeepsPackage old new path
-  pub name_kept : IsPublic new path → KeepsName old new path
-  pub objects : (a : Object) → Exports old path a → IsPublic new path → KeepsObject new path a
-  pub kinds : (a b : Object) → Exports old path a → Exports new path b → b.name ≡ a.name → KeepsKind a.entity b.entity
-  pub constants : (a b : Object) → Exports old path a → Exports new path b → b.name ≡ a.name → KeepsConstant a.entity b.entity
+  pub package_kept : CoversPackage old path → KeepsPackage new path
+  pub name_kept : (p q : Package) → CoversName old new path p q → KeepsName p q
+  pub objects : (a : Object) → CoversObject old new path a → KeepsObject new path a
+  pub kinds : (a b : Object) → CoversObjects old new path a b → KeepsKind a.entity b.entity
+  pub constants : (a b : Object) → CoversObjects old new path a b → KeepsConstant a.entity b.entity
 
 -- what a pair of types keeps, by the rules on one pair
 pub record KeepsPair (old new : Packages) (p : TypePair) : Type 0 where
   pub types : KeepsType old new p
-  pub underlying : are_of_module old new p ≡ true → KeepsUnderlying old new p
-  pub fields : (f : Field) → (are_of_module old new p && have_structs old new p) ≡ true → Has (fields_of (under (types_of old) p.old)) f → IsExported (field_sel f) → KeepsField new p f
-  pub selectable : (s : Sel) (f : FieldFound) → have_structs old new p ≡ true → IsExported s → Finds (types_of old) s p.old (FieldAt f) → 1 ≤ f.depth → KeepsSelectable new p s f
-  pub comparable : KeepsComparable old new p
-  pub sealing : (are_of_module old new p && have_interfaces old new p) ≡ true → KeepsSealing old new p
-  pub interface_methods : (m : Method) → (are_of_module old new p && have_interfaces old new p) ≡ true → Has (methods_of (under (types_of old) p.old)) m → Counts old (method_sel m) → KeepsInterfaceMethod old new p m
-  pub closed_interfaces : (n : Method) → (are_of_module old new p && have_interfaces old new p) ≡ true → (IsSealed old p.old → ⊥) → (IsSealed new p.new → ⊥) → Has (methods_of (under (types_of new) p.new)) n → KeepsClosed old p n
-  pub method_sets : (s : Sel) (g : Signature) → have_method_sets old new p ≡ true → Counts old s → InSet (types_of old) p.old s g → KeepsInSet old new p.old p.new s g
-  pub pointer_sets : (s : Sel) (g : Signature) → have_method_sets old new p ≡ true → Counts old s → InSet (types_of old) (pointer_to p.old) s g → KeepsInSet old new (pointer_to p.old) (pointer_to p.new) s g
+  pub underlying : CoversUnderlying old new p → KeepsUnderlying old new p
+  pub fields : (f : Field) → CoversField old new p f → KeepsField new p f
+  pub selectable : (s : Sel) (f : FieldFound) → CoversSelectable old new p s f → KeepsSelectable new p s f
+  pub comparable : CoversComparable old new p → KeepsComparable new p
+  pub sealing : CoversInterfaces old new p → KeepsSealing old new p
+  pub interface_methods : (m : Method) → CoversInterfaceMethod old new p m → KeepsInterfaceMethod old new p m
+  pub open_interfaces : (n : Method) → CoversOpen old new p n → KeepsOpen old p n
+  pub method_sets : (s : Sel) (g : Signature) → CoversInSet old new p p.old s g → KeepsInSet old new p.new s g
+  pub pointer_sets : (s : Sel) (g : Signature) → CoversInSet old new p (pointer_to p.old) s g → KeepsInSet old new (pointer_to p.new) s g
 
--- an owned interface that no other package can implement, to which a new interface corresponds
-pub record IsSealedPair (old new : Packages) (i : TypePair) : Type 0 where
-  pub owner : List ℕ
-  pub owned : Owned old new owner i
-  pub closed : IsSealed old i.old
-  pub still : interface_layer (under (types_of new) i.new) ≡ true
-
--- a pair that some object owns
-abbrev pub IsOwned : Packages → Packages → TypePair → Type 0
-IsOwned old new p = (owner : List ℕ) × Owned old new owner p
-
--- what a pair of types keeps, by the rules on it and another pair
+-- what it keeps, by the rules on it and another pair
 pub record KeepsAmong (old new : Packages) (p : TypePair) : Type 0 where
-  pub implements : (i : TypePair) → IsSealedPair old new i → KeepsImplementing old new p i
-  pub one_to_one : (q : TypePair) → IsOwned old new q → are_of_module old new p ≡ true → KeepsApart p q
+  pub implements : (i : TypePair) → CoversImplementing old new p.old i → KeepsImplementing new p.new i
+  pub pointer_implements : (i : TypePair) → CoversImplementing old new (pointer_to p.old) i → KeepsImplementing new (pointer_to p.new) i
+  pub one_to_one : (q : TypePair) → CoversApart old new p q → KeepsApart p q
 
 -- nothing of the old world is lost
 pub record Compatible (old new : Packages) : Type 0 where
-  pub paths : (path : List ℕ) → IsPublic old path → KeepsPath old new path
+  pub paths : (path : List ℕ) → KeepsPath old new path
   pub pairs : (p : TypePair) → IsOwned old new p → KeepsPair old new p × KeepsAmong old new p

@@ -2,7 +2,7 @@
 ghost use Rattle.std.specs.Prelude.{◌≡◌, ◌↔◌, IsTrue, map};
 ghost use Rattle.go_model.specs.types.MethodSets.{method_sel};
 ghost use Rattle.go_model.specs.declared.types.term.Term.{out-Term, Term-F};
-ghost use Rattle.api_correspond.specs.Outermost.{Match, field_head, function_head};
+ghost use Rattle.api_correspond.specs.Outermost.{SameOutermost, field_head, function_head};
 
 use crate::publics::has_module_path;
 use go_model::types::names::TypeName;
@@ -12,7 +12,7 @@ use go_selectors::identity::{same_name, same_sel};
 
 // Whether both are types of the module, or the same one of no module.
 fn names_match(old: &World, new: &World, before: &TypeName, after: &TypeName) -> bool
-    ensures { IsTrue result ↔ Match old.now new.now (Term-F.Named before.now) (Term-F.Named after.now) }
+    ensures { IsTrue result ↔ SameOutermost old.now new.now (Term-F.Named before.now) (Term-F.Named after.now) }
 {
     let of_module = has_module_path(old, &before.path);
     if of_module != has_module_path(new, &after.path) {
@@ -73,7 +73,7 @@ fn methods_match(before: &[Method], after: &[Method]) -> bool
 
 /// Whether an old and a new type match in their outermost constructors.
 pub fn types_match(old: &World, new: &World, before: &Term, after: &Term) -> bool
-    ensures { IsTrue result ↔ Match old.now new.now (out-Term before.now) (out-Term after.now) }
+    ensures { IsTrue result ↔ SameOutermost old.now new.now (out-Term before.now) (out-Term after.now) }
 {
     match (before, after) {
         (Term::Plain(a), Term::Plain(b)) => a == b,

@@ -5,7 +5,7 @@ ghost use Rattle.api_features.specs.Features.{IsFeature};
 ghost use Rattle.api_findings.specs.Checks.{CountsAtMost};
 ghost use Rattle.api_findings.specs.Findings.{IsOldTree};
 ghost use Rattle.api_findings.specs.inner.Found.{AnswersFound, IsCompared};
-ghost use Rattle.api_judge.specs.Verdicts.{ShareStd};
+ghost use Rattle.api_correspond.specs.SharedStd.{ShareStd};
 ghost use Rattle.api_lines.specs.Lines.{IsListing};
 ghost use Rattle.go_base.specs.Lists.{Has};
 ghost use Rattle.go_model.specs.files.Trees.{IsTree};

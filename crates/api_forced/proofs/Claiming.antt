@@ -10,8 +10,7 @@ use Rattle.go_type_images.specs.declared.pair.TypePair.{TypePair}
 use Rattle.api_correspond.specs.declared.pair.OwnedPair.{OwnedPair}
 use Rattle.api_forced.specs.declared.claims.Claim.{Claim}
 use Rattle.api_correspond.specs.Publics.{IsOwner, by_name, by_leader, qualified}
-use Rattle.api_correspond.specs.OwnedPairs.{FromObject, Leads, Owned, from_object, led_to, AreOwnedPairs, pair_of}
-use Rattle.api_correspond.specs.Rules.{IsOwned}
+use Rattle.api_correspond.specs.OwnedPairs.{IsOwned, FromObject, Leads, Owned, from_object, led_to, AreOwnedPairs, pair_of}
 use Rattle.api_forced.specs.Ownerships.{IsOwnership}
 use Rattle.api_correspond.specs.inner.Members.{OfSome}
 use Rattle.api_correspond.specs.inner.Tables.{At}

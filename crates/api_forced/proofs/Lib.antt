@@ -4,5 +4,6 @@ pub mod Entering
 pub mod Following
 pub mod Forcing
 pub mod FromObjects
+pub mod HeldPairs
 pub mod Naming
 pub mod Taking

@@ -4,8 +4,7 @@ use Rattle.std.specs.Prelude.{ℕ, List}
 use Rattle.go_base.specs.Lists.{Has, Once}
 use Rattle.go_model.specs.worlds.Worlds.{Packages}
 use Rattle.go_type_images.specs.declared.pair.TypePair.{TypePair}
-use Rattle.api_correspond.specs.OwnedPairs.{Owned}
-use Rattle.api_correspond.specs.Rules.{IsOwned}
+use Rattle.api_correspond.specs.OwnedPairs.{IsOwned, Owned}
 use Rattle.api_correspond.specs.inner.Tables.{At}
 use Rattle.api_forced.specs.declared.claims.Claim.{Claim}
 

@@ -4,4 +4,5 @@
 pub mod claims;
 pub mod forced;
 mod graph;
+pub mod laws;
 mod objects;

@@ -12,7 +12,7 @@ use Rattle.api_frozen.specs.declared.signed.Signed.{Signed}
 use Rattle.api_frozen.specs.LineShapes.{IsInContext}
 
 -- a required line that no feature has, that isn't an exception, and that no feature has without its context
-pub record IsLost (features : List Line) (required exceptions : List (List ℕ)) (text : List ℕ) : Type 0 where
+pub record IsLostLine (features : List Line) (required exceptions : List (List ℕ)) (text : List ℕ) : Type 0 where
   pub asked : Has required text
   pub missing : HasText features text → ⊥
   pub unexcepted : Has exceptions text → ⊥
@@ -24,7 +24,7 @@ pub record IsNew (features : List Line) (required : List (List ℕ)) (text : Lis
   pub unasked : Has required text → ⊥
 
 abbrev pub IsSignedAs : List Line → List (List ℕ) → List (List ℕ) → Bool → List ℕ → Type 0
-IsSignedAs features required exceptions true text = IsLost features required exceptions text
+IsSignedAs features required exceptions true text = IsLostLine features required exceptions text
 IsSignedAs features required exceptions false text = IsNew features required text
 
 -- a lost or a new line

@@ -7,7 +7,6 @@ use Rattle.go_selectors.proofs.Lists.{has_none}
 use Rattle.go_model.specs.worlds.Worlds.{Packages}
 use Rattle.go_type_images.specs.declared.pair.TypePair.{TypePair}
 use Rattle.api_correspond.specs.OwnedPairs.{Owned}
-use Rattle.api_correspond.specs.Publics.{IsPublic}
 use Rattle.api_correspond.specs.Rules.{KeepsPath, KeepsPair, KeepsAmong, IsSealedPair, Compatible}
 use Rattle.api_correspond.specs.inner.Tables.{At}
 use Rattle.api_correspond.proofs.Growing.{grows_none, grows_one, grows_as}
@@ -31,26 +30,30 @@ module _ (old new : Packages) where
     pub among_exact : (a b c : List Lost) → Tells (KeepsBoth old new pairs p) (IsImplementingLoss old new pairs p) a b → Tells (KeepsPartners old new pairs p) (IsPartnersLoss old new pairs p) b c → Tells (KeepsAmong old new p) (IsLossAmong old new p) a c
     among_exact a b c s t = told_both a b c kept of_implementing of_partners back s t
       where
+        placed : (i : TypePair) → IsSealedPair old new i → (j : ℕ) × At pairs j i
+        placed i x = has_at pairs i (o.complete i x.owned)
+
         kept : KeepsBoth old new pairs p → KeepsPartners old new pairs p → KeepsAmong old new p
         kept k w = record {
-          implements = λ i x. (let j = has_at pairs i (o.complete i (x.owner, x.owned)) in record { value = k.0 j.0 i j.1 (x.closed, x.still); pointer = k.1 j.0 i j.1 (x.closed, x.still) });
-          one_to_one = λ q x m. w q (o.complete q x) m;
+          implements = λ i x. (let j = placed i x.sealed in k.0 j.0 i j.1 (x.sealed.sealed, x.sealed.still) x.before);
+          pointer_implements = λ i x. (let j = placed i x.sealed in k.1 j.0 i j.1 (x.sealed.sealed, x.sealed.still) x.before);
+          one_to_one = λ q x. w q (o.complete q x.owned) x.in_module;
         }
 
         sealed : (j : ℕ) (i : TypePair) → At pairs j i → AreSealed old new i → IsSealedPair old new i
-        sealed j i h w = let x = o.owned i (at_has pairs j i h) in record { owner = x.0; owned = x.1; closed = w.0; still = w.1 }
+        sealed j i h w = record { owned = o.owned i (at_has pairs j i h); sealed = w.0; still = w.1 }
 
         of_implementing : (l : Lost) → IsImplementingLoss old new pairs p l → IsLossAmong old new p l
-        of_implementing l (inl k) = not_implementing k.1 (sealed k.0 k.1 k.2 k.3) k.4 k.5 k.6
-        of_implementing l (inr k) = pointer_not_implementing k.1 (sealed k.0 k.1 k.2 k.3) k.4 k.5 k.6
+        of_implementing l (inl k) = not_implementing k.1 (record { sealed = sealed k.0 k.1 k.2 k.3; before = k.4 }) k.5 k.6
+        of_implementing l (inr k) = pointer_not_implementing k.1 (record { sealed = sealed k.0 k.1 k.2 k.3; before = k.4 }) k.5 k.6
 
         of_partners : (l : Lost) → IsPartnersLoss old new pairs p l → IsLossAmong old new p l
-        of_partners l k = not_apart k.0 (o.owned k.0 k.1) k.2 k.3 k.4
+        of_partners l k = not_apart k.0 (record { in_module = k.2; owned = o.owned k.0 k.1 }) k.3 k.4
 
         back : (l : Lost) → IsLossAmong old new p l → IsImplementingLoss old new pairs p l ⊎ IsPartnersLoss old new pairs p l
-        back l (not_implementing i x h n e) = let j = has_at pairs i (o.complete i (x.owner, x.owned)) in inl (inl (j.0, i, j.1, (x.closed, x.still), h, n, e))
-        back l (pointer_not_implementing i x h n e) = let j = has_at pairs i (o.complete i (x.owner, x.owned)) in inl (inr (j.0, i, j.1, (x.closed, x.still), h, n, e))
-        back l (not_apart q x m n e) = inr (q, o.complete q x, m, n, e)
+        back l (not_implementing i x n e) = let j = placed i x.sealed in inl (inl (j.0, i, j.1, (x.sealed.sealed, x.sealed.still), x.before, n, e))
+        back l (pointer_not_implementing i x n e) = let j = placed i x.sealed in inl (inr (j.0, i, j.1, (x.sealed.sealed, x.sealed.still), x.before, n, e))
+        back l (not_apart q x n e) = inr (q, o.complete q x.owned, x.in_module, n, e)
 
     pub all_exact : (a b c : List Lost) → Tells (KeepsPair old new p) (IsLoss old new p) a b → Tells (KeepsAmong old new p) (IsLossAmong old new p) b c → Tells (KeepsAll old new p) (IsSomeLoss old new p) a c
     all_exact a b c s t = told_both a b c (λ k l. (k, l)) (λ l h. inl h) (λ l h. inr h) (λ l h. h) s t
@@ -137,7 +140,7 @@ module _ (old new : Packages) (owners : List (List ℕ)) (pairs : List TypePair)
         back (of_pair owner p l w k e) = claimed b owner p l w (inl k) e
         back (of_pairs owner p l w k e) = claimed b owner p l w (inr k) e
 
-    pub whole : (first ≡ [] → (path : List ℕ) → IsPublic old path → KeepsPath old new path) → (bs ≡ []) ↔ Compatible old new
+    pub whole : (first ≡ [] → (path : List ℕ) → KeepsPath old new path) → (bs ≡ []) ↔ Compatible old new
     whole keeps = (to, back)
       where
         none : bs ≡ [] → (b : Break) → Has bs b → ⊥

@@ -1,8 +1,10 @@
 //! What is broken where a new world takes the place of an old one, by all rules.
-ghost use Rattle.std.specs.Prelude.{◌≡◌, ◌↔◌, [], IfOk, OnOk};
+ghost use Rattle.std.specs.Prelude.{◌≡◌, ◌↔◌, List as Seq, [], IfOk, OnOk};
 ghost use Rattle.go_base.specs.Growing.{Grows};
 ghost use Rattle.go_base.specs.Lists.{Has};
+ghost use Rattle.api_correspond.specs.OwnedPairs.{HoldsOwned};
 ghost use Rattle.api_correspond.specs.Rules.{Compatible};
+ghost use Rattle.go_type_images.specs.declared.pair.TypePair.{TypePair};
 ghost use Rattle.api_correspond.specs.inner.Tables.{ItemAt};
 ghost use Rattle.api_breaks.specs.Breaks.{IsBreak};
 ghost use Rattle.api_breaks.specs.declared.broken.Break.{Break as Broken};
@@ -106,10 +108,12 @@ fn push_claims(
 }
 
 /// What is broken: what the public packages of the old world and their exported objects lose, and what the types lose that have to
-/// correspond, each for the objects that own them. Nothing is, exactly where the new world keeps all of the old one.
+/// correspond, each for the objects that own them. Nothing is, exactly where the new world keeps all of the old one. And some
+/// list holds all pairs of types that have to correspond.
 pub fn breaks(alloc: Global, old: &World, new: &World) -> Result<Vec<Break>, NoMemory>
     ensures exact { IfOk result (λ breaks. (b : Broken) → Has breaks.items b ↔ IsBreak old.now new.now b) }
     ensures compatible { IfOk result (λ breaks. (breaks.items ≡ []) ↔ Compatible old.now new.now) }
+    ensures held { IfOk result (λ breaks. (pairs : Seq TypePair) × HoldsOwned old.now new.now pairs) }
 {
     let mut breaks = package_breaks(alloc, old, new)?;
     let all = owned_pairs(alloc, old, new)?;

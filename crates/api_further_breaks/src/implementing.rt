@@ -255,7 +255,7 @@ fn is_none(index: &BTreeMap<Sel, List<usize>>) -> bool
     index.is_empty()
 }
 
-/// Adds the interfaces that no other package can implement, which the old type of a pair implements and the new one not, or the
+/// Adds the sealed interfaces which the old type of a pair implements and the new one not, or the
 /// pointer to the one and not to the other.
 pub(crate) fn push_implementing(
     alloc: Global,

@@ -1,4 +1,4 @@
-//! The pairs of interfaces that no other package can implement, found by one of the methods that see to it.
+//! The pairs of sealed interfaces, found by one of the methods that seal them.
 ghost use Rattle.std.specs.Prelude.{◌≡◌, IfOk, OnOk};
 ghost use Rattle.go_model.specs.types.Terms.{error_type};
 ghost use Rattle.go_model.specs.types.Underlying.{under, methods_of};
@@ -78,7 +78,7 @@ fn first_sealing<'a>(world: &World, methods: &'a [Method]) -> Option<&'a Method>
     None
 }
 
-// The first method that no other package can declare, of the old interface of a pair, where the new type is an interface.
+// The first method that seals the old interface of a pair, where the new type is an interface.
 fn first_of<'a>(
     error: &'a Defined,
     old: &'a World,
@@ -116,7 +116,7 @@ fn add_pair<'a>(
     }
 }
 
-/// The places of the pairs of interfaces that no other package can implement, each at one selector that is unexported, of the module.
+/// The places of the pairs of sealed interfaces, each at one selector that is unexported, of the module.
 pub(crate) fn index_of(
     alloc: Global,
     error: &Defined,

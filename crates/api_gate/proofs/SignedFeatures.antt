@@ -1,7 +1,7 @@
 -- Features with the same texts lost and gained the same.
 use Rattle.std.proofs.Common.{◌≡◌, ℕ, Bool, true, false, List, [], ◌∷◌, map, refl, sym, subst, inl, inr}
 use Rattle.api_findings.proofs.OneListing.{text_in}
-use Rattle.api_frozen.specs.Comparison.{IsLost, IsNew, IsReport, IsSigned, IsSignedAs}
+use Rattle.api_frozen.specs.Comparison.{IsLostLine, IsNew, IsReport, IsSigned, IsSignedAs}
 use Rattle.api_frozen.specs.declared.signed.Signed.{Signed}
 use Rattle.api_judge.proofs.SortedTexts.{same_lists}
 use Rattle.api_lines.proofs.OrderedTexts.{has_map, map_has}
@@ -16,7 +16,7 @@ text_as : (f g : List Line) (text : List ℕ) → map printed f ≡ map printed 
 text_as f g text e h = map_has printed g text (subst (λ (w : List (List ℕ)). Has w text) e (text_in f text h))
 
 module _ (required exceptions : List (List ℕ)) where
-  lost_as : (f g : List Line) (text : List ℕ) → map printed f ≡ map printed g → IsLost f required exceptions text → IsLost g required exceptions text
+  lost_as : (f g : List Line) (text : List ℕ) → map printed f ≡ map printed g → IsLostLine f required exceptions text → IsLostLine g required exceptions text
   lost_as f g text e l = record { asked = l.asked; missing = λ h. l.missing (text_as g f text (sym e) h); unexcepted = l.unexcepted; narrowed = λ plain c h. l.narrowed plain c (text_as g f plain (sym e) h) }
 
   new_as : (f g : List Line) (text : List ℕ) → map printed f ≡ map printed g → IsNew f required text → IsNew g required text

@@ -9,13 +9,16 @@ use Rattle.std.proofs.lemmas.List.{map-append}
 use Rattle.go_base.specs.Growing.{Grows}
 use Rattle.go_base.specs.Lists.{Has}
 use Rattle.go_model.specs.worlds.Worlds.{Packages}
+use Rattle.go_selectors.proofs.Lists.{has_none}
 use Rattle.api_breaks.specs.Breaks.{IsBreak}
 use Rattle.api_breaks.specs.declared.broken.Break.{Break}
+use Rattle.api_correspond.specs.Rules.{Compatible}
 use Rattle.api_judge.specs.Verdicts.{AreBreaks}
 use Rattle.api_judge.specs.declared.listing.Printed.{Printed}
 use Rattle.api_judge.specs.inner.Listings.{IsListed, IsToldOf}
 use Rattle.api_lines.proofs.Growing.{grows_as, grows_pushed}
 use Rattle.api_lines.proofs.OrderedTexts.{arranged, has_map, map_has}
+use Rattle.api_subjects.proofs.EachTold.{told_some}
 use Rattle.api_subjects.specs.Told.{IsTold, printed}
 use Rattle.api_subjects.specs.declared.broken.Broken.{Broken}
 
@@ -54,3 +57,20 @@ all_told old new found all breaks exact g l = record {
   complete = λ b t. l.complete b (g.complete b (t.0, (exact t.0).1 t.1, t.2));
   ordered = l.ordered;
 }
+
+-- each break has a text in the list, so the list is empty exactly where there is no break
+pub none_untold : (old new : Packages) (found : List Break) (all breaks : List Broken) → Grows (IsToldOf old new found) [] all → IsListed all breaks
+    → (found ≡ []) ↔ Compatible old new → (breaks ≡ []) ↔ Compatible old new
+none_untold old new found all breaks g l k = (to, back)
+  where
+    shown : (b : Break) → Has found b → (told : Broken) × Has breaks told
+    shown b h = let t = told_some old new b in let s = l.complete t.0 (g.complete t.0 (b, h, t.1)) in (s.0, s.1)
+
+    to : breaks ≡ [] → Compatible old new
+    to e = k.0 (has_none found (λ b h. (let s = shown b h in subst (λ (w : List Broken). Has w s.0) e s.1)))
+
+    none : found ≡ [] → (b : Broken) → Has all b → ⊥
+    none e b h = elim (g.sound b h) [ inl n ↦ n | inr t ↦ subst (λ (w : List Break). Has w t.0) e t.1 ]
+
+    back : Compatible old new → breaks ≡ []
+    back c = has_none breaks (λ b h. none (k.1 c) b (l.sound b h))

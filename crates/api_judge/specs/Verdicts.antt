@@ -1,29 +1,25 @@
 -- Verdicts: what is broken where a new world takes the place of an old one, whether the feature lines differ, and how much of a change that is.
 -- Public source: README of golang.org/x/exp/apidiff, for what a break is; Semantic Versioning 2.0.0, clauses 6 to 8, for the classes.
-use Rattle.std.specs.Prelude.{◌≡◌, ◌↔◌, ℕ, ◌==◌, Bool, true, not, Decides, Some, List, length, map, if◌then◌else◌}
+use Rattle.std.specs.Prelude.{◌≡◌, ◌↔◌, ℕ, ◌==◌, Bool, true, not, Decides, List, [], length, map, if◌then◌else◌}
 use Rattle.std.specs.Ordering.{nat_cmp}
 use Rattle.std.specs.Cmp.Lexicographic.{slice_cmp}
 use Rattle.std.specs.List.{list_any}
 use Rattle.std.specs.List.Sorted.{IsStrictlySortedBy}
 use Rattle.go_base.specs.Lists.{Has}
-use Rattle.go_model.specs.declared.types.package.Package.{Package}
 use Rattle.go_model.specs.worlds.Worlds.{Packages}
 use Rattle.api_advice.specs.declared.class.Class.{Class}
 use Rattle.api_advice.specs.declared.class.Class.TheVariants as class
 use Rattle.api_breaks.specs.Breaks.{IsBreak}
 use Rattle.api_breaks.specs.declared.broken.Break.{Break}
-use Rattle.api_correspond.specs.Publics.{package_at}
+use Rattle.api_correspond.specs.OwnedPairs.{HoldsOwned}
+use Rattle.api_correspond.specs.Rules.{Compatible}
+use Rattle.go_type_images.specs.declared.pair.TypePair.{TypePair}
 use Rattle.api_features.specs.Features.{IsFeature}
 use Rattle.api_judge.specs.declared.verdict.Verdict.{Verdict}
 use Rattle.api_lines.specs.Lines.{printed as line_text}
 use Rattle.api_lines.specs.declared.line.Line.{Line}
 use Rattle.api_subjects.specs.Told.{IsTold, printed}
 use Rattle.api_subjects.specs.declared.broken.Broken.{Broken}
-
--- what both worlds have at one path is of the standard library in both or in neither, and there it is the same
-pub record ShareStd (old new : Packages) : Type 0 where
-  pub sides : (path : List ℕ) (p q : Package) → package_at old path ≡ Some p → package_at new path ≡ Some q → p.from_std ≡ q.from_std
-  pub same : (path : List ℕ) (p q : Package) → package_at old path ≡ Some p → package_at new path ≡ Some q → p.from_std ≡ true → p ≡ q
 
 -- something is broken, and told so
 abbrev pub IsToldBreak : Packages → Packages → Broken → Type 0
@@ -47,9 +43,12 @@ HasFeature w text = (l : Line) × IsFeature w l × (line_text l ≡ text)
 abbrev pub HaveSameFeatures : Packages → Packages → Type 0
 HaveSameFeatures old new = (text : List ℕ) → HasFeature old text ↔ HasFeature new text
 
--- exactly what is broken, and whether the features differ
+-- exactly what is broken, and no break exactly where the new world keeps all of the old one; whether the features differ; and that
+-- a list holds all pairs of types that have to correspond
 pub record IsVerdict (old new : Packages) (v : Verdict) : Type 0 where
   pub breaks : AreBreaks old new v.breaks
+  pub compatible : (v.breaks ≡ []) ↔ Compatible old new
+  pub held : (pairs : List TypePair) × HoldsOwned old new pairs
   pub changed : Decides v.changed (HaveSameFeatures old new → ⊥)
 
 -- something is broken

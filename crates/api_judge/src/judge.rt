@@ -2,7 +2,8 @@
 ghost use Rattle.std.specs.Prelude.{◌≡◌, IfOk};
 ghost use Rattle.std.specs.List.{list_any};
 ghost use Rattle.api_features.specs.Features.{IsFeature};
-ghost use Rattle.api_judge.specs.Verdicts.{IsVerdict, ShareStd, class_of, has_break, is_changed};
+ghost use Rattle.api_correspond.specs.SharedStd.{ShareStd};
+ghost use Rattle.api_judge.specs.Verdicts.{IsVerdict, class_of, has_break, is_changed};
 ghost use Rattle.api_lines.specs.Lines.{IsListing};
 
 use crate::changes::differ;

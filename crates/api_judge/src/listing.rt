@@ -1,10 +1,13 @@
 //! What is broken, told, gathered, and then listed in the order of its texts.
-ghost use Rattle.std.specs.Prelude.{◌≡◌, [], map, IfOk, OnOk, Some, refl, bytes_eq};
+ghost use Rattle.std.specs.Prelude.{◌≡◌, ◌↔◌, List as Seq, [], map, IfOk, OnOk, Some, refl, bytes_eq};
 ghost use Rattle.std.specs.Ordering.{nat_cmp, on};
 ghost use Rattle.std.specs.Cmp.{partial_equiv_from_equiv, on_equiv, on_po, on_total};
 ghost use Rattle.std.specs.Cmp.Lexicographic.{slice_cmp, nat_list_eq_equiv, nat_list_cmp_total, texts_po, texts_ties};
 ghost use Rattle.go_base.specs.Growing.{Grows};
 ghost use Rattle.go_base.specs.Lists.{Has};
+ghost use Rattle.api_correspond.specs.OwnedPairs.{HoldsOwned};
+ghost use Rattle.api_correspond.specs.Rules.{Compatible};
+ghost use Rattle.go_type_images.specs.declared.pair.TypePair.{TypePair};
 ghost use Rattle.api_judge.specs.inner.Listings.{IsToldOf, IsListed};
 ghost use Rattle.api_judge.specs.Verdicts.{AreBreaks};
 ghost use Rattle.api_subjects.specs.Told.{IsTold, printed};
@@ -146,9 +149,12 @@ fn in_order(alloc: Global, mut all: Vec<Printed>) -> Result<List<Broken>, NoMemo
     Ok(List::from_vec(breaks))
 }
 
-/// What is broken where `new` takes the place of `old`, each text once, in the order of bytes.
+/// What is broken where `new` takes the place of `old`, each text once, in the order of bytes: no text exactly where `new` keeps all of
+/// `old`.
 pub fn told_breaks(alloc: Global, old: &World, new: &World) -> Result<List<Broken>, NoMemory>
-    ensures { IfOk result (AreBreaks old.now new.now) }
+    ensures exact { IfOk result (AreBreaks old.now new.now) }
+    ensures compatible { IfOk result (λ breaks. (breaks ≡ []) ↔ Compatible old.now new.now) }
+    ensures held { IfOk result (λ breaks. (pairs : Seq TypePair) × HoldsOwned old.now new.now pairs) }
 {
     let found = breaks(alloc, old, new)?;
     let all = tell_all(alloc, old, new, &found)?;

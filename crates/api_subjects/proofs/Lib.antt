@@ -1,4 +1,5 @@
 pub mod Changes
+pub mod EachTold
 pub mod OneSubject
 pub mod Quotes
 pub mod TypeParts

@@ -9,3 +9,8 @@ ghost use Rattle.api_subjects.specs.declared.broken.Broken.{Broken};
 pub fn one_way()
     ensures { (old new : Packages) (b : Break) (x y : Broken) → IsTold old new b x → IsTold old new b y → x ≡ y }
 {}
+
+/// Everything that is broken can be told.
+pub fn each_told()
+    ensures { (old new : Packages) (b : Break) → (told : Broken) × IsTold old new b told }
+{}

@@ -25,7 +25,7 @@ pub enum Rule {
     Selectable,
     /// A type that can be compared stays so.
     Comparable,
-    /// An interface keeps its methods, and gets none where other packages can implement it.
+    /// An interface keeps its methods, and gets none where it is open.
     InterfaceMethods,
     /// A type keeps its methods.
     MethodSet,

@@ -2,6 +2,7 @@ pub mod ByParts
 pub mod ImageLevels
 pub mod ImageParts
 pub mod Leaves
+pub mod LevelEnds
 pub mod NewNames
 pub mod Sizes
 pub mod Through

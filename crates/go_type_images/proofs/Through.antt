@@ -12,6 +12,7 @@ use Rattle.go_model.specs.types.Tables.{Table}
 use Rattle.go_model.specs.types.Terms.{same_sel}
 use Rattle.go_model.specs.types.Underlying.{declared_methods, fields_of, methods_of, under}
 use Rattle.go_type_images.specs.SpotImages.{at_spot}
+use Rattle.go_type_images.proofs.ImageParts.{map_append}
 
 abbrev pub behind : Bool → Ending → Ending
 behind b e = record { through = b || e.through; target = e.target }
@@ -30,10 +31,6 @@ or_three : (a b c : Bool) → ((a || b) || c) ≡ (a || (b || c))
 or_three true b c = refl
 or_three false b c = refl
 
-map_append : {A B : Type 0} (f : A → B) (xs ys : List A) → map f (xs ++ ys) ≡ map f xs ++ map f ys
-map_append f [] ys = refl
-map_append f (x ∷ xs) ys = ap (λ zs. f x ∷ zs) (map_append f xs ys)
-
 one_or_none : (c b : Bool) (g : Target) → (if c then ends_as g b ∷ [] else []) ≡ map (behind b) (if c then ends_as g false ∷ [] else [])
 one_or_none true b g = ap (λ x. ends_as g x ∷ []) (sym (or_none b))
 one_or_none false b g = refl
@@ -44,6 +41,15 @@ gathered f g h (x ∷ xs) e = (λ i. e x i ++ gathered f g h xs e i) ∙ sym (ma
 
 three : (h : Ending → Ending) (a b c p q r : List Ending) → a ≡ map h p → b ≡ map h q → c ≡ map h r → (a ++ b) ++ c ≡ map h ((p ++ q) ++ r)
 three h a b c p q r d e f = (λ i. (d i ++ e i) ++ f i) ∙ ap (λ w. w ++ map h r) (sym (map_append h p q)) ∙ sym (map_append h (p ++ q) r)
+
+one_mapped : {A B : Type 0} (f : A → B) (xs : List A) (y : B) → map f xs ≡ y ∷ [] → (x : A) × (xs ≡ x ∷ []) × (f x ≡ y)
+one_mapped f [] y e = absurd (cc)
+one_mapped f (x ∷ []) y e = (x, refl, cc)
+one_mapped f (x ∷ z ∷ xs) y e = absurd (cc)
+
+none_mapped : {A B : Type 0} (f : A → B) (xs : List A) → map f xs ≡ [] → xs ≡ []
+none_mapped f [] e = refl
+none_mapped f (x ∷ xs) e = absurd (cc)
 
 module _ (T : Table) (s : Sel) where
   here : (b : Bool) (t : Term) → ends T s 0 (at_spot b t) ≡ map (behind b) (ends T s 0 (at_spot false t))
@@ -89,3 +95,9 @@ module _ (T : Table) (s : Sel) where
   -- what is found without a pointer on the way is found with one, through it
   pub only_behind : (b : Bool) (t : Term) (d : ℕ) (e : Ending) → IsOnly T s (at_spot false t) d e → IsOnly T s (at_spot b t) d (behind b e)
   only_behind b t d e o = record { none = λ k l. ends_behind k b t ∙ ap (map (behind b)) (o.none k l); only = ends_behind d b t ∙ ap (map (behind b)) o.only }
+
+  -- and what is found with one is found without
+  pub only_before : (b : Bool) (t : Term) (d : ℕ) (e : Ending) → IsOnly T s (at_spot b t) d e → (f : Ending) × IsOnly T s (at_spot false t) d f × (behind b f ≡ e)
+  only_before b t d e o =
+      let g = one_mapped (behind b) (ends T s d (at_spot false t)) e (sym (ends_behind d b t) ∙ o.only) in
+      (g.0, record { none = λ k l. none_mapped (behind b) (ends T s k (at_spot false t)) (sym (ends_behind k b t) ∙ o.none k l); only = g.1 }, g.2)

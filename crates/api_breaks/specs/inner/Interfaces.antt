@@ -10,14 +10,14 @@ use Rattle.go_model.specs.declared.types.term.Method.{Method}
 use Rattle.go_type_images.specs.declared.pair.TypePair.{TypePair}
 use Rattle.api_correspond.specs.OwnedPairs.{are_of_module}
 use Rattle.api_correspond.specs.Publics.{types_of}
-use Rattle.api_correspond.specs.Rules.{is_sealing, is_std_sel, Counts, have_interfaces}
+use Rattle.api_correspond.specs.Rules.{is_sealing, is_std_sel, Counts, CoversInterfaces}
 use Rattle.api_correspond.specs.inner.Members.{OfSome}
 use Rattle.api_correspond.specs.inner.Tables.{At}
 use Rattle.api_breaks.specs.declared.broken.Lost.{Lost}
 use Rattle.api_breaks.specs.declared.broken.Lost.TheVariants as lost
 use Rattle.api_breaks.specs.inner.Telling.{KeptBy}
 
--- one of the methods is unexported, of the module
+-- one of the methods is unexported, of the module: the interface is sealed
 abbrev pub HasSealing : Packages → List Method → Type 0
 HasSealing w ms = (m : Method) × Has ms m × (is_sealing w (method_sel m) ≡ true)
 
@@ -58,18 +58,18 @@ IsMethodNew ms n l = (HasSel ms (method_sel n) → ⊥) × (lost_method n ≡ l)
 abbrev pub AreMethodsNew : List Method → List Method → Lost → Type 0
 AreMethodsNew ms ns = OfSome (IsMethodNew ms) ns
 
--- one of two interfaces alone has unexported methods
+-- one of two interfaces alone is sealed
 abbrev pub IsSealedApart : Bool → Bool → Lost → Type 0
 IsSealedApart first second l = ((first ≡ second) → ⊥) × (lost.Sealing ≡ l)
 
--- methods are new where neither has
-abbrev pub KeepsOpen : Bool → Bool → List Method → List Method → Type 0
-KeepsOpen first second ms ns = first ≡ false → second ≡ false → KeptBy (WasMethod ms) ns
+-- methods are new where both are open
+abbrev pub KeepsWhere : Bool → Bool → List Method → List Method → Type 0
+KeepsWhere first second ms ns = first ≡ false → second ≡ false → KeptBy (WasMethod ms) ns
 
 abbrev pub IsNewWhere : Bool → Bool → List Method → List Method → Lost → Type 0
 IsNewWhere first second ms ns l = (first ≡ false) × (second ≡ false) × AreMethodsNew ms ns l
 
--- both have unexported methods, or neither
+-- both are sealed, or neither
 abbrev pub AreSealedAlike : Packages → Packages → List Method → List Method → Type 0
 AreSealedAlike old new ms ns = (HasSealing old ms → HasSealing new ns) × (HasSealing new ns → HasSealing old ms)
 
@@ -77,7 +77,7 @@ AreSealedAlike old new ms ns = (HasSealing old ms → HasSealing new ns) × (Has
 pub record KeepsMethods (old new : Packages) (ms ns : List Method) : Type 0 where
   pub alike : AreSealedAlike old new ms ns
   pub methods : KeptBy (KeepsMethod old ns) ms
-  pub closed : (HasSealing old ms → ⊥) → (HasSealing new ns → ⊥) → KeptBy (WasMethod ms) ns
+  pub open_kept : (HasSealing old ms → ⊥) → (HasSealing new ns → ⊥) → KeptBy (WasMethod ms) ns
 
 pub data IsOfMethods (old new : Packages) (ms ns : List Method) (l : Lost) : Type 0 where
   sealed_apart : (AreSealedAlike old new ms ns → ⊥) → lost.Sealing ≡ l → IsOfMethods old new ms ns l
@@ -85,7 +85,7 @@ pub data IsOfMethods (old new : Packages) (ms ns : List Method) (l : Lost) : Typ
   methods_new : (HasSealing old ms → ⊥) → (HasSealing new ns → ⊥) → AreMethodsNew ms ns l → IsOfMethods old new ms ns l
 
 abbrev pub KeepsInterface : Packages → Packages → TypePair → Type 0
-KeepsInterface old new p = (are_of_module old new p && have_interfaces old new p) ≡ true → KeepsMethods old new (methods_of (under (types_of old) p.old)) (methods_of (under (types_of new) p.new))
+KeepsInterface old new p = CoversInterfaces old new p → KeepsMethods old new (methods_of (under (types_of old) p.old)) (methods_of (under (types_of new) p.new))
 
 abbrev pub IsInterfaceLoss : Packages → Packages → TypePair → Lost → Type 0
-IsInterfaceLoss old new p l = ((are_of_module old new p && have_interfaces old new p) ≡ true) × IsOfMethods old new (methods_of (under (types_of old) p.old)) (methods_of (under (types_of new) p.new)) l
+IsInterfaceLoss old new p l = CoversInterfaces old new p × IsOfMethods old new (methods_of (under (types_of old) p.old)) (methods_of (under (types_of new) p.new)) l

@@ -37,10 +37,10 @@ AreLostIn w callable ms = OfSome (IsLostIn w callable) ms
 
 -- the methods of an old type that count are kept in the set of a new one, and one isn't
 abbrev pub KeepsSet : Packages → Packages → Term → Term → Type 0
-KeepsSet old new t u = (s : Sel) (g : Signature) → Counts old s → InSet (types_of old) t s g → KeepsInSet old new t u s g
+KeepsSet old new t u = (s : Sel) (g : Signature) → Counts old s → InSet (types_of old) t s g → KeepsInSet old new u s g
 
 abbrev pub IsSetLoss : Packages → Packages → Term → Term → Lost → Type 0
-IsSetLoss old new t u l = (s : Sel) × (g : Signature) × Counts old s × InSet (types_of old) t s g × (KeepsInSet old new t u s g → ⊥) × (lost_of s ≡ l)
+IsSetLoss old new t u l = (s : Sel) × (g : Signature) × Counts old s × InSet (types_of old) t s g × (KeepsInSet old new u s g → ⊥) × (lost_of s ≡ l)
 
 abbrev pub are_plain : Packages → Packages → TypePair → Bool
 are_plain old new p = are_of_module old new p && not (interface_layer (under (types_of old) p.old)) && not (interface_layer (under (types_of new) p.new))

@@ -10,7 +10,7 @@ use Rattle.go_model.specs.declared.types.package.Entity.{Entity}
 use Rattle.go_model.specs.declared.types.package.Entity.TheVariants as entity
 use Rattle.go_model.specs.declared.constants.value.Value.{Value}
 use Rattle.api_correspond.specs.Publics.{package_at, IsPublic, IsExportedName, qualified}
-use Rattle.api_correspond.specs.Rules.{KeepsKind, KeepsConstant}
+use Rattle.api_correspond.specs.Rules.{KeepsName, KeepsKind, KeepsConstant}
 use Rattle.api_correspond.specs.inner.Members.{OfSome}
 use Rattle.api_breaks.specs.declared.broken.Lost.TheVariants as lost
 use Rattle.api_breaks.specs.declared.broken.Break.{Break}
@@ -39,7 +39,7 @@ IsOfObjects path q objects = OfSome (IsOfObject path q) objects
 
 -- the new package has another name
 abbrev pub IsRenamed : List ℕ → Package → Package → Break → Type 0
-IsRenamed path p q b = (q.name ≡ p.name → ⊥) × (broken path (lost.Name q.name) ≡ b)
+IsRenamed path p q b = (KeepsName p q → ⊥) × (broken path (lost.Name q.name) ≡ b)
 
 abbrev pub IsOfBoth : List ℕ → Package → Package → Break → Type 0
 IsOfBoth path p q b = IsRenamed path p q b ⊎ IsOfObjects path q p.objects b

@@ -11,7 +11,7 @@ use Rattle.go_model.specs.declared.types.found.FieldFound.{FieldFound}
 use Rattle.go_model.specs.declared.types.term.Term.{Term}
 use Rattle.go_type_images.specs.declared.pair.TypePair.{TypePair}
 use Rattle.api_correspond.specs.Publics.{types_of, IsExported}
-use Rattle.api_correspond.specs.Rules.{KeepsSelectable, have_structs}
+use Rattle.api_correspond.specs.Rules.{CoversSelectable, KeepsSelectable, have_structs}
 use Rattle.api_correspond.specs.inner.Members.{OfSome}
 use Rattle.api_breaks.specs.declared.broken.Lost.{Lost}
 use Rattle.api_breaks.specs.declared.broken.Lost.TheVariants as lost
@@ -47,7 +47,7 @@ abbrev pub AreSelLosses : Packages → Packages → TypePair → List Sel → Lo
 AreSelLosses old new p = OfSome (IsSelLoss old new p)
 
 abbrev pub KeepsSels : Packages → Packages → TypePair → Type 0
-KeepsSels old new p = (s : Sel) (f : FieldFound) → have_structs old new p ≡ true → IsExported s → Finds (types_of old) s p.old (FieldAt f) → 1 ≤ f.depth → KeepsSelectable new p s f
+KeepsSels old new p = (s : Sel) (f : FieldFound) → CoversSelectable old new p s f → KeepsSelectable new p s f
 
 abbrev pub IsSelectableLoss : Packages → Packages → TypePair → Lost → Type 0
 IsSelectableLoss old new p l = (have_structs old new p ≡ true) × ((s : Sel) × IsSelLoss old new p s l)

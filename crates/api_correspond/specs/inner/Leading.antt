@@ -20,7 +20,7 @@ use Rattle.go_model.specs.declared.types.term.Method.{Method}
 use Rattle.go_model.specs.declared.types.term.Signature.{Signature}
 use Rattle.go_type_images.specs.declared.pair.TypePair.{TypePair}
 use Rattle.api_correspond.specs.Publics.{IsExported, types_of}
-use Rattle.api_correspond.specs.Outermost.{Match, pair, side_by_side}
+use Rattle.api_correspond.specs.Outermost.{SameOutermost, pair, side_by_side}
 use Rattle.go_type_images.specs.Parts.{function_type, field_type, method_type, parts}
 use Rattle.api_correspond.specs.inner.Members.{OfSome}
 use Rattle.api_correspond.specs.inner.Tables.{At}
@@ -29,7 +29,7 @@ use Rattle.go_type_images.specs.Levels.{is_structured}
 
 -- the parts at one place, where the outermost constructors match
 abbrev pub IsPart : Packages → Packages → Layer → Layer → TypePair → Type 0
-IsPart old new l k q = Match old new l k × Has (side_by_side (parts l) (parts k)) q
+IsPart old new l k q = SameOutermost old new l k × Has (side_by_side (parts l) (parts k)) q
 
 -- those of what is underneath types of the module, where that is neither a struct nor an interface
 abbrev pub IsPartUnderneath : Packages → Packages → TypePair → TypePair → Type 0

@@ -4,7 +4,8 @@ use Rattle.std.specs.Prelude.{◌≡◌, ◌⊎◌, ℕ, List, [], ◌∷◌}
 use Rattle.go_base.specs.Lists.{Has, Once}
 use Rattle.go_model.specs.worlds.Worlds.{Packages}
 use Rattle.go_type_images.specs.declared.pair.TypePair.{TypePair}
-use Rattle.api_correspond.specs.Rules.{KeepsPair, KeepsAmong, IsOwned}
+use Rattle.api_correspond.specs.OwnedPairs.{IsOwned}
+use Rattle.api_correspond.specs.Rules.{KeepsPair, KeepsAmong}
 use Rattle.api_correspond.specs.inner.Members.{OfSome}
 use Rattle.api_correspond.specs.inner.Tables.{At}
 use Rattle.api_forced.specs.declared.claims.Claim.{Claim}

@@ -1,4 +1,4 @@
--- A table of the pairs of interfaces that no other package can implement.
+-- A table of the pairs of sealed interfaces.
 -- Own: words of the contracts inside this crate.
 use Rattle.std.specs.Prelude.{◌≡◌, ◌⊎◌, ◌<◌, ℕ, true, List, Option, None, Some}
 use denote.Ref.{Bor}
@@ -20,11 +20,11 @@ abbrev pub FirstSealing : Packages → List Method → Option (Bor Method) → T
 FirstSealing w ms None = (m : Method) → Has ms m → is_sealing w (method_sel m) ≡ true → ⊥
 FirstSealing w ms (Some m) = Has ms m.now × (is_sealing w (method_sel m.now) ≡ true)
 
--- the old interface of a pair is one that no other package can implement, and the new type is an interface
+-- the old interface of a pair is sealed, and the new type is an interface
 abbrev pub AreSealed : Packages → Packages → TypePair → Type 0
 AreSealed old new i = IsSealed old i.old × (interface_layer (under (types_of new) i.new) ≡ true)
 
--- one of the methods of the old interface that see to it has the selector
+-- one of the methods of the old interface has the selector
 abbrev pub SealsBy : Packages → TypePair → Sel → Type 0
 SealsBy old i s = (m : Method) × Has (methods_of (under (types_of old) i.old)) m × (method_sel m ≡ s)
 

@@ -1,0 +1,13 @@
+pub mod DefinedPointers
+pub mod FoundFields
+pub mod FoundMethods
+pub mod InterfaceMethods
+pub mod Kept
+pub mod Members
+pub mod MethodSets
+pub mod Resolving
+pub mod ResolvingPairs
+pub mod Sets
+pub mod SharedStd
+pub mod TopFields
+pub mod Underneath

@@ -1,0 +1,3 @@
+pub mod KeptFinds
+pub mod KeptLevels
+pub mod inner

@@ -1,0 +1,4 @@
+//! Laws of what compatible worlds keep of the types of owned pairs: what is underneath, fields and methods.
+#![tactic(auto)]
+
+pub mod laws;

@@ -1,0 +1,5 @@
+pub mod Hypotheses
+pub mod Operands
+pub mod Own
+pub mod TypeForms
+pub mod Views

@@ -1,0 +1,5 @@
+pub mod Following
+pub mod Keeping
+pub mod OwnTypes
+pub mod Preserving
+pub mod Reached

@@ -1,0 +1,62 @@
+//! Laws of a client's types in two environments, of which the new one keeps what the old one gives.
+ghost use Rattle.std.specs.Prelude.{◌≡◌, ℕ, List, Bool, true, false, map};
+ghost use Rattle.go_base.specs.Lists.{Has as HasItem};
+ghost use Rattle.go_model.specs.declared.constants.value.Kind.{Kind};
+ghost use Rattle.go_model.specs.declared.constants.value.Untyped.{Untyped};
+ghost use Rattle.go_model.specs.declared.constants.value.Value.{Value};
+ghost use Rattle.go_model.specs.declared.types.names.Sel.{Sel};
+ghost use Rattle.go_model.specs.declared.types.names.TypeName.{TypeName};
+ghost use Rattle.go_model.specs.declared.types.package.ConstTerm.{ConstTerm};
+ghost use Rattle.go_model.specs.declared.types.term.Term.{Term, out-Term};
+ghost use Rattle.go_model.specs.types.Selectors.{Ending, IsOnly, ends};
+ghost use Rattle.go_model.specs.types.Tables.{Table};
+ghost use Rattle.go_model.specs.types.Terms.{Layer};
+ghost use Rattle.go_model.specs.types.Underlying.{under};
+ghost use Rattle.go_rules.specs.Asks.{IsOwnLayer, Meets};
+ghost use Rattle.go_rules.specs.Environments.{Env};
+ghost use Rattle.go_rules.specs.Expressions.{Has, OfType};
+ghost use Rattle.go_rules.specs.Growth.{Grows};
+ghost use Rattle.go_rules.specs.Nodes.{expression, type};
+ghost use Rattle.go_rules.specs.Operands.{HasKind, IsTyped, IsUntyped, ShapeWithin, constant_of};
+ghost use Rattle.go_rules.specs.declared.operand.Operand.{Operand};
+ghost use Rattle.go_syntax.specs.declared.expression.Expr.{Expr};
+ghost use Rattle.go_syntax.specs.declared.types.«Type».{«Type» as Typ};
+ghost use Rattle.go_type_images.specs.EntryImages.{const_to};
+ghost use Rattle.go_type_images.specs.Images.{Naming, image, image_of_layer, same_sels};
+ghost use Rattle.go_type_images.specs.Levels.{is_structured};
+ghost use Rattle.go_type_images.specs.Parts.{parts};
+ghost use Rattle.go_type_images.specs.SpotImages.{at_spot, ending_to};
+ghost use Rattle.go_type_images.specs.declared.pair.TypePair.{TypePair};
+ghost use Rattle.go_client_types.specs.Following.{After};
+ghost use Rattle.go_client_types.specs.Keeping.{Keeps};
+ghost use Rattle.go_client_types.specs.OwnTypes.{OwnTypes};
+ghost use Rattle.go_client_types.specs.Reached.{ConstReached, IsReached};
+
+/// From a client's own type each selector finds on the new side the image of what it finds on the old one.
+pub fn own_types()
+    ensures ends { (T U : Table) (r : Naming) → OwnTypes T U r → (s : Sel) (k : ℕ) (b : Bool) (t : Term) → IsOwnLayer (out-Term t) → ends U s k (at_spot b (image r same_sels t)) ≡ map (ending_to r) (ends T s k (at_spot b t)) }
+    ensures found { (T U : Table) (r : Naming) → OwnTypes T U r → (s : Sel) (d : ℕ) (b : Bool) (t : Term) (e : Ending) → IsOwnLayer (out-Term t) → IsOnly T s (at_spot b t) d e → IsOnly U s (at_spot b (image r same_sels t)) d (ending_to r e) }
+{}
+
+/// What is underneath a type that a client reaches, but for structs and interfaces, is on the new side the image of what it is on
+/// the old one, and the client reaches the types in it.
+pub fn kept_levels()
+    ensures { (E F : Env) (r : Naming) (pairs : List TypePair) (std : TypeName → Bool) (is_open : Sel → Bool) → Keeps E F r pairs std is_open → (t : Term) (l : Layer) → IsReached pairs std t → is_structured l ≡ false → under E.table t ≡ l
+        → (under F.table (image r same_sels t) ≡ image_of_layer r same_sels l) × ((u : Term) → HasItem (parts l) u → IsReached pairs std u) }
+{}
+
+/// A type form of a client that stands for a type on the old side, and meets what it is asked once all is had, stands on the new side
+/// for the image, and the client reaches the type; where the constants that tell lengths of arrays are kept.
+pub fn kept_type_forms()
+    ensures { (E F G : Env) (r : Naming) (pairs : List TypePair) (std : TypeName → Bool) (is_open : Sel → Bool) → Keeps E F r pairs std is_open → Grows E G → G.profile ≡ true
+        → ((e : Expr) (c : ConstTerm) (v : Value) → Has E e (constant_of c v) → Meets G (expression e) → Has F e (constant_of (const_to r c) v))
+        → (t : Typ) (u : Term) → OfType E t u → Meets G (type t) → OfType F t (image r same_sels u) × IsReached pairs std u }
+{}
+
+/// What is known of an operand is known of what it is on the new side: its type or kind, and that it is within bounds.
+pub fn followed_operands()
+    ensures typed { (r : Naming) (pairs : List TypePair) (std : TypeName → Bool) (o p : Operand) (t : Term) → After r pairs std o p → IsTyped o t → IsTyped p (image r same_sels t) × IsReached pairs std t }
+    ensures untyped { (r : Naming) (pairs : List TypePair) (std : TypeName → Bool) (o p : Operand) (k : Untyped) → After r pairs std o p → IsUntyped o k → IsUntyped p k }
+    ensures within { (r : Naming) (pairs : List TypePair) (std : TypeName → Bool) (o p : Operand) → After r pairs std o p → ShapeWithin o.shape → ShapeWithin p.shape }
+    ensures kind { (E F : Env) (r : Naming) (pairs : List TypePair) (std : TypeName → Bool) (is_open : Sel → Bool) → Keeps E F r pairs std is_open → (c : ConstTerm) (k : Kind) → ConstReached pairs std c → HasKind E c k → HasKind F (const_to r c) k }
+{}

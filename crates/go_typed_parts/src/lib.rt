@@ -1,0 +1,4 @@
+//! Laws of typed trees: what stands in one is typed.
+#![tactic(auto)]
+
+pub mod laws;
