@@ -1,5 +1,6 @@
 pub mod Hypotheses
 pub mod Operands
 pub mod Own
+pub mod Relations
 pub mod TypeForms
 pub mod Views

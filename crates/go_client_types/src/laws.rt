@@ -8,16 +8,18 @@ ghost use Rattle.go_model.specs.declared.types.names.Sel.{Sel};
 ghost use Rattle.go_model.specs.declared.types.names.TypeName.{TypeName};
 ghost use Rattle.go_model.specs.declared.types.package.ConstTerm.{ConstTerm};
 ghost use Rattle.go_model.specs.declared.types.term.Term.{Term, out-Term};
+ghost use Rattle.go_model.specs.types.Comparison.{Comparable};
 ghost use Rattle.go_model.specs.types.Selectors.{Ending, IsOnly, ends};
 ghost use Rattle.go_model.specs.types.Tables.{Table};
 ghost use Rattle.go_model.specs.types.Terms.{Layer};
 ghost use Rattle.go_model.specs.types.Underlying.{under};
 ghost use Rattle.go_rules.specs.Asks.{IsOwnLayer, Meets};
-ghost use Rattle.go_rules.specs.Environments.{Env};
+ghost use Rattle.go_rules.specs.Environments.{Entered, Env};
 ghost use Rattle.go_rules.specs.Expressions.{Has, OfType};
 ghost use Rattle.go_rules.specs.Growth.{Grows};
 ghost use Rattle.go_rules.specs.Nodes.{expression, type};
 ghost use Rattle.go_rules.specs.Operands.{HasKind, IsTyped, IsUntyped, ShapeWithin, constant_of};
+ghost use Rattle.go_rules.specs.Usability.{UsableAs};
 ghost use Rattle.go_rules.specs.declared.operand.Operand.{Operand};
 ghost use Rattle.go_syntax.specs.declared.expression.Expr.{Expr};
 ghost use Rattle.go_syntax.specs.declared.types.«Type».{«Type» as Typ};
@@ -59,4 +61,13 @@ pub fn followed_operands()
     ensures untyped { (r : Naming) (pairs : List TypePair) (std : TypeName → Bool) (o p : Operand) (k : Untyped) → After r pairs std o p → IsUntyped o k → IsUntyped p k }
     ensures within { (r : Naming) (pairs : List TypePair) (std : TypeName → Bool) (o p : Operand) → After r pairs std o p → ShapeWithin o.shape → ShapeWithin p.shape }
     ensures kind { (E F : Env) (r : Naming) (pairs : List TypePair) (std : TypeName → Bool) (is_open : Sel → Bool) → Keeps E F r pairs std is_open → (c : ConstTerm) (k : Kind) → ConstReached pairs std c → HasKind E c k → HasKind F (const_to r c) k }
+{}
+
+/// Of types that a client reaches, a comparable one stays so, and one that has its entry has it on the new side; and where a value
+/// without a type, as a constant of an untyped kind or nil, may be used as one of a type, it may be used as one of the image.
+pub fn kept_relations()
+    ensures comparable { (E F : Env) (r : Naming) (pairs : List TypePair) (std : TypeName → Bool) (is_open : Sel → Bool) → Keeps E F r pairs std is_open → (t : Term) → IsReached pairs std t → Comparable E.table t → Comparable F.table (image r same_sels t) }
+    ensures entered { (E F : Env) (r : Naming) (pairs : List TypePair) (std : TypeName → Bool) (is_open : Sel → Bool) → Keeps E F r pairs std is_open → (t : Term) → IsReached pairs std t → Entered E t → Entered F (image r same_sels t) }
+    ensures usable { (E F : Env) (r : Naming) (pairs : List TypePair) (std : TypeName → Bool) (is_open : Sel → Bool) → Keeps E F r pairs std is_open → (o p : Operand) (t : Term) → After r pairs std o p → IsReached pairs std t
+        → ((u : Term) → IsTyped o u → ⊥) → UsableAs E o t → UsableAs F p (image r same_sels t) }
 {}
