@@ -10,7 +10,7 @@ pub returns-in-Some : goal.returns-in-Some
 returns-in-Some c =
     let E = env_in c.args.context.now in
     tells_imported E c.args.package.now c.args.name.now (ap is_blank (sym c.bytes.ensures) ∙ sym c.is_blank.ensures ∙ c.if-is_blank.false)
-    (ap is_exported (sym c.bytes-2.ensures) ∙ sym c.is_exported.ensures ∙ c.if-not-is_exported.false) c.in-Some-Import.path.now
+    (ap is_exported (sym c.bytes-else-is_blank.ensures) ∙ sym c.is_exported.ensures ∙ c.if-not-is_exported.false) c.in-Some-Import.path.now
     (sym c.in-Some-Import.ensures ∙ ap (λ m. Some (seen_of m)) c.in-Some-Import.field-0-is) c.in-Some.entity.now
     (ap (λ p. E.object p c.args.name.now.text) (sym c.bytes-in-Some-Import.ensures) ∙ ap (λ n. E.object c.bytes-in-Some-Import.result.now n) (sym c.bytes-in-Some-Import-2.ensures) ∙ sym c.in-Some.ensures)
     c.type_of.result c.type_of.ensures
