@@ -58,7 +58,6 @@ pub fn dynamic_map<R: Threads + Sync, T: Send + Drop, J: Jobs<T> + Sync, L: Copy
     alloc: Global,
     jobs: &J,
     workers: u32,
-    owner: L,
     steps: &mut Steps<L>,
 ) -> Result<List<T>, NoMemory>
     ensures results { IfOk result (AreResults (J.gives jobs.now) (J.many jobs.now)) }
@@ -68,6 +67,7 @@ pub fn dynamic_map<R: Threads + Sync, T: Send + Drop, J: Jobs<T> + Sync, L: Copy
     if count == 0 {
         return Ok(List::new(alloc));
     }
+    let owner = steps.owner();
     let (table, worker) = ResultTable::new(alloc, jobs, count)?;
     let Shared {
         mut worker,
