@@ -1,0 +1,5 @@
+pub mod NamedSelectors
+pub mod FeatureSets
+pub mod LineLists
+pub mod SignedLines
+pub mod FrozenFiles

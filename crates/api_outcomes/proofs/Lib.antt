@@ -1,0 +1,4 @@
+pub mod InputOutcomes
+pub mod WorldsOn
+pub mod FindingOutcomes
+pub mod RunOutcomes

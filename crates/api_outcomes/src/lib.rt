@@ -1,0 +1,4 @@
+//! Laws of runs: words and files can't be without an outcome.
+#![tactic(auto)]
+
+pub mod laws;

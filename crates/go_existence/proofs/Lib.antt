@@ -1,0 +1,4 @@
+pub mod DoubleNegation
+pub mod FiniteSets
+pub mod LeastNumbers
+pub mod OrderedTexts

@@ -1,0 +1,4 @@
+//! Laws of what has to exist, though no call finds it.
+#![tactic(auto)]
+
+pub mod laws;

@@ -1,0 +1,4 @@
+pub mod ToldPaths
+pub mod FolderWalks
+pub mod WalkedTrees
+pub mod LoadOutcomes

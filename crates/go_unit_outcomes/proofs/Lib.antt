@@ -1,0 +1,11 @@
+pub mod GivenLists
+pub mod PackageUses
+pub mod FolderReads
+pub mod OrderedPackages
+pub mod MadeUnits
+pub mod UnitOutcomes
+pub mod FileTokens
+pub mod FileHeaders
+pub mod FileReadings
+pub mod TreeFolderLists
+pub mod TreeOutcomes

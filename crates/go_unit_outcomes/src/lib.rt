@@ -1,0 +1,4 @@
+//! Laws of the units of trees: they can't be without units or a first refusal.
+#![tactic(auto)]
+
+pub mod laws;

@@ -1,0 +1,5 @@
+pub mod DeclaredNames
+pub mod SortedMethods
+pub mod TypedPackages
+pub mod PackageOutcomes
+pub mod WorldOutcomes
