@@ -208,7 +208,7 @@ fn names_of_file<'a>(
         None => {}
         Some(place) => return Ok(Some(place)),
     }
-    declarations(known, number, file.outline.decls.items())
+    declarations(known, number, file.outline.value().decls.items())
 }
 
 /// The place of the first name, file by file and in each the imports before the declarations, that the package declared

@@ -145,6 +145,6 @@ module _ (p : Platform) (barred : List (List ℕ)) (std_tree : Tree) (one : (fil
       let number : q.number ≡ m = at_once b.folders v.path m q.number b.are.ordered (there, sym l.path) (q.within, ap (λ (x : Folder). x.path) q.same ∙ sym k.path ∙ path) in
       let same : folder_of b.folders m ≡ folder_of a.folders n = ap (folder_of b.folders) (sym number) ∙ q.same in
       let files : u.files ≡ v.files = files_are p barred std_tree one ta tb a b n m same std_a u v k l in
-      let name : u.name ≡ v.name = named_by u.files v.files u.name v.name u.some files u.named v.named in
+      let name : u.name ≡ v.name = named_by u.files v.files u.name v.name k.some files u.named v.named in
       let side : u.from_std ≡ v.from_std = std ∙ sym std_v in
       λ i. record { path = path i; name = name i; from_std = side i; files = map file_of (files i) }

@@ -60,7 +60,7 @@ module _ (module_path : List ℕ) (folders : List Folder) (ordered : AreOrdered 
       let members : a.members ≡ b.members = some_same a.members b.members (sym a.held ∙ b.held) in
       let given : Gives (GivesUnitFile module_path folders (packages_in slots) (is_std folders n)) b.members u.files = subst (λ (w : List PackageFile). Gives (GivesUnitFile module_path folders (packages_in slots) (is_std folders n)) w u.files) members a.given in
       let files : u.files ≡ v.files = gives_both (GivesUnitFile module_path folders (packages_in slots) (is_std folders n)) (GivesUnitFile module_path folders (packages_in slots) (is_std folders n)) (one_file (is_std folders n)) b.members u.files v.files given b.given in
-      let name : u.name ≡ v.name = one_package_name v.files u.name v.name v.some (subst (λ (w : List UnitFile). UnitFilesAreNamed w u.name) files u.named) v.named in
+      let name : u.name ≡ v.name = one_package_name v.files u.name v.name b.some (subst (λ (w : List UnitFile). UnitFilesAreNamed w u.name) files u.named) v.named in
       (λ i. record { path = path i; name = name i; from_std = side i; files = files i })
 
   pub number_of : (n m : ℕ) (u : PackageUnit) → IsUnitOf module_path folders slots n u → m < length folders → u.path ≡ (folder_of folders m).path → m ≡ n
@@ -83,6 +83,6 @@ module _ (module_path : List ℕ) (folders : List Folder) (ordered : AreOrdered 
   counterpart a b all every v h =
       let k = every.sound v h in
       let many : length v.files ≡ length k.1.members = gives_as_many (GivesUnitFile module_path folders (packages_in slots) (is_std folders k.0)) (never_none (is_std folders k.0)) k.1.given in
-      let holds : HoldsPackage slots k.0 = holds_some slots k.0 k.1.members k.1.held (omega (arith, many, v.some)) in
+      let holds : HoldsPackage slots k.0 = holds_some slots k.0 k.1.members k.1.held (omega (arith, many, k.1.some)) in
       let u = all.complete k.0 holds in
       (u.0, u.1, one_unit k.0 u.0 v u.2 k.1)

@@ -40,7 +40,7 @@ module _ (module_path : List ℕ) (folders : List Folder) (ordered : AreOrdered 
   unit_holds : (n : ℕ) (u : PackageUnit) → is_of n u → HoldsPackage slots n
   unit_holds n u k =
       let many = gives_as_many (GivesUnitFile module_path folders packages (is_std folders n)) (no_file (is_std folders n)) k.given in
-      holds_some slots n k.members k.held (let s = u.some in omega (arith, s, many))
+      holds_some slots n k.members k.held (let s = k.some in omega (arith, s, many))
 
   unit_below : (n : ℕ) (u : PackageUnit) → is_of n u → n < length folders
   unit_below n u k = let h = slot_within slots n k.members k.held in omega (arith, h, rows)
@@ -138,7 +138,7 @@ module _ (module_path : List ℕ) (folders : List Folder) (ordered : AreOrdered 
           placed = subst (InOrder (IsSomeUnit module_path folders slots)) (sym p.1) m.placed;
         }
         making_next held units2 e (inr p) =
-            let k : is_of n p.2 = record { members = p.0; held = as_read held e ∙ p.1; path = p.3.path; side = p.3.side; given = p.3.given } in
+            let k : is_of n p.2 = record { members = p.0; held = as_read held e ∙ p.1; path = p.3.path; side = p.3.side; given = p.3.given; some = p.3.some } in
             record {
               kept = still_kept;
               rows = ap (λ (w : ReadFolders). length w) taken ∙ length-set left n None ∙ m.rows;

@@ -1,7 +1,7 @@
 -- The units of a module on a platform: its packages, and those of the standard library that they reach. And why there are none.
 -- Public source: Go specification, "Packages", "Import declarations" (a package may not import itself, directly or indirectly), "Package initialization". Own: the order of
 -- refusals.
-use Rattle.std.specs.Prelude.{◌≡◌, ◌↔◌, ℕ, Bool, true, false, nat_lt, Option, Some, None, List, length, get_or, map, Result, Ok, Err}
+use Rattle.std.specs.Prelude.{◌≡◌, ◌<◌, ◌↔◌, ℕ, Bool, true, false, nat_lt, Option, Some, None, List, length, get_or, map, Result, Ok, Err}
 use Rattle.go_base.specs.Lists.{Has}
 use Rattle.go_imports.specs.Gives.{Gives}
 use Rattle.go_imports.specs.Orders.{needs_of, IsLeastOnCycle}
@@ -59,6 +59,7 @@ module _ (module_path : List ℕ) (folders : List Folder) where
     pub path : u.path ≡ (folder_of folders n).path
     pub side : u.from_std ≡ is_std folders n
     pub given : Gives (GivesUnitFile (packages_in slots) (is_std folders n)) members u.files
+    pub some : 0 < length u.files
 
   -- the units of all packages; their order is that of every `Units`
   pub record AreUnits (slots : ReadFolders) (units : List PackageUnit) : Type 0 where

@@ -3,6 +3,7 @@ ghost use Rattle.std.specs.Prelude.{◌≡◌, ◌<◌, length};
 ghost use Rattle.go_units.specs.UnitFacts.{UnitFilesAreNamed, needed_by};
 
 use go_base::list::List;
+use go_base::shared::Shared;
 use go_base::text::Text;
 use go_syntax::declaration::File;
 
@@ -23,12 +24,13 @@ pub struct UsedImport {
 pub struct UnitFile {
     /// Its path below the root of its tree.
     pub path: Text,
-    pub outline: File,
+    pub outline: Shared<File>,
     /// The imports that it uses, in the order of their places.
     pub imports: List<UsedImport>,
 }
 
-/// A package.
+/// A package. One of a module or of the standard library has a file, as `Units` tells; a client's may have none on a
+/// platform.
 #[derive(Drop)]
 pub struct Unit {
     /// Its import path.
@@ -41,7 +43,6 @@ pub struct Unit {
     pub files: List<UnitFile>,
     /// The paths of the found imports that it uses, each once, in the order of bytes.
     pub needs: List<Text>,
-    pub ghost some: { 0 < length files },
     pub ghost few: { length files < 4294967296 },
     pub ghost named: { UnitFilesAreNamed files name },
     pub ghost needed: { needs ≡ needed_by files },

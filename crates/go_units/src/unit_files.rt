@@ -11,6 +11,7 @@ use crate::package_uses::PackageFile;
 use crate::unit::{Unit, UnitFile, UsedImport};
 use go_base::list::List;
 use go_base::memory::NoMemory;
+use go_base::shared::Shared;
 use go_base::text::Text;
 use go_imports::used_imports::NamedImport;
 use std::alloc::Global;
@@ -86,7 +87,7 @@ fn unit_file(
     } = file;
     Ok(UnitFile {
         path,
-        outline,
+        outline: Shared::new(alloc, outline)?,
         imports,
     })
 }

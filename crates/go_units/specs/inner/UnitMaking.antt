@@ -1,5 +1,5 @@
 -- What the functions gather that make units.
-use Rattle.std.specs.Prelude.{◌≡◌, ℕ, Bool, Some, List}
+use Rattle.std.specs.Prelude.{◌≡◌, ◌<◌, ℕ, Bool, Some, List, length}
 use Rattle.go_base.specs.Lists.{Has}
 use Rattle.go_imports.specs.Gives.{Gives}
 use Rattle.go_imports.specs.declared.used_imports.NamedImport.{NamedImport}
@@ -25,6 +25,7 @@ module _ (module_path : List ℕ) (folders : List Folder) (packages : List Bool)
     pub path : u.path ≡ (folder_of folders n).path
     pub side : u.from_std ≡ is_std folders n
     pub given : Gives (GivesUnitFile module_path folders packages (is_std folders n)) files u.files
+    pub some : 0 < length u.files
 
 -- the package clauses of the files have this name
 abbrev pub PackageFilesAreNamed : List PackageFile → List ℕ → Type 0

@@ -1,5 +1,6 @@
-use Rattle.std.proofs.Common.{List, subst}
+use Rattle.std.proofs.Common.{List, ap, subst, ◌∙◌}
 use Rattle.go_base.specs.Gathered.{gather}
+use Rattle.go_syntax.specs.declared.declaration.File.{File}
 use Rattle.go_typings.specs.Redeclarations.{import_site}
 use Rattle.go_units.specs.declared.unit.UsedImport.{UsedImport}
 use Rattle.go_sources.specs.UnitSources.{import_of}
@@ -20,4 +21,4 @@ returns c =
     imports_then c.args.number c.args.file.now (keys_of c.args.known.now) (keys_of c.imports.new.known) (keys_of c.declarations.new.known) c.declarations.result
     (subst (Steps (gather (λ (i : UsedImport). import_site c.args.number (import_of i)) c.args.file.now.imports) (keys_of c.args.known.now) (keys_of c.imports.new.known)) c.in-None.is
     (subst (λ (is : List UsedImport). Steps (gather (λ (i : UsedImport). import_site c.args.number (import_of i)) is) (keys_of c.args.known.now) (keys_of c.imports.new.known) c.in_ok-found.found) c.items.ensures c.in_ok-found.ensures))
-    c.items-2.result.now c.items-2.ensures c.declarations.ensures
+    c.items-2.result.now (c.items-2.ensures ∙ ap (λ (o : File). o.decls) c.value.ensures) c.declarations.ensures

@@ -12,7 +12,6 @@ invariant_of-result c =
     let many : length c.in_ok-files.files ≡ length c.args.files =
     gives_as_many (GivesUnitFile c.args.module_path.now c.args.folders.now c.args.packages.now c.folder_at-folder.result.now.from_std) (λ f k. k) c.in_ok-files.ensures in
     record {
-      some = omega (arith, many, c.requires.some);
       few = omega (arith, many, c.requires.few);
       named = λ f h. (
           let p = given_by (GivesUnitFile c.args.module_path.now c.args.folders.now c.args.packages.now c.folder_at-folder.result.now.from_std) c.in_ok-files.ensures f h in
