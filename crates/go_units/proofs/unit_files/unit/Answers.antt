@@ -1,4 +1,4 @@
-use Rattle.std.proofs.Common.{◌≡◌, ◌∙◌, List, length, sym, ap, subst, arith}
+use Rattle.std.proofs.Common.{◌≡◌, ◌∙◌, List, length, sym, ap, subst, arith, rules}
 use Rattle.go_base.specs.Lists.{Has}
 use Rattle.go_syntax.specs.declared.declaration.File.{File}
 use Rattle.go_units.specs.UnitFacts.{needed_by}
@@ -19,3 +19,9 @@ invariant_of-result c =
           );
       needed = c.in_ok-needs.ensures ∙ ap needed_by c.items-2.ensures;
     }
+
+pub returns : goal.returns
+returns c =
+    let many : length c.in_ok-files.files ≡ length c.args.files =
+    gives_as_many (GivesUnitFile c.args.module_path.now c.args.folders.now c.args.packages.now c.folder_at-folder.result.now.from_std) (λ f k. k) c.in_ok-files.ensures in
+    record { path = search rules; side = search rules; given = search rules; some = omega (arith, many, c.requires.some) }
