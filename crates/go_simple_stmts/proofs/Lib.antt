@@ -1,0 +1,3 @@
+pub mod LookAheads
+pub mod CompleteSimple
+pub mod SoundSimple
