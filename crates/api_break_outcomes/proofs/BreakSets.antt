@@ -21,13 +21,13 @@ use Rattle.go_model.specs.worlds.Worlds.{Packages}
 -- ---- exported objects
 
 module _ (w : Packages) where
-  abbrev Shown : List ℕ × Object → Type 0
+  abbrev pub Shown : List ℕ × Object → Type 0
   Shown k = Exports w k.0 k.1
 
   abbrev Of : Package → List ℕ × Object → Type 0
   Of p k = (o : Object) × Has p.objects o × ((p.path, o) ≡ k)
 
-  shown_finite : AreFinite Shown
+  pub shown_finite : AreFinite Shown
   shown_finite =
       finite_less Shown (λ k. (p : Package) × Has w.packages p × Of p k) (λ k x. let t = exported_there w k.0 k.1 x in (t.0, t.1, (k.1, t.2, λ i. (t.3 i, k.1))))
       (finite_over (Has w.packages) Of (finite_list w.packages) (λ p h. finite_image (λ (o : Object). (p.path, o)) (Has p.objects) (finite_list p.objects)))

@@ -37,28 +37,27 @@ each_has P (x ∷ xs) f = (f x (inl refl), each_has P xs (λ y h. f y (inr h)))
 -- ---- the selectors that find something in a type
 
 module _ (w : Packages) (t : Term) where
-  sels : List Sel
+  pub sels : List Sel
   sels = selectors t ++ all_selectors w.packages
 
-  IsSel : Sel → Type 0
-  unfolding sels
+  abbrev pub IsSel : Sel → Type 0
   IsSel s = Has sels s
 
   own : Each IsSel (selectors t)
-  unfolding IsSel
+  unfolding sels
   own = each_has IsSel (selectors t) (λ s h. has_left (selectors t) (all_selectors w.packages) s h)
 
   others : (s : Sel) → IsNamed w.packages s → IsSel s
-  unfolding IsSel
+  unfolding sels
   others s h = has_right (selectors t) (all_selectors w.packages) s h
 
   of_entries : (n : TypeName) (d : Defined) → entry (types_of w) n ≡ Some d → Each IsSel (selectors d.underlying) × ((m : MethodOf) → Has d.methods m → IsSel m.sel)
   of_entries n d e = let k = known w.packages n d e in (each_more (IsNamed w.packages) IsSel others (selectors d.underlying) k.0, λ m h. others m.sel (k.1 m h))
 
-  in_set : (s : Sel) (g : Signature) → InSet (types_of w) t s g → IsSel s
+  pub in_set : (s : Sel) (g : Signature) → InSet (types_of w) t s g → IsSel s
   in_set s g i = in_set_kept IsSel (types_of w) of_entries t s g own i
 
-  finds : (s : Sel) (f : FieldFound) → Finds (types_of w) s t (FieldAt f) → IsSel s
+  pub finds : (s : Sel) (f : FieldFound) → Finds (types_of w) s t (FieldAt f) → IsSel s
   finds s f h = find_kept IsSel (types_of w) of_entries t s f own h
 
 -- ---- losses
@@ -98,7 +97,7 @@ module _ (old new : Packages) (p : TypePair) where
   in_selected l h = has_right single (members ++ selected) l (has_right members selected l h)
 
   pub loss_listed : (l : Lost) → IsLoss old new p l → Has losses l
-  unfolding selected IsSel
+  unfolding selected
   loss_listed l (types_apart n e) = in_single l (inl e)
   loss_listed l (underlying_apart o n e) = in_single l (inr (inl e))
   loss_listed l (not_comparable c n e) = in_single l (inr (inr (inl e)))

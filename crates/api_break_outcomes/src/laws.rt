@@ -1,12 +1,13 @@
-//! Laws of breaks.
+//! Laws of breaks and verdicts.
 ghost use Rattle.std.specs.Prelude.{List};
 ghost use Rattle.api_breaks.specs.Breaks.{IsBreak};
-ghost use Rattle.api_judge.specs.Verdicts.{AreBreaks};
+ghost use Rattle.api_judge.specs.Verdicts.{AreBreaks, IsVerdict};
+ghost use Rattle.api_judge.specs.declared.verdict.Verdict.{Verdict};
 ghost use Rattle.api_subjects.specs.declared.broken.Broken.{Broken};
 ghost use Rattle.go_existence.specs.Existence.{AreFinite, NotNone};
 ghost use Rattle.go_model.specs.worlds.Worlds.{Packages};
 
-use api_subjects::laws::one_way;
+use api_subjects::laws::{each_told, one_way};
 
 /// Finitely much is broken where one world takes the place of another.
 pub fn breaks_finite()
@@ -18,4 +19,12 @@ pub fn breaks_listed()
     ensures { (old new : Packages) → NotNone ((breaks : List Broken) × AreBreaks old new breaks) }
 {
     one_way();
+}
+
+/// One world in the place of another has a verdict.
+pub fn verdict_exists()
+    ensures { (old new : Packages) → NotNone ((v : Verdict) × IsVerdict old new v) }
+{
+    one_way();
+    each_told();
 }

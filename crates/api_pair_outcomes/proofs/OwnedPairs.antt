@@ -11,7 +11,7 @@ use Rattle.api_pair_outcomes.proofs.WorldTypes.{IsIn, all_types, closed, entity_
 use Rattle.go_base.specs.Gathered.{gather}
 use Rattle.go_base.specs.Lists.{Has}
 use Rattle.go_existence.specs.Existence.{AreFinite}
-use Rattle.go_existence.proofs.FiniteSets.{finite_in, has_map}
+use Rattle.go_existence.proofs.FiniteSets.{finite_in, finite_less, has_map}
 use Rattle.go_model.specs.declared.types.term.Term.{Term, Term-F, out-Term}
 use Rattle.go_model.specs.types.Terms.{Layer, pointer_to}
 use Rattle.go_model.specs.types.Underlying.{under}
@@ -46,7 +46,7 @@ module _ (old new : Packages) where
   abbrev pub AreIn : TypePair → Type 0
   AreIn p = IsIn old p.old × IsIn new p.new
 
-  leads_in : (p q : TypePair) → AreIn p → Leads old new p q → AreIn q
+  pub leads_in : (p q : TypePair) → AreIn p → Leads old new p q → AreIn q
   leads_in p all k (to_part {q = q} m h) = let b = beside (parts (out-Term p.old)) (parts (out-Term p.new)) q h in (closed old p.old q.old k.0 b.0, closed new p.new q.new k.1 b.1)
   leads_in p all k (to_part_underneath {q = q} o m s h) =
       let b = beside (parts (under (types_of old) p.old)) (parts (under (types_of new) p.new)) q h in (below old p.old k.0 q.old b.0, below new p.new k.1 q.new b.1)
@@ -75,7 +75,8 @@ module _ (old new : Packages) where
   abbrev with_new : Term → List TypePair
   with_new s = map (pair s) (all_types new)
 
+  pub pairs_finite : AreFinite AreIn
+  pairs_finite = finite_in AreIn (gather with_new (all_types old)) (λ p i. has_gathered with_new (all_types old) p.old p i.0 (has_map (pair p.old) (all_types new) p.new i.1))
+
   pub owned_finite : AreFinite (λ (p : TypePair). (owner : List ℕ) × Owned old new owner p)
-  owned_finite = finite_in (λ (p : TypePair). (owner : List ℕ) × Owned old new owner p) (gather with_new (all_types old)) (λ p k.
-      let i = owned_in k.0 p k.1 in
-      has_gathered with_new (all_types old) p.old p i.0 (has_map (pair p.old) (all_types new) p.new i.1))
+  owned_finite = finite_less (λ (p : TypePair). (owner : List ℕ) × Owned old new owner p) AreIn (λ p k. owned_in k.0 p k.1) pairs_finite
