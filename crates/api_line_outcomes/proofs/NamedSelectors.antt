@@ -10,6 +10,8 @@ use Rattle.go_base.specs.Keys.{first_with}
 use Rattle.go_base.proofs.Members.{gather_of, has_split}
 use Rattle.go_existence.proofs.FiniteSets.{has_left, has_right}
 use Rattle.go_model.proofs.WorldTypes.{each_behind, each_front}
+use Rattle.go_model.specs.declared.types.found.FieldFound.{FieldFound}
+use Rattle.go_model.specs.declared.types.found.Found.TheVariants.{FieldAt}
 use Rattle.go_model.specs.declared.types.names.Sel.{Sel}
 use Rattle.go_model.specs.declared.types.names.TypeName.{TypeName}
 use Rattle.go_model.specs.declared.types.package.Defined.{Defined}
@@ -19,7 +21,7 @@ use Rattle.go_model.specs.declared.types.term.Method.{Method, fold-Method, fold_
 use Rattle.go_model.specs.declared.types.term.Signature.{Signature}
 use Rattle.go_model.specs.declared.types.term.Term.{Term, Term-F, fold_out-Term, map-Term, out-Term, roll-Term}
 use Rattle.go_model.specs.types.MethodSets.{InSet}
-use Rattle.go_model.specs.types.Selectors.{Ending, Spot, base_layer, base_of, declared_ending, ends, endings, field_ending, method_ending, name_of, start, start_layer, method, start_named, start_pointer, step, steps}
+use Rattle.go_model.specs.types.Selectors.{Ending, Finds, Spot, base_layer, base_of, declared_ending, ends, endings, field, field_ending, method_ending, name_of, start, start_layer, method, start_named, start_pointer, step, steps}
 use Rattle.go_model.specs.types.Tables.{Table}
 use Rattle.go_model.specs.types.Terms.{Layer, error_type, is_error, same_sel}
 use Rattle.go_model.specs.declared.types.package.Package.{Package}
@@ -263,6 +265,11 @@ module _ (S : Sel → Type 0) where
         let kept = layer_start t (out-Term t) k (open_term t k) (under_kept t k) in
         path_kept s i.depth (start T t) (record { through = i.through; target = method i.owner i.pointer g }) kept
         (subst (λ (es : List Ending). Has es (record { through = i.through; target = method i.owner i.pointer g })) (sym i.only.only) (inl refl))
+
+    pub find_kept : (t : Term) (s : Sel) (f : FieldFound) → IsKept t → Finds T s t (FieldAt f) → S s
+    find_kept t s f k h =
+        let e : Ending = record { through = f.through_pointer; target = field f.term } in
+        path_kept s h.0 (start T t) e (layer_start t (out-Term t) k (open_term t k) (under_kept t k)) (subst (λ (es : List Ending). Has es e) (sym h.1.only) (inl refl))
 
 -- ---- over packages
 

@@ -2,7 +2,7 @@
 use Rattle.std.proofs.Common.{◌≡◌, ◌⊎◌, ℕ, suc, List, [], ◌∷◌, ◌++◌, length, map, refl, ap, sym, ◌∙◌, subst, inl, inr}
 use Rattle.go_base.specs.Lists.{Has}
 use Rattle.go_existence.specs.Existence.{AreAll, AreFinite, NotNone}
-use Rattle.go_existence.proofs.DoubleNegation.{decided, so, sure, bind}
+use Rattle.go_existence.proofs.DoubleNegation.{bind, decided, of_each, so, sure}
 
 pub has_left : {A : Type 0} (xs ys : List A) (x : A) → Has xs x → Has (xs ++ ys) x
 has_left [] ys x h = absurd h
@@ -87,3 +87,12 @@ module _ {A : Type 0} (P : A → Type 0) where
   -- some list has exactly those
   pub all_of : AreFinite P → NotNone ((xs : List A) × AreAll P xs)
   all_of h = bind h (λ p. so (kept p.0) (λ k. (k.0, record { sound = k.1.sound; complete = λ x q. k.1.complete x (p.1 x q) q })))
+
+-- ---- what holds of all of them
+
+pub whenever : (A : Type 0) {B : Type 0} → (A → NotNone B) → NotNone (A → B)
+whenever A f = bind (decided A) (λ d. elim d [ inl a ↦ so (f a) (λ b. λ x. b) | inr never ↦ sure (λ x. absurd (never x)) ])
+
+-- what can't fail to hold of each of finitely many things holds of all at once
+pub of_all : {A : Type 0} (P Q : A → Type 0) → AreFinite P → ((x : A) → P x → NotNone (Q x)) → NotNone ((x : A) → P x → Q x)
+of_all P Q h f = bind h (λ p. so (of_each (λ x. P x → Q x) p.0 (λ x i. whenever (P x) (f x))) (λ all. λ x k. all x (p.1 x k) k))

@@ -1,0 +1,4 @@
+//! Laws of pairs of types that have to correspond: they are finitely many.
+#![tactic(auto)]
+
+pub mod laws;
