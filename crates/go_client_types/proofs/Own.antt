@@ -139,27 +139,24 @@ module _ (T U : Table) (r : Naming) (O : OwnTypes T U r) (s : Sel) where
 
   -- ---- the ends
 
-  abbrev Level : Term → Type 0
-  Level t = under U (to r t) ≡ layer r (under T t)
-
-  all_steps : (b : Bool) (t : Term) → under U (to r t) ≡ layer r (under T t) → steps U (at_spot b (to r t)) ≡ map (spot_to r) (steps T (at_spot b t))
+  pub all_steps : (b : Bool) (t : Term) → under U (to r t) ≡ layer r (under T t) → steps U (at_spot b (to r t)) ≡ map (spot_to r) (steps T (at_spot b t))
   all_steps b t u = ap (λ l. gather (step b) (fields_of l)) u ∙ ap (gather (step b)) (fields_to r s (under T t)) ∙ swapped (step b) (image_of_field r same_sels) (spot_to r) (fields_of (under T t)) (one_step b)
 
   out_own : (t : Term) → IsOwnLayer (out-Term t) → (declared_methods U (out-Term (to r t)) ≡ map (method_to r) (declared_methods T (out-Term t))) × (name_of (out-Term (to r t)) ≡ name_of (out-Term t))
   out_own t h = (ap (declared_methods U) (out_image r same_sels t) ∙ own_declared (out-Term t) h, ap name_of (out_image r same_sels t) ∙ own_name (out-Term t) h)
 
-  only_if : {A : Type 0} (c : Bool) (x y : A) → Has (if c then x ∷ [] else []) y → (c ≡ true) × (x ≡ y)
+  pub only_if : {A : Type 0} (c : Bool) (x y : A) → Has (if c then x ∷ [] else []) y → (c ≡ true) × (x ≡ y)
   only_if true x y (inl e) = (refl, e)
   only_if true x y (inr k) = absurd k
   only_if false x y k = absurd k
 
-  next_own : (b : Bool) (t : Term) (x : Spot) → IsOwnLayer (out-Term t) → Has (steps T (at_spot b t)) x → IsOwnLayer (out-Term x.term)
+  pub next_own : (b : Bool) (t : Term) (x : Spot) → IsOwnLayer (out-Term t) → Has (steps T (at_spot b t)) x → IsOwnLayer (out-Term x.term)
   next_own b t x h k =
       let g = gather_of (step b) (fields_of (under T t)) x k in
       let e = only_if (out-Field g.0).embedded _ x g.2 in
       subst (λ (y : Spot). IsOwnLayer (out-Term y.term)) e.1 (own_fields (out-Term t) h g.0 g.1 e.0)
 
-  over : (k : ℕ) → ((b : Bool) (u : Term) → IsOwnLayer (out-Term u) → ends U s k (at_spot b (to r u)) ≡ map (ending_to r) (ends T s k (at_spot b u))) → (xs : List Spot) → ((x : Spot) → Has xs x → IsOwnLayer (out-Term x.term)) → gather (ends U s k) (map (spot_to r) xs) ≡ map (ending_to r) (gather (ends T s k) xs)
+  pub over : (k : ℕ) → ((b : Bool) (u : Term) → IsOwnLayer (out-Term u) → ends U s k (at_spot b (to r u)) ≡ map (ending_to r) (ends T s k (at_spot b u))) → (xs : List Spot) → ((x : Spot) → Has xs x → IsOwnLayer (out-Term x.term)) → gather (ends U s k) (map (spot_to r) xs) ≡ map (ending_to r) (gather (ends T s k) xs)
   over k e [] h = refl
   over k e (x ∷ xs) h = (λ i. e x.through x.term (h x (inl refl)) i ++ over k e xs (λ y j. h y (inr j)) i) ∙ sym (map_append (ending_to r) (ends T s k x) (gather (ends T s k) xs))
 

@@ -37,7 +37,7 @@ made_level (Term-F.Struct fs) h = h
 made_level (Term-F.Interface ms) h = h
 
 -- a level that isn't a name's is underneath itself
-made_under : (T : _) (l : Layer) → IsMade l → under_layer T l ≡ l
+pub made_under : (T : _) (l : Layer) → IsMade l → under_layer T l ≡ l
 made_under T (Term-F.Named n) h = absurd h
 made_under T (Term-F.Plain b) h = refl
 made_under T (Term-F.Pointer e) h = refl
@@ -49,7 +49,7 @@ made_under T (Term-F.Func g) h = refl
 made_under T (Term-F.Struct fs) h = refl
 made_under T (Term-F.Interface ms) h = refl
 
-image_under : (T : _) (r : Naming) (l : Layer) → IsMade l → under_layer T (image_of_layer r same_sels l) ≡ image_of_layer r same_sels l
+pub image_under : (T : _) (r : Naming) (l : Layer) → IsMade l → under_layer T (image_of_layer r same_sels l) ≡ image_of_layer r same_sels l
 image_under T r (Term-F.Named n) h = absurd h
 image_under T r (Term-F.Plain b) h = refl
 image_under T r (Term-F.Pointer e) h = refl

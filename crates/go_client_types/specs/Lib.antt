@@ -1,3 +1,4 @@
+pub mod Endings
 pub mod Following
 pub mod Keeping
 pub mod OwnTypes

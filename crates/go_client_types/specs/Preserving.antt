@@ -39,6 +39,8 @@ IsKeptLayer r given k l = (l ≡ image_of_layer r same_sels k) × ((u : Term) �
 -- the old types of pairs, and types of which all names pass `std`, keep all that a client may ask of them; `is_open` tells which selectors are
 -- exported or of the standard library
 pub record Preserves (T U : Table) (r : Naming) (pairs : List TypePair) (std : TypeName → Bool) (is_open : Sel → Bool) : Type 0 where
+  -- exported selectors are open
+  pub exported_open : (s : Sel) → s.«package» ≡ [] → is_open s ≡ true
   -- what stands in a given type is given
   pub parts_given : (t u : Term) → IsGiven pairs std t → Has (parts (out-Term t)) u → IsGiven pairs std u
   -- a client's own names, and predeclared ones, stay

@@ -9,9 +9,9 @@ ghost use Rattle.go_model.specs.declared.types.names.TypeName.{TypeName};
 ghost use Rattle.go_model.specs.declared.types.package.ConstTerm.{ConstTerm};
 ghost use Rattle.go_model.specs.declared.types.term.Term.{Term, out-Term};
 ghost use Rattle.go_model.specs.types.Comparison.{Comparable};
-ghost use Rattle.go_model.specs.types.Selectors.{Ending, IsOnly, ends};
+ghost use Rattle.go_model.specs.types.Selectors.{Ending, IsOnly, Target, ends};
 ghost use Rattle.go_model.specs.types.Tables.{Table};
-ghost use Rattle.go_model.specs.types.Terms.{Layer};
+ghost use Rattle.go_model.specs.types.Terms.{IsBlank, Layer};
 ghost use Rattle.go_model.specs.types.Underlying.{under};
 ghost use Rattle.go_rules.specs.Asks.{IsOwnLayer, Meets};
 ghost use Rattle.go_rules.specs.Environments.{Entered, Env};
@@ -29,10 +29,11 @@ ghost use Rattle.go_type_images.specs.Levels.{is_structured};
 ghost use Rattle.go_type_images.specs.Parts.{parts};
 ghost use Rattle.go_type_images.specs.SpotImages.{at_spot, ending_to};
 ghost use Rattle.go_type_images.specs.declared.pair.TypePair.{TypePair};
+ghost use Rattle.go_client_types.specs.Endings.{IsKeptEnding, TargetReached, end_at};
 ghost use Rattle.go_client_types.specs.Following.{After};
 ghost use Rattle.go_client_types.specs.Keeping.{Keeps};
 ghost use Rattle.go_client_types.specs.OwnTypes.{OwnTypes};
-ghost use Rattle.go_client_types.specs.Reached.{ConstReached, IsReached};
+ghost use Rattle.go_client_types.specs.Reached.{ConstReached, IsClientSel, IsReached};
 
 /// From a client's own type each selector finds on the new side the image of what it finds on the old one.
 pub fn own_types()
@@ -70,4 +71,12 @@ pub fn kept_relations()
     ensures entered { (E F : Env) (r : Naming) (pairs : List TypePair) (std : TypeName → Bool) (is_open : Sel → Bool) → Keeps E F r pairs std is_open → (t : Term) → IsReached pairs std t → Entered E t → Entered F (image r same_sels t) }
     ensures usable { (E F : Env) (r : Naming) (pairs : List TypePair) (std : TypeName → Bool) (is_open : Sel → Bool) → Keeps E F r pairs std is_open → (o p : Operand) (t : Term) → After r pairs std o p → IsReached pairs std t
         → ((u : Term) → IsTyped o u → ⊥) → UsableAs E o t → UsableAs F p (image r same_sels t) }
+{}
+
+/// What a selector that a client may write finds from a type that it reaches, it finds on the new side from the image: the image,
+/// through a pointer where it was, and of a type that the client reaches.
+pub fn found_endings()
+    ensures { (E F : Env) (r : Naming) (pairs : List TypePair) (std : TypeName → Bool) (is_open : Sel → Bool) → Keeps E F r pairs std is_open → (t : Term) → IsReached pairs std t
+        → (s : Sel) → IsClientSel s → (IsBlank s → ⊥) → (b through : Bool) (depth : ℕ) (g : Target) → IsOnly E.table s (at_spot b t) depth (end_at through g)
+        → (found : ℕ) × (e : Ending) × IsOnly F.table s (at_spot b (image r same_sels t)) found e × IsKeptEnding r (end_at through g) e × TargetReached pairs std g }
 {}
