@@ -25,10 +25,10 @@ use Rattle.go_model.specs.declared.types.term.Term.{Term, Term-F, out-Term, roll
 use Rattle.go_model.specs.declared.types.names.TypeName.{TypeName}
 use Rattle.go_model.specs.types.Bounds.{IsWithinBounds}
 use Rattle.go_model.specs.types.Selectors.{base_of}
-use Rattle.go_model.specs.types.Terms.{Layer}
+use Rattle.go_model.specs.types.Terms.{Layer, slice_of}
 use Rattle.go_rules.specs.Asks.{ElementMeets, EmbedsField, EmbedsInterface, FieldMeets, IsOwnLayer, Meets, TypeMeets}
 use Rattle.go_rules.specs.Environments.{Env, is_exported, selector_of}
-use Rattle.go_rules.specs.Expressions.{Denotes, DenotesImported, Has, IsTypeName, NamesType, OfFields, OfForm, OfMethods, OfParameters, methods_embedded, methods_method, methods_none, OfResult, OfSignature, OfType, field_of, fields_embedded, fields_named, fields_none, for_names, of_array, of_channel, of_function, of_interface, of_map, of_name, of_paren, of_pointer, of_receive_channel, of_send_channel, of_slice, of_struct, of_type, parameters_more, parameters_none, parameters_variadic, result_parameters, result_type, seen_operand, signature as made_signature, signature_alone, signature_result, slice_of, starred, tag_of}
+use Rattle.go_rules.specs.Expressions.{Denotes, DenotesImported, Has, IsTypeName, NamesType, OfFields, OfForm, OfMethods, OfParameters, methods_embedded, methods_method, methods_none, OfResult, OfSignature, OfType, field_of, fields_embedded, fields_named, fields_none, for_names, of_array, of_channel, of_function, of_interface, of_map, of_name, of_paren, of_pointer, of_receive_channel, of_send_channel, of_slice, of_struct, of_type, parameters_more, parameters_none, parameters_variadic, result_parameters, result_type, seen_operand, signature as made_signature, signature_alone, signature_result, starred, tag_of}
 use Rattle.go_rules.specs.Nodes.{Node, ResultLayer, TypeLayer, expression, field_parts, fields_parts, elem_parts, elems_parts, optional_result_parts, parameter_parts, parts, result_parts, signature as at_signature, stands_here, stands_in, type, type_parts}
 use Rattle.go_rules.specs.Operands.{constant_of, denoted, function_of, plain, type_name, variable}
 use Rattle.go_rules.specs.declared.operand.Mode.TheVariants as mode
