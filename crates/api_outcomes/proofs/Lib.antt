@@ -1,4 +1,5 @@
 pub mod InputOutcomes
 pub mod WorldsOn
 pub mod FindingOutcomes
+pub mod NextVersions
 pub mod RunOutcomes

@@ -1,73 +1,39 @@
--- Words and files have an outcome, where no old tree is asked for.
-use Rattle.std.proofs.Common.{◌≡◌, ◌≢◌, ◌⊎◌, ℕ, Bool, true, false, List, [], ◌∷◌, Option, Some, None, Result, Ok, refl, sym, ◌∙◌, subst, inl, inr, arith}
+-- Words and files have an outcome.
+use Rattle.std.proofs.Common.{◌≡◌, ◌≢◌, ◌⊎◌, ℕ, Bool, true, false, ◌||◌, List, [], ◌∷◌, ◌++◌, length, Option, Some, None, Result, Ok, refl, sym, ◌∙◌, subst, inl, inr, arith}
+use Rattle.std.specs.List.{list_any}
 use mathlib.Core.Bool.{true≢false}
 use Rattle.api_findings.specs.Findings.{IsFirstRefusal}
 use Rattle.api_frozen.specs.Comparison.{IsReport}
 use Rattle.api_generator.specs.MadeTrees.{made_contents}
-use Rattle.api_gate.specs.runs.Outcomes.{AreFound, Asks, EndsWith, IsReportOn, Outcome, bad_words, fault_alone, features_report, files_of, frozen_report, modules_of, refused_inputs, refused_platform, reported, reported_findings}
+use Rattle.api_gate.specs.runs.Outcomes.{AreFound, Asks, EndsWith, IsAdvice, IsMadeText, IsReportOn, IsSignedReport, Outcome, advise_report, bad_words, fault_alone, features_report, files_of, frozen_report, gate_report, judge_report, make_report, module_of_old, modules_of, refused_advice, refused_inputs, refused_platform, reported, reported_findings}
 use Rattle.api_gate.specs.declared.status.Status.TheVariants as status
 use Rattle.api_inputs.specs.Inputs.{AreInputs, IsInputRefusal, MayHaveOld}
 use Rattle.api_inputs.specs.Reads.{MayHaveStd, MayLoad, no_tree}
 use Rattle.api_inputs.specs.declared.inputs.Inputs.{Inputs}
+use Rattle.api_judge.specs.Verdicts.{IsVerdict, class_of, has_break}
 use Rattle.api_judge.specs.declared.verdict.Verdict.{Verdict}
 use Rattle.api_line_outcomes.proofs.LineLists.{lines_merged}
 use Rattle.api_line_outcomes.proofs.SignedLines.{lines_compared}
 use Rattle.api_lines.specs.declared.line.Line.{Line}
 use Rattle.api_outcomes.proofs.FindingOutcomes.{findings_end}
 use Rattle.api_outcomes.proofs.InputOutcomes.{inputs_end}
+use Rattle.api_outcomes.proofs.NextVersions.{advice_there, request_roomy}
 use Rattle.api_outcomes.proofs.WorldsOn.{Below, IsRead}
-use Rattle.api_reports.specs.Reports.{features_text, has_loss, signed_text}
+use Rattle.api_reports.specs.Reports.{class_text, count_breaks, features_text, has_loss, judge_text, made_text, signed_text}
 use Rattle.api_texts.specs.FixedLines.{words_line}
-use Rattle.api_words.specs.Options.{needs, permits}
-use Rattle.api_words.specs.Words.{AreOfMode, IsGiven, IsOldFolder, IsRequest}
+use Rattle.api_words.specs.Words.{IsRequest}
 use Rattle.api_words.specs.declared.option_name.Mode.{Mode}
 use Rattle.api_words.specs.declared.option_name.Mode.TheVariants as mode
-use Rattle.api_words.specs.declared.option_name.OptionName.{OptionName}
-use Rattle.api_words.specs.declared.option_name.OptionName.TheVariants as option
 use Rattle.api_words.specs.declared.request.MadeTrees.{MadeTrees}
 use Rattle.api_words.specs.declared.request.Request.{Request}
-use Rattle.api_words.specs.declared.settings.Setting.{Setting}
 use Rattle.go_base.specs.Lists.{Has}
 use Rattle.go_existence.specs.Existence.{NotNone}
 use Rattle.go_existence.proofs.DoubleNegation.{bind, decided, so, sure}
 use Rattle.go_load.specs.declared.error.LoadError.{LoadError}
 use Rattle.go_model.specs.declared.files.tree.Tree.{Tree}
 use Rattle.go_model.specs.files.Trees.{IsModulePath, IsTree, are_elements, begins_element, is_element}
+use Rattle.go_model.specs.worlds.Worlds.{Packages}
 use Rattle.go_outside.specs.Stores.{Contents}
-
--- ---- a mode without an old tree
-
--- the mode reads the module's tree alone
-pub data IsAlone : Mode → Type 0 where
-  alone_features : IsAlone mode.Features
-  alone_frozen : IsAlone mode.Frozen
-
-own_features : Has (needs mode.Features) option.Old ⊎ Has (permits mode.Features) option.Old → ⊥
-own_features (inl (inl e)) = absurd (cc)
-own_features (inl (inr h)) = h
-own_features (inr (inl e)) = absurd (cc)
-own_features (inr (inr (inl e))) = absurd (cc)
-own_features (inr (inr (inr (inl e)))) = absurd (cc)
-own_features (inr (inr (inr (inr h)))) = h
-
-own_frozen : Has (needs mode.Frozen) option.Old ⊎ Has (permits mode.Frozen) option.Old → ⊥
-own_frozen (inl (inl e)) = absurd (cc)
-own_frozen (inl (inr (inl e))) = absurd (cc)
-own_frozen (inl (inr (inr h))) = h
-own_frozen (inr (inl e)) = absurd (cc)
-own_frozen (inr (inr (inl e))) = absurd (cc)
-own_frozen (inr (inr (inr (inl e)))) = absurd (cc)
-own_frozen (inr (inr (inr (inr (inl e))))) = absurd (cc)
-own_frozen (inr (inr (inr (inr (inr h))))) = h
-
-no_old : (x : Mode) → IsAlone x → (settings : List Setting) → AreOfMode x settings → (given folder : Option (List ℕ)) → IsGiven settings option.Old given → IsOldFolder x given folder → folder ≡ None
-no_old x alone_features settings of None folder g is = is
-no_old x alone_features settings of (Some v) folder g is = absurd (own_features (of.own (record { name = option.Old; value = v }) g))
-no_old x alone_frozen settings of None folder g is = is
-no_old x alone_frozen settings of (Some v) folder g is = absurd (own_frozen (of.own (record { name = option.Old; value = v }) g))
-
-request_alone : (words : List (List ℕ)) (r : Request) → IsRequest words r → IsAlone r.mode → r.old ≡ None
-request_alone words r i a = no_old r.mode a i.settings i.asked.of_mode i.asked.old.0 r.old i.asked.old.1 i.asked.old.2
 
 -- ---- trees that are read
 
@@ -91,8 +57,19 @@ std_read told (Some root) t h = h.tree
 tree_read : (told : Option Contents) (r : Request) (i : Inputs) → AreInputs told r i → IsRead (modules_of i) i.tree
 tree_read told r i a = record { is = a.tree.tree; named = module_named i.tree.«module» a.tree.module_path; bars = inl refl }
 
-no_old_tree : (told : Option Contents) (o : Option (List ℕ)) (t : Option Tree) → o ≡ None → MayHaveOld told o t → t ≡ None
-no_old_tree told o t e h = subst (λ (x : Option (List ℕ)). MayHaveOld told x t) e h
+none_some : {A : Type 0} (x : A) → ◌≡◌ {A = Option A} None (Some x) → ⊥
+none_some x e = absurd (cc)
+
+some_same : {A : Type 0} (x y : A) → ◌≡◌ {A = Option A} (Some x) (Some y) → x ≡ y
+some_same x y e = cc
+
+loaded_old : (told : Option Contents) (root : Option (List ℕ)) (t : Option Tree) → MayHaveOld told root t → (o : Tree) → t ≡ Some o → IsTree o × IsModulePath o.«module»
+loaded_old told None t h o e = absurd (none_some o (sym h ∙ e))
+loaded_old told (Some root) t h o e = subst (λ (x : Tree). IsTree x × IsModulePath x.«module») (some_same h.0 o (sym h.2 ∙ e)) (h.1.tree, h.1.module_path)
+
+old_read : (told : Option Contents) (r : Request) (i : Inputs) → AreInputs told r i → (o : Tree) → i.old_tree ≡ Some o → IsRead (modules_of i) o
+old_read told r i a o e = let l = loaded_old told r.old i.old_tree a.old_tree o e in
+    record { is = l.0; named = module_named o.«module» l.1; bars = inr (subst (λ (t : Option Tree). Has (module_of_old t) o.«module») (sym e) (inl refl)) }
 
 -- ---- reports
 
@@ -100,15 +77,26 @@ module _ (r : Request) (i : Inputs) (lists : List (List Line)) (vs : List Verdic
   abbrev Reports : Type 0
   Reports = (is_broken : Bool) × (text : List ℕ) × IsReportOn r i lists vs is_broken text
 
-  of_features : r.mode ≡ mode.Features → NotNone Reports
-  of_features e = so (lines_merged lists r.platforms) (λ f. (false, features_text f.0, features_report f.0 e f.1))
+  record SignedText : Type 0 where
+    is_broken : Bool
+    text : List ℕ
+    is : IsSignedReport r i lists is_broken text
 
-  of_frozen : r.mode ≡ mode.Frozen → NotNone Reports
-  of_frozen e = bind (lines_merged lists r.platforms) (λ f. so (lines_compared f.0 i.required i.exceptions) (λ l. (has_loss l.0, signed_text l.0, frozen_report e (f.0, l.0, f.1, l.1, refl, refl))))
+  of_frozen : NotNone SignedText
+  of_frozen = bind (lines_merged lists r.platforms) (λ f. so (lines_compared f.0 i.required i.exceptions) (λ l.
+      record { is_broken = has_loss l.0; text = signed_text l.0; is = (f.0, l.0, f.1, l.1, refl, refl) }))
 
-  by_mode : (r.mode ≡ mode.Features) ⊎ (r.mode ≡ mode.Frozen) → NotNone Reports
-  by_mode (inl e) = of_features e
-  by_mode (inr e) = of_frozen e
+  made_there : (o : Option MadeTrees) (features : List Line) → (text : List ℕ) × IsMadeText o features vs text
+  made_there None features = ([], refl)
+  made_there (Some m) features = (made_text m.size (length features) (count_breaks vs), refl)
+
+  by_mode : (x : Mode) → r.mode ≡ x → (advice : List ℕ) → IsAdvice r.version (class_of vs) advice → NotNone Reports
+  by_mode mode.Features e advice a = so (lines_merged lists r.platforms) (λ f. (false, features_text f.0, features_report f.0 e f.1))
+  by_mode mode.Frozen e advice a = so of_frozen (λ s. (s.is_broken, s.text, frozen_report e s.is))
+  by_mode mode.Judge e advice a = sure (list_any has_break vs, judge_text r.platforms vs, judge_report e)
+  by_mode mode.Advise e advice a = sure (false, class_text (class_of vs) ++ advice, advise_report advice e a)
+  by_mode mode.Gate e advice a = so of_frozen (λ s. (s.is_broken || list_any has_break vs, s.text ++ judge_text r.platforms vs ++ advice, gate_report s.is_broken s.text advice e s.is a))
+  by_mode mode.Make e advice a = so (lines_merged lists r.platforms) (λ f. (let t = made_there r.made f.0 in (false, t.0 ++ class_text (class_of vs), make_report t.0 f.0 e f.1 t.1)))
 
 -- ---- runs
 
@@ -116,37 +104,35 @@ held : (m : Contents) (o : Option MadeTrees) → (c : Contents) × (files_of (So
 held m None = (m, refl)
 held m (Some k) = (made_contents k.seed k.size, refl)
 
-mode_alone : (x : Mode) → (x ≡ mode.Features) ⊎ (x ≡ mode.Frozen) → IsAlone x
-mode_alone x (inl e) = subst IsAlone (sym e) alone_features
-mode_alone x (inr e) = subst IsAlone (sym e) alone_frozen
-
-none_some : {A : Type 0} (x : A) → ◌≡◌ {A = Option A} None (Some x) → ⊥
-none_some x e = absurd (cc)
-
-module _ (below : Below) (words : List (List ℕ)) (m : Contents) where
+module _ (below : Below) (judged : (before now : Packages) → NotNone ((v : Verdict) × IsVerdict before now v)) (words : List (List ℕ)) (m : Contents) where
   abbrev Ends : Type 0
   Ends = (o : Outcome) × EndsWith words (Some m) o
 
-  of_inputs : (r : Request) → (r.mode ≡ mode.Features) ⊎ (r.mode ≡ mode.Frozen) → (i : Inputs) → Asks words (Some m) r i → NotNone Ends
-  of_inputs r e i asks =
+  of_findings : (r : Request) (i : Inputs) → IsRequest words r → Asks words (Some m) r i → (lists : List (List Line)) (vs : List Verdict) → AreFound r i lists vs → NotNone Ends
+  of_findings r i is asks lists vs found = elim (advice_there (class_of vs) r.version (request_roomy words r is)) [
+    | inl a ↦ so (by_mode r i lists vs r.mode refl a.0 a.1) (λ t. (reported t.0 t.1, reported_findings t.0 r i lists vs asks found t.2))
+    | inr n ↦ sure (fault_alone status.Refused n.1, refused_advice r i n.0 lists vs asks found n.2 n.3)
+  ]
+
+  of_inputs : (r : Request) → IsRequest words r → (i : Inputs) → Asks words (Some m) r i → NotNone Ends
+  of_inputs r is i asks =
       let told = files_of (Some m) r.made in
-      let none : i.old_tree ≡ None = no_old_tree told r.old i.old_tree (request_alone words r asks.request (mode_alone r.mode e)) asks.inputs.old_tree in
       bind (findings_end below (modules_of i) i.old_tree i.tree i.std_tree (tree_read told r i asks.inputs) (std_read told r.std i.std_tree asks.inputs.std_tree)
-      (λ o f. absurd (none_some o (sym none ∙ f))) (λ o f before now. absurd (none_some o (sym none ∙ f))) r.platforms) (λ k. elim k [
-        | inl found ↦ so (by_mode r i found.0 found.1 e) (λ t. (reported t.0 t.1, reported_findings t.0 r i found.0 found.1 asks found.2 t.2))
+      (old_read told r i asks.inputs) (λ o f before now. judged before now) r.platforms) (λ k. elim k [
+        | inl found ↦ of_findings r i is asks found.0 found.1 found.2
         | inr line ↦ sure (fault_alone status.Refused line.0, refused_platform r i asks line.1)
       ])
 
-  of_request : (r : Request) → (r.mode ≡ mode.Features) ⊎ (r.mode ≡ mode.Frozen) → IsRequest words r → NotNone Ends
-  of_request r e is =
+  of_request : (r : Request) → IsRequest words r → NotNone Ends
+  of_request r is =
       let h = held m r.made in
       bind (inputs_end h.0 r) (λ k. elim k [
-        | inl i ↦ of_inputs r e i.0 (record { request = is; inputs = subst (λ (told : Option Contents). AreInputs told r i.0) (sym h.1) i.1 })
+        | inl i ↦ of_inputs r is i.0 (record { request = is; inputs = subst (λ (told : Option Contents). AreInputs told r i.0) (sym h.1) i.1 })
         | inr line ↦ sure (fault_alone status.Refused line.0, refused_inputs r is (subst (λ (told : Option Contents). IsInputRefusal told r line.0) (sym h.1) line.1))
       ])
 
-  pub run_ends : ((r : Request) → IsRequest words r → (r.mode ≡ mode.Features) ⊎ (r.mode ≡ mode.Frozen)) → NotNone ((o : Outcome) × EndsWith words (Some m) o)
-  run_ends e = bind (decided ((r : Request) × IsRequest words r)) (λ d. elim d [
-    | inl r ↦ of_request r.0 (e r.0 r.1) r.1
+  pub run_ends : NotNone ((o : Outcome) × EndsWith words (Some m) o)
+  run_ends = bind (decided ((r : Request) × IsRequest words r)) (λ d. elim d [
+    | inl r ↦ of_request r.0 r.1
     | inr never ↦ sure (fault_alone status.Words words_line, bad_words (λ r is. never (r, is)))
   ])

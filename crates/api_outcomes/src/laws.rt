@@ -1,11 +1,9 @@
 //! Laws of what has to come of words and files.
-ghost use Rattle.std.specs.Prelude.{◌≡◌, ◌≢◌, ◌⊎◌, ℕ, [], List, Some};
+ghost use Rattle.std.specs.Prelude.{◌≢◌, ◌⊎◌, ℕ, [], List, Some};
 ghost use Rattle.api_gate.specs.runs.Outcomes.{EndsWith, Outcome};
 ghost use Rattle.api_inputs.specs.Inputs.{AreInputs, IsInputRefusal};
 ghost use Rattle.api_inputs.specs.declared.inputs.Inputs.{Inputs};
 ghost use Rattle.api_texts.specs.declared.lines.Side.{Side};
-ghost use Rattle.api_words.specs.Words.{IsRequest};
-ghost use Rattle.api_words.specs.declared.option_name.Mode.TheVariants.{Features, Frozen};
 ghost use Rattle.api_words.specs.declared.request.Request.{Request};
 ghost use Rattle.api_worlds.specs.PlatformWorlds.{IsRefusedOn, IsWorldOn};
 ghost use Rattle.go_base.specs.Lists.{Has};
@@ -16,6 +14,7 @@ ghost use Rattle.go_model.specs.files.Trees.{IsTree};
 ghost use Rattle.go_model.specs.worlds.Worlds.{Packages};
 ghost use Rattle.go_outside.specs.Stores.{Contents};
 
+use api_break_outcomes::laws::verdict_exists;
 use go_reading::laws::unit_paths;
 use go_unit_outcomes::laws::units_or_refusal;
 use go_world_outcomes::laws::world_or_refusal;
@@ -35,13 +34,12 @@ pub fn world_or_fault_line()
     world_or_refusal();
 }
 
-/// Words that are bad, or whose mode is `features` or `frozen`, have an outcome over whatever files: so the definitions are never
-/// silent there, and want of memory never stands in for them.
-pub fn outcome_without_old_tree()
-    ensures { (words : List (List ℕ)) (m : Contents) → ((r : Request) → IsRequest words r → (r.mode ≡ Features) ⊎ (r.mode ≡ Frozen))
-        → NotNone ((o : Outcome) × EndsWith words (Some m) o) }
+/// Words have an outcome over whatever files: so the definitions are never silent, and want of memory never stands in for them.
+pub fn outcome_exists()
+    ensures { (words : List (List ℕ)) (m : Contents) → NotNone ((o : Outcome) × EndsWith words (Some m) o) }
 {
     units_or_refusal();
     unit_paths();
     world_or_refusal();
+    verdict_exists();
 }
