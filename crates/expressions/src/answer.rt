@@ -4,6 +4,7 @@ ghost use Rattle.std.specs.Prelude.{◌≡◌, length};
 use crate::operands::{meaning, operand};
 use crate::place::Place;
 use crate::tree::tree;
+use go_asks::operands::operand as met_operand;
 use go_base::text::Text;
 use go_expr::typing::type_expr;
 use go_model::types::package::Entity;
@@ -42,16 +43,36 @@ fn file(word: &str) -> Result<u32, Refusal> {
     }
 }
 
-fn answered(alloc: Global, env: &Env<'_>, expr: &Expr) -> Result<Operand, ExprError> {
-    let error = error_type(alloc)?;
-    let context = Context::new(env, &error);
-    type_expr(&context, alloc, expr)
+// What is told of an expression: what it is, or the same where all that is asked in it is met.
+#[derive(Clone, Copy)]
+enum Question {
+    Expression,
+    Operand,
 }
 
-// What an expression is. The tree goes back into its holder, so that giving it up is a call.
-fn typed(alloc: Global, env: &Env<'_>, held: HeldExpr) -> Result<Vec<u8>, Refusal> {
+fn answered(
+    alloc: Global,
+    env: &Env<'_>,
+    question: Question,
+    expr: &Expr,
+) -> Result<Operand, ExprError> {
+    let error = error_type(alloc)?;
+    let context = Context::new(env, &error);
+    match question {
+        Question::Expression => type_expr(&context, alloc, expr),
+        Question::Operand => met_operand(&context, alloc, expr),
+    }
+}
+
+// What is told of an expression. The tree goes back into its holder, so that giving it up is a call.
+fn typed(
+    alloc: Global,
+    env: &Env<'_>,
+    question: Question,
+    held: HeldExpr,
+) -> Result<Vec<u8>, Refusal> {
     let expr = held.take();
-    let answer = answered(alloc, env, &expr);
+    let answer = answered(alloc, env, question, &expr);
     let _tree = HeldExpr::new(expr);
     match answer {
         Ok(found) => Ok(operand(alloc, &found)?),
@@ -60,9 +81,14 @@ fn typed(alloc: Global, env: &Env<'_>, held: HeldExpr) -> Result<Vec<u8>, Refusa
     }
 }
 
-fn expression(alloc: Global, env: &Env<'_>, words: &str) -> Result<Vec<u8>, Refusal> {
+fn expression(
+    alloc: Global,
+    env: &Env<'_>,
+    question: Question,
+    words: &str,
+) -> Result<Vec<u8>, Refusal> {
     let mut out = match tree(alloc, words)? {
-        Some(held) => typed(alloc, env, held)?,
+        Some(held) => typed(alloc, env, question, held)?,
         None => Vec::from_slice(alloc, b"no expression")?,
     };
     out.push(b'\n')?;
@@ -209,7 +235,8 @@ fn asked(
     ensures { length env.new.opened ≡ length env.old.opened }
 {
     match kind {
-        "expression" => expression(alloc, env, words),
+        "expression" => expression(alloc, env, Question::Expression, words),
+        "operand" => expression(alloc, env, Question::Operand, words),
         "means" => means(alloc, env, words),
         "type" => declare_type(alloc, env, stack, words),
         "local" => local(alloc, env, stack, words),

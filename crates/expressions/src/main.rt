@@ -15,9 +15,10 @@
 //! announce NAME                    await NAME SELECTOR
 //! iota NUMBER                      iota none
 //!
-//! means NAME                       expression TEXT
+//! means NAME                       expression TEXT      operand TEXT
 //! ```
 //!
+//! `expression` asks what an expression is, and `operand` the same where all that is asked in it besides is met.
 //! Outside of `package` and `end` the objects are of the package that is typed, in its innermost scope. Terms, OF and
 //! VALUE are as the library `worlds` reads them. An answer is `untyped`, `no expression` where the text isn't one,
 //! `no-value`, `type TERM`, `constant OF VALUE`, `variable TERM`, `value TERM`, `value untyped-bool`, `map-element TERM`,

@@ -1,1 +1,2 @@
+pub mod Signatures
 pub mod inner

@@ -5,3 +5,4 @@ mod embedding;
 mod keys;
 pub mod meets;
 mod members;
+pub mod operands;
