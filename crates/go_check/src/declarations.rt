@@ -16,7 +16,11 @@ fn push_files<'a>(listed: &mut List<Declaration<'a>>, files: &'a [UnitFile]) -> 
     ensures { OnOk result (declarations_of listed.new ≡ declarations_of listed.old ++ declarations_from 0 (map file_of files.now)) }
 {
     for file in 0..files.len() {
-        push_file(listed, file as u32, files[file].outline.value().decls.items())?;
+        push_file(
+            listed,
+            file as u32,
+            files[file].outline.value().decls.items(),
+        )?;
     }
     Ok(())
 }

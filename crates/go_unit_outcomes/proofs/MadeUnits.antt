@@ -55,12 +55,11 @@ module _ (module_path : List ℕ) (folders : List Folder) (packages : List Bool)
           from_std = is_std folders n;
           files = g.0;
           needs = needed_by g.0;
-          some = omega (arith, many);
           few = omega (arith, many, few);
           named = named (is_std folders n) (f ∷ fs) g.0 f alike (inl refl) g.1;
           needed = refl;
         },
-        record { path = refl; side = refl; given = g.1 },
+        record { path = refl; side = refl; given = g.1; some = omega (arith, many) },
       ))
 
   -- a unit is added, where a folder holds a package
