@@ -42,10 +42,10 @@ module _ (below : Below) (barred : List (List ℕ)) (tree std_tree : Tree) (read
   WorldEnds = ((w : Packages) × IsWorldOn barred tree std_tree p w) ⊎ ((s : Side) → (line : List ℕ) × IsRefusedOn barred tree std_tree s p line)
 
   of_answer : (r : Result Units UnitError) → (r ≢ Err unit.NoMemory) → AreUnitsOfTrees p barred tree std_tree r → NotNone WorldEnds
-  of_answer (Err e) n a = sure (inr (λ s. (refusal_line s p (unit_text tree std_tree e), packages_refused e (λ k. n (λ i. Err (k i))) a)))
+  of_answer (Err e) n a = sure (inr (λ s. (refusal_line s p (unit_text tree std_tree [] e), packages_refused e (λ k. n (λ i. Err (k i))) a)))
   of_answer (Ok units) n a = so (below.worlds (bits_of p) units (below.paths p barred tree std_tree units read.is std read.named a)) (λ k. elim k [
     | inl w ↦ inl (w.0, (units, a, w.1))
-    | inr r ↦ inr (λ s. (refusal_line s p (package_text tree std_tree units.packages r.0 r.1), package_refused units r.0 r.1 a r.2))
+    | inr r ↦ inr (λ s. (refusal_line s p (package_text tree std_tree [] units.packages r.0 r.1), package_refused units r.0 r.1 a r.2))
   ])
 
   pub world_ends : NotNone WorldEnds

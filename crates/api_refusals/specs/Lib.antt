@@ -1,4 +1,5 @@
 pub mod PackageFaults
 pub mod Places
 pub mod Refusals
+pub mod Roots
 pub mod inner

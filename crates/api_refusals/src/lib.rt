@@ -3,3 +3,4 @@
 
 mod places;
 pub mod refusals;
+pub mod root;

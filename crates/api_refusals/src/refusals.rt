@@ -1,18 +1,17 @@
 //! The fault lines of what is refused on a platform.
-ghost use Rattle.std.specs.Prelude.{◌≡◌, ◌++◌, IfOk, OnOk, ◌≤◌, codes, length, nat_eq, slice_get, true};
-ghost use Rattle.std.specs.List.{starts_with};
-ghost use Rattle.go_model.specs.files.Platforms.{name_of};
-ghost use Rattle.api_texts.specs.FaultLines.{side_name};
+ghost use Rattle.std.specs.Prelude.{◌≡◌, ◌++◌, IfOk, slice_get};
 ghost use Rattle.api_refusals.specs.PackageFaults.{refusal_of};
-ghost use Rattle.api_refusals.specs.Refusals.{cause_text, file_name, file_place, file_text, is_outside, place_in, place_of, refusal_line, refused_text, tree_of, unit_place, unit_text};
+ghost use Rattle.api_refusals.specs.Refusals.{cause_text, file_place, file_text, files_in, place_in, place_of, refusal_line, refused_text, unit_place, unit_text};
+ghost use Rattle.api_refusals.specs.Roots.{file_name};
 ghost use Rattle.api_refusals.specs.inner.Files.{copied_file};
 
 use crate::places::{bytes_at, push_place};
+use crate::root::Root;
 use api_texts::lines::{Side, fault_line};
 use go_base::memory::NoMemory;
 use go_base::text::Text;
 use go_model::files::platform::Platform;
-use go_model::files::tree::Tree;
+use go_model::files::tree::{Tree, TreeFile};
 use go_syntax::name::Place;
 use go_units::reader::FileFault;
 use go_units::unit::{Unit, UnitFile};
@@ -30,49 +29,26 @@ pub enum PackageFault {
     Unsound(Place),
 }
 
-fn begins_with(path: &[u8], root: &[u8]) -> bool
-    ensures value { result ≡ starts_with nat_eq path.now root.now }
-    ensures bound { result ≡ true → length root.now ≤ length path.now }
+fn files_in<'a>(
+    tree: &'a Tree,
+    std_tree: &'a Tree,
+    client: &'a [TreeFile],
+    root: Root,
+) -> &'a [TreeFile]
+    ensures { result.now ≡ files_in tree.now std_tree.now client.now root }
 {
-    path.starts_with(root)
-}
-
-fn is_outside(module: &[u8], path: &[u8]) -> bool
-    ensures { result ≡ is_outside «module».now path.now }
-{
-    if !begins_with(path, module) {
-        return true;
+    match root {
+        Root::Module => tree.files.items(),
+        Root::Std => std_tree.files.items(),
+        Root::Client => client,
     }
-    if path.len() == module.len() {
-        return false;
-    }
-    path[module.len()] != b'/'
-}
-
-fn tree_of<'a>(tree: &'a Tree, std_tree: &'a Tree, from_std: bool) -> &'a Tree
-    ensures { result.now ≡ tree_of tree.now std_tree.now from_std }
-{
-    if from_std { std_tree } else { tree }
-}
-
-// How fault lines name a file.
-fn file_name(alloc: Global, from_std: bool, path: &[u8]) -> Result<Vec<u8>, NoMemory>
-    ensures { IfOk result (λ text. text.items ≡ file_name from_std path.now) }
-{
-    if !from_std {
-        let text = Vec::from_slice(alloc, path)?;
-        return Ok(text);
-    }
-    let mut text = Vec::from_slice(alloc, b"std:")?;
-    text.extend_from_slice(path)?;
-    Ok(text)
 }
 
 // The name of a file, and then why it is refused.
-fn named(alloc: Global, from_std: bool, path: &[u8], what: &[u8]) -> Result<Text, NoMemory>
-    ensures { IfOk result (λ text. text ≡ file_name from_std path.now ++ what.now) }
+fn named(alloc: Global, root: Root, path: &[u8], what: &[u8]) -> Result<Text, NoMemory>
+    ensures { IfOk result (λ text. text ≡ file_name root path.now ++ what.now) }
 {
-    let mut text = file_name(alloc, from_std, path)?;
+    let mut text = root.file_name(alloc, path)?;
     text.extend_from_slice(what)?;
     Ok(Text::from_vec(text))
 }
@@ -82,15 +58,16 @@ fn place_in(
     alloc: Global,
     tree: &Tree,
     std_tree: &Tree,
-    from_std: bool,
+    client: &[TreeFile],
+    root: Root,
     path: &[u8],
     offset: u32,
 ) -> Result<Vec<u8>, NoMemory>
-    ensures { IfOk result (λ text. text.items ≡ place_in tree.now std_tree.now from_std path.now offset) }
+    ensures { IfOk result (λ text. text.items ≡ place_in tree.now std_tree.now client.now root path.now offset) }
 {
-    let own = tree_of(tree, std_tree, from_std);
-    let bytes = bytes_at(alloc, own.files.items(), path)?;
-    let mut text = file_name(alloc, from_std, path)?;
+    let files = files_in(tree, std_tree, client, root);
+    let bytes = bytes_at(alloc, files, path)?;
+    let mut text = root.file_name(alloc, path)?;
     push_place(&mut text, bytes, offset)?;
     Ok(text)
 }
@@ -100,14 +77,15 @@ fn placed(
     alloc: Global,
     tree: &Tree,
     std_tree: &Tree,
-    from_std: bool,
+    client: &[TreeFile],
+    root: Root,
     path: &[u8],
     offset: u32,
     what: &[u8],
 ) -> Result<Text, NoMemory>
-    ensures { IfOk result (λ text. text ≡ place_in tree.now std_tree.now from_std path.now offset ++ what.now) }
+    ensures { IfOk result (λ text. text ≡ place_in tree.now std_tree.now client.now root path.now offset ++ what.now) }
 {
-    let mut text = place_in(alloc, tree, std_tree, from_std, path, offset)?;
+    let mut text = place_in(alloc, tree, std_tree, client, root, path, offset)?;
     text.extend_from_slice(what)?;
     Ok(Text::from_vec(text))
 }
@@ -116,33 +94,28 @@ fn file_text(
     alloc: Global,
     tree: &Tree,
     std_tree: &Tree,
-    from_std: bool,
+    client: &[TreeFile],
+    root: Root,
     path: &[u8],
     fault: FileFault,
 ) -> Result<Text, NoMemory>
-    ensures { IfOk result (λ text. text ≡ file_text tree.now std_tree.now from_std path.now fault) }
+    ensures { IfOk result (λ text. text ≡ file_text tree.now std_tree.now client.now root path.now fault) }
 {
     match fault {
-        FileFault::BadExpression => {
-            named(alloc, from_std, path, b": go:build line not understood")
-        }
-        FileFault::Twice => named(alloc, from_std, path, b": two go:build lines"),
-        FileFault::PlusBuild => named(alloc, from_std, path, b": +build without go:build"),
+        FileFault::BadExpression => { named(alloc, root, path, b": go:build line not understood") }
+        FileFault::Twice => named(alloc, root, path, b": two go:build lines"),
+        FileFault::PlusBuild => named(alloc, root, path, b": +build without go:build"),
         FileFault::BadToken(offset) => placed(
             alloc,
             tree,
             std_tree,
-            from_std,
+            client,
+            root,
             path,
             offset,
             b": not a token",
         ),
-        FileFault::Syntax => named(
-            alloc,
-            from_std,
-            path,
-            b": not in the grammar of this profile",
-        ),
+        FileFault::Syntax => named(alloc, root, path, b": not in the grammar of this profile"),
     }
 }
 
@@ -158,23 +131,25 @@ fn unit_text(
     alloc: Global,
     tree: &Tree,
     std_tree: &Tree,
+    client: &[TreeFile],
     error: &UnitError,
 ) -> Result<Text, NoMemory>
-    ensures { IfOk result (λ text. text ≡ unit_text tree.now std_tree.now error.now) }
+    ensures { IfOk result (λ text. text ≡ unit_text tree.now std_tree.now client.now error.now) }
 {
     match error {
         UnitError::File(at, fault) => {
-            let from_std = is_outside(tree.module.bytes(), at.path.bytes());
-            file_text(alloc, tree, std_tree, from_std, at.file.bytes(), *fault)
+            let root = Root::of(tree.module.bytes(), at.path.bytes());
+            file_text(alloc, tree, std_tree, client, root, at.file.bytes(), *fault)
         }
         UnitError::MixedNames(path) => joined(alloc, path.bytes(), b": two package names"),
         UnitError::InternalUse(at, offset) => {
-            let from_std = is_outside(tree.module.bytes(), at.path.bytes());
+            let root = Root::of(tree.module.bytes(), at.path.bytes());
             placed(
                 alloc,
                 tree,
                 std_tree,
-                from_std,
+                client,
+                root,
                 at.file.bytes(),
                 *offset,
                 b": internal package",
@@ -207,11 +182,12 @@ pub fn unit_line(
     platform: Platform,
     tree: &Tree,
     std_tree: &Tree,
+    client: &[TreeFile],
     error: &UnitError,
 ) -> Result<Text, NoMemory>
-    ensures { IfOk result (λ line. line ≡ refusal_line side platform (unit_text tree.now std_tree.now error.now)) }
+    ensures { IfOk result (λ line. line ≡ refusal_line side platform (unit_text tree.now std_tree.now client.now error.now)) }
 {
-    let text = unit_text(alloc, tree, std_tree, error)?;
+    let text = unit_text(alloc, tree, std_tree, client, error)?;
     refusal_line(alloc, side, platform, text.bytes())
 }
 
@@ -219,15 +195,24 @@ fn file_place(
     alloc: Global,
     tree: &Tree,
     std_tree: &Tree,
-    from_std: bool,
+    client: &[TreeFile],
+    root: Root,
     file: Option<&UnitFile>,
     offset: u32,
 ) -> Result<Vec<u8>, NoMemory>
-    ensures { IfOk result (λ text. text.items ≡ file_place tree.now std_tree.now from_std (copied_file file.entry) offset) }
+    ensures { IfOk result (λ text. text.items ≡ file_place tree.now std_tree.now client.now root (copied_file file.entry) offset) }
 {
     match file {
         None => Ok(Vec::new(alloc)),
-        Some(file) => place_in(alloc, tree, std_tree, from_std, file.path.bytes(), offset),
+        Some(file) => place_in(
+            alloc,
+            tree,
+            std_tree,
+            client,
+            root,
+            file.path.bytes(),
+            offset,
+        ),
     }
 }
 
@@ -241,16 +226,18 @@ fn unit_place(
     alloc: Global,
     tree: &Tree,
     std_tree: &Tree,
+    client: &[TreeFile],
     unit: &Unit,
     place: Place,
 ) -> Result<Vec<u8>, NoMemory>
-    ensures { IfOk result (λ text. text.items ≡ unit_place tree.now std_tree.now unit.now place) }
+    ensures { IfOk result (λ text. text.items ≡ unit_place tree.now std_tree.now client.now unit.now place) }
 {
     file_place(
         alloc,
         tree,
         std_tree,
-        unit.from_std,
+        client,
+        Root::by(unit.from_std, unit.path.bytes()),
         file_at(unit.files.items(), place.file as usize),
         place.offset,
     )
@@ -283,12 +270,13 @@ pub fn package_line(
     platform: Platform,
     tree: &Tree,
     std_tree: &Tree,
+    client: &[TreeFile],
     unit: &Unit,
     fault: PackageFault,
 ) -> Result<Text, NoMemory>
-    ensures { IfOk result (λ line. line ≡ refusal_line side platform (refused_text tree.now std_tree.now unit.now (refusal_of fault))) }
+    ensures { IfOk result (λ line. line ≡ refusal_line side platform (refused_text tree.now std_tree.now client.now unit.now (refusal_of fault))) }
 {
-    let mut text = unit_place(alloc, tree, std_tree, unit, place_of(fault))?;
+    let mut text = unit_place(alloc, tree, std_tree, client, unit, place_of(fault))?;
     text.extend_from_slice(cause_text(fault))?;
     refusal_line(alloc, side, platform, &text)
 }

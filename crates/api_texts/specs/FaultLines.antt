@@ -20,6 +20,7 @@ abbrev pub side_name : Side → List ℕ
 side_name side.Old = codes "old"
 side_name side.New = codes "new"
 side_name side.Std = codes "std"
+side_name side.Client = codes "client"
 
 abbrev pub limit_text : LimitName → List ℕ
 limit_text limit.FileBytes = codes "file-bytes"

@@ -19,6 +19,8 @@ pub enum Side {
     New,
     /// The tree of the standard library.
     Std,
+    /// The folder of a client.
+    Client,
 }
 
 impl Side {
@@ -30,6 +32,7 @@ impl Side {
             Side::Old => b"old",
             Side::New => b"new",
             Side::Std => b"std",
+            Side::Client => b"client",
         }
     }
 }

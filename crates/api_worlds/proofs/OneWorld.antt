@@ -1,6 +1,7 @@
 -- On a platform trees have one world or one refusal.
 use Rattle.std.proofs.Common.{◌≡◌, ◌≢◌, ℕ, zero, suc, Option, None, Some, List, [], ◌∷◌, ◌++◌, map, Ok, Err, refl, sym, ap, ◌∙◌, subst}
 use Rattle.std.specs.Prelude.{slice_get}
+use Rattle.api_refusals.specs.Roots.{root_by}
 use Rattle.api_refusals.specs.Refusals.{cause_text, file_place, package_text, place_of, refusal_line, unit_text}
 use Rattle.api_texts.specs.declared.lines.Side.{Side}
 use Rattle.api_worlds.specs.PlatformWorlds.{AreUnitsOn, IsRefusedOn, packages_refused, package_refused, IsWorldOn, sources_of}
@@ -35,15 +36,15 @@ same_sources us vs e = sources_by us ∙ ap (map source_by) e ∙ sym (sources_b
 module _ (tree std_tree : Tree) where
   text_by : Option Written → Refusal → List ℕ
   text_by None r = cause_text r
-  text_by (Some w) r = file_place tree std_tree w.from_std (slice_get w.files (place_of r).file) (place_of r).offset ++ cause_text r
+  text_by (Some w) r = file_place tree std_tree [] (root_by w.from_std w.path) (slice_get w.files (place_of r).file) (place_of r).offset ++ cause_text r
 
-  package_text_by : (us : List PackageUnit) (n : ℕ) (r : Refusal) → package_text tree std_tree us n r ≡ text_by (slice_get (map written us) n) r
+  package_text_by : (us : List PackageUnit) (n : ℕ) (r : Refusal) → package_text tree std_tree [] us n r ≡ text_by (slice_get (map written us) n) r
   unfolding text_by
   package_text_by [] n r = refl
   package_text_by (u ∷ us) zero r = refl
   package_text_by (u ∷ us) (suc n) r = package_text_by us n r
 
-  pub same_text : (us vs : List PackageUnit) (n : ℕ) (r : Refusal) → map written us ≡ map written vs → package_text tree std_tree us n r ≡ package_text tree std_tree vs n r
+  pub same_text : (us vs : List PackageUnit) (n : ℕ) (r : Refusal) → map written us ≡ map written vs → package_text tree std_tree [] us n r ≡ package_text tree std_tree [] vs n r
   same_text us vs n r e = package_text_by us n r ∙ ap (λ (ws : List Written). text_by (slice_get ws n) r) e ∙ sym (package_text_by vs n r)
 
 -- ---- worlds and refusals
@@ -62,12 +63,12 @@ module _ (one_units : (p : Platform) (barred : List (List ℕ)) (tree std_tree :
   same_world v w a b = one_world (bits_of p) (sources_of b.0) v w (subst (λ (us : List PackageSource). IsWorldOf (bits_of p) us v) (shared a.0 b.0 a.1 b.1) a.2) b.2
 
   pub same_refusal : (s : Side) (x y : List ℕ) → IsRefusedOn barred tree std_tree s p x → IsRefusedOn barred tree std_tree s p y → x ≡ y
-  same_refusal s x y (packages_refused d n a) (packages_refused e m b) = ap (λ (f : UnitError). refusal_line s p (unit_text tree std_tree f)) (one_error p barred tree std_tree d e n m a b)
+  same_refusal s x y (packages_refused d n a) (packages_refused e m b) = ap (λ (f : UnitError). refusal_line s p (unit_text tree std_tree [] f)) (one_error p barred tree std_tree d e n m a b)
   same_refusal s x y (packages_refused d n a) (package_refused units k r b f) = absurd (apart p barred tree std_tree units d n b a)
   same_refusal s x y (package_refused units k r a f) (packages_refused e m b) = absurd (apart p barred tree std_tree units e m a b)
   same_refusal s x y (package_refused units k r a f) (package_refused others l q b g) =
       let same = one_refusal (bits_of p) (sources_of others) k l r q (subst (λ (us : List PackageSource). IsFirstRefused (bits_of p) us k r) (shared units others a b) f) g in
-      ap (refusal_line s p) (same_text tree std_tree units.packages others.packages k r (one_units p barred tree std_tree units others a b) ∙ (λ i. package_text tree std_tree others.packages (same.0 i) (same.1 i)))
+      ap (refusal_line s p) (same_text tree std_tree units.packages others.packages k r (one_units p barred tree std_tree units others a b) ∙ (λ i. package_text tree std_tree [] others.packages (same.0 i) (same.1 i)))
 
   pub world_or_refusal : (s : Side) (w : Packages) (line : List ℕ) → IsWorldOn barred tree std_tree p w → IsRefusedOn barred tree std_tree s p line → ⊥
   world_or_refusal s w line a (packages_refused e n b) = apart p barred tree std_tree a.0 e n a.1 b

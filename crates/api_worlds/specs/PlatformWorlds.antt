@@ -1,6 +1,6 @@
 -- What the trees of a module and of the standard library have on a platform: a world, or the first refusal with its fault line.
 -- Own: the order of refusals. All packages are taken before the first declaration is.
-use Rattle.std.specs.Prelude.{◌≢◌, ◌≤◌, ◌+◌, ℕ, List, length, map, Result, Ok, Err}
+use Rattle.std.specs.Prelude.{◌≢◌, ◌≤◌, ◌+◌, ℕ, List, [], length, map, Result, Ok, Err}
 use Rattle.api_refusals.specs.Refusals.{package_text, refusal_line, unit_text}
 use Rattle.api_texts.specs.declared.lines.Side.{Side}
 use Rattle.api_worlds.specs.declared.error.PlatformError.{PlatformError}
@@ -33,8 +33,8 @@ module _ (barred : List (List ℕ)) (tree std_tree : Tree) where
 
   -- the fault line of the trees of a side on a platform: of the first refusal of their packages, or else of the first package that is refused
   pub data IsRefusedOn (s : Side) (p : Platform) : List ℕ → Type 0 where
-    packages_refused : (e : UnitError) → e ≢ unit.NoMemory → AreUnitsOfTrees p barred tree std_tree (Err e) → IsRefusedOn s p (refusal_line s p (unit_text tree std_tree e))
-    package_refused : (units : Units) (n : ℕ) (r : Refusal) → AreUnitsOn p units → IsFirstRefused (bits_of p) (sources_of units) n r → IsRefusedOn s p (refusal_line s p (package_text tree std_tree units.packages n r))
+    packages_refused : (e : UnitError) → e ≢ unit.NoMemory → AreUnitsOfTrees p barred tree std_tree (Err e) → IsRefusedOn s p (refusal_line s p (unit_text tree std_tree [] e))
+    package_refused : (units : Units) (n : ℕ) (r : Refusal) → AreUnitsOn p units → IsFirstRefused (bits_of p) (sources_of units) n r → IsRefusedOn s p (refusal_line s p (package_text tree std_tree [] units.packages n r))
 
   -- the trees of a side have no world on a platform: that fault line, or want of memory, which may come at any time
   abbrev pub IsErrorOn : Side → Platform → PlatformError → Type 0

@@ -40,6 +40,7 @@ fn refused_units(
             trees.platform,
             trees.tree,
             trees.std_tree,
+            &[],
             error,
         ) {
             Ok(line) => PlatformError::Refused(line),
@@ -76,6 +77,7 @@ fn refused_package(
             trees.platform,
             trees.tree,
             trees.std_tree,
+            &[],
             unit,
             fault,
         ) {

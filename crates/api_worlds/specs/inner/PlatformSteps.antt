@@ -1,5 +1,5 @@
 -- What the steps to the world of a platform answer.
-use Rattle.std.specs.Prelude.{◌≡◌, ◌≢◌, ℕ, Option, Some, Result, Ok, Err, option_map}
+use Rattle.std.specs.Prelude.{◌≡◌, ◌≢◌, ℕ, [], Option, Some, Result, Ok, Err, option_map}
 use Rattle.api_refusals.specs.PackageFaults.{refusal_of}
 use Rattle.api_refusals.specs.Refusals.{package_text, refusal_line, refused_text, unit_text}
 use Rattle.api_refusals.specs.declared.refusals.PackageFault.{PackageFault}
@@ -27,16 +27,16 @@ TellsFault e fault = option_map refusal_of fault ≡ told_by e
 module _ (tree std_tree : Tree) (s : Side) (p : Platform) where
   -- the packages aren't taken for this error
   abbrev pub IsUnitRefusal : UnitError → PlatformError → Type 0
-  IsUnitRefusal e (error.Refused line) = (e ≢ unit.NoMemory) × (line ≡ refusal_line s p (unit_text tree std_tree e))
+  IsUnitRefusal e (error.Refused line) = (e ≢ unit.NoMemory) × (line ≡ refusal_line s p (unit_text tree std_tree [] e))
   IsUnitRefusal e error.NoMemory = Unit {0}
 
   -- the package is refused for this error
   abbrev pub IsPackageRefusal : PackageUnit → CheckError → PlatformError → Type 0
-  IsPackageRefusal u e (error.Refused line) = (r : Refusal) × (told_by e ≡ Some r) × (line ≡ refusal_line s p (refused_text tree std_tree u r))
+  IsPackageRefusal u e (error.Refused line) = (r : Refusal) × (told_by e ≡ Some r) × (line ≡ refusal_line s p (refused_text tree std_tree [] u r))
   IsPackageRefusal u e error.NoMemory = Unit {0}
 
   -- the world of these units, or the fault line of the first package that is refused
   abbrev pub AnswersOfUnits : Units → Result Packages PlatformError → Type 0
   AnswersOfUnits units (Ok w) = IsWorldOf (bits_of p) (sources_of units) w
-  AnswersOfUnits units (Err (error.Refused line)) = (n : ℕ) × (r : Refusal) × IsFirstRefused (bits_of p) (sources_of units) n r × (line ≡ refusal_line s p (package_text tree std_tree units.packages n r))
+  AnswersOfUnits units (Err (error.Refused line)) = (n : ℕ) × (r : Refusal) × IsFirstRefused (bits_of p) (sources_of units) n r × (line ≡ refusal_line s p (package_text tree std_tree [] units.packages n r))
   AnswersOfUnits units (Err error.NoMemory) = Unit {0}
