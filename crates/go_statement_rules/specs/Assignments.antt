@@ -117,7 +117,7 @@ pub data AreResults (E : Env) : List Operand → List Term → Type 0 where
   results_none : AreResults E [] []
   results_more : {o : Operand} {os : List Operand} {t : Term} {ts : List Term} → UsableAs E o t → AreResults E os ts → AreResults E (o ∷ os) (t ∷ ts)
 
--- the expressions give these results: each its own, or one call all of them
+-- the expressions give these results: each its own, or one call all of them. That a function whose results have no names is given none isn't looked at
 pub data Returns (E : Env) (results : List Term) : List Expr → Type 0 where
   returns_nothing : Returns E results []
   returns_each : {e : Expr} {es : List Expr} {os : List Operand} → HasEach E (e ∷ es) os → AreResults E os results → Returns E results (e ∷ es)

@@ -1,7 +1,8 @@
 -- Typed statements, by cases: one for each rule of the Go specification. A statement is typed in the scopes that those before it leave, and leaves scopes. Each expression,
 -- type and signature in it meets all that is asked of it, and the block of each function literal in it is typed in the scopes in which the literal stands.
--- Public source: Go specification, "Statements", "Blocks", "Declarations and scope", "Function literals". Own: labels and the places of what they name, missing results, whether a name is used, a second
--- default, constants that two clauses of a switch have both, and whether what a switch without a clause has as its tag can be compared, aren't looked at.
+-- Public source: Go specification, "Statements", "Blocks", "Declarations and scope", "Function literals". Own: these aren't looked at: labels, and where `break`, `continue`, `goto` and `fallthrough` stand;
+-- whether a function with results ends in a statement that ends it, and whether a `return` without values stands where results have names; whether a name is used; a second default; constants that two clauses
+-- of a switch have both; whether the tag of a switch whose clauses list no value can be compared; parentheses round a call behind `go` or `defer`.
 use Rattle.std.specs.Prelude.{◌≡◌, ◌≢◌, ◌≤◌, Bool, true, false, List, [], ◌∷◌, ◌++◌, map, take, length, Option, None, Some}
 use Rattle.go_base.specs.Lists.{Each, Once}
 use Rattle.go_base.specs.declared.operator.AssignOperator.{AssignOperator}
