@@ -1,3 +1,4 @@
+pub mod Conversions
 pub mod FoundEnds
 pub mod Hypotheses
 pub mod Operands

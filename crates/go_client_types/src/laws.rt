@@ -8,7 +8,9 @@ ghost use Rattle.go_model.specs.declared.types.names.Sel.{Sel};
 ghost use Rattle.go_model.specs.declared.types.names.TypeName.{TypeName};
 ghost use Rattle.go_model.specs.declared.types.package.ConstTerm.{ConstTerm};
 ghost use Rattle.go_model.specs.declared.types.term.Term.{Term, out-Term};
+ghost use Rattle.go_model.specs.types.Assignability.{ChannelAssigns};
 ghost use Rattle.go_model.specs.types.Comparison.{Comparable};
+ghost use Rattle.go_model.specs.types.Conversions.{PointerConverts, UnderlyingConverts, basics_convert};
 ghost use Rattle.go_model.specs.types.Selectors.{Ending, IsOnly, Target, ends};
 ghost use Rattle.go_model.specs.types.Tables.{Table};
 ghost use Rattle.go_model.specs.types.Terms.{IsBlank, Layer};
@@ -71,6 +73,15 @@ pub fn kept_relations()
     ensures entered { (E F : Env) (r : Naming) (pairs : List TypePair) (std : TypeName → Bool) (is_open : Sel → Bool) → Keeps E F r pairs std is_open → (t : Term) → IsReached pairs std t → Entered E t → Entered F (image r same_sels t) }
     ensures usable { (E F : Env) (r : Naming) (pairs : List TypePair) (std : TypeName → Bool) (is_open : Sel → Bool) → Keeps E F r pairs std is_open → (o p : Operand) (t : Term) → After r pairs std o p → IsReached pairs std t
         → ((u : Term) → IsTyped o u → ⊥) → UsableAs E o t → UsableAs F p (image r same_sels t) }
+{}
+
+/// Of types that a client reaches, those that convert by what is underneath them, underneath the bases of pointers, or as basic types,
+/// do so on the new side, and a channel is assigned where it was.
+pub fn kept_conversions()
+    ensures underlying { (E F : Env) (r : Naming) (pairs : List TypePair) (std : TypeName → Bool) (is_open : Sel → Bool) → Keeps E F r pairs std is_open → (t u : Term) → IsReached pairs std t → IsReached pairs std u → UnderlyingConverts E.table E.profile t u → UnderlyingConverts F.table F.profile (image r same_sels t) (image r same_sels u) }
+    ensures pointers { (E F : Env) (r : Naming) (pairs : List TypePair) (std : TypeName → Bool) (is_open : Sel → Bool) → Keeps E F r pairs std is_open → (t u : Term) → IsReached pairs std t → IsReached pairs std u → PointerConverts E.table E.profile t u → PointerConverts F.table F.profile (image r same_sels t) (image r same_sels u) }
+    ensures basics { (E F : Env) (r : Naming) (pairs : List TypePair) (std : TypeName → Bool) (is_open : Sel → Bool) → Keeps E F r pairs std is_open → (t u : Term) → IsReached pairs std t → IsReached pairs std u → basics_convert E.table t u ≡ true → basics_convert F.table (image r same_sels t) (image r same_sels u) ≡ true }
+    ensures channels { (E F : Env) (r : Naming) (pairs : List TypePair) (std : TypeName → Bool) (is_open : Sel → Bool) → Keeps E F r pairs std is_open → (t u : Term) → IsReached pairs std t → IsReached pairs std u → ChannelAssigns E.table t u → ChannelAssigns F.table (image r same_sels t) (image r same_sels u) }
 {}
 
 /// What a selector that a client may write finds from a type that it reaches, it finds on the new side from the image: the image,
