@@ -88,14 +88,14 @@ method_in (Term-F.Interface ms) m k = mapped ms k
     mapped (n ∷ ns) (inr i) = inr (mapped ns i)
 method_in l m k = absurd k
 
-either : {A B C : Type 0} → A ⊎ B → (A → C) → (B → C) → C
+pub either : {A B C : Type 0} → A ⊎ B → (A → C) → (B → C) → C
 either (inl a) f g = f a
 either (inr b) f g = g b
 
-no_item : {A : Type 0} (xs : List A) (x : A) → xs ≡ [] → xs ≡ x ∷ [] → ⊥
+pub no_item : {A : Type 0} (xs : List A) (x : A) → xs ≡ [] → xs ≡ x ∷ [] → ⊥
 no_item xs x e f = let g : [] ≡ x ∷ [] = sym e ∙ f in absurd (cc)
 
-first_of : {A : Type 0} (xs : List A) (x : A) → xs ≡ x ∷ [] → HasItem xs x
+pub first_of : {A : Type 0} (xs : List A) (x : A) → xs ≡ x ∷ [] → HasItem xs x
 first_of xs x e = subst (λ ys. HasItem ys x) (sym e) (inl refl)
 
 module _ (E F : Env) (r : Naming) (pairs : List TypePair) (std : TypeName → Bool) (is_open : Sel → Bool) (K : Keeps E F r pairs std is_open) where
@@ -120,16 +120,16 @@ module _ (E F : Env) (r : Naming) (pairs : List TypePair) (std : TypeName → Bo
 
   -- ---- from types that a client writes
 
-  made_level : (t : Term) → IsMade (out-Term t) → under F.table (to t) ≡ layer (under E.table t)
+  pub made_level : (t : Term) → IsMade (out-Term t) → under F.table (to t) ≡ layer (under E.table t)
   made_level t m = ap (under_layer F.table) (out_image r same_sels t) ∙ image_under F.table r (out-Term t) m ∙ sym (ap layer (made_under E.table (out-Term t) m))
 
-  made_next : (b : Bool) (t : Term) (x : Spot) → IsMade (out-Term t) → HasItem (steps E.table (at_spot b t)) x → IsOwnLayer (out-Term x.term)
+  pub made_next : (b : Bool) (t : Term) (x : Spot) → IsMade (out-Term t) → HasItem (steps E.table (at_spot b t)) x → IsOwnLayer (out-Term x.term)
   made_next b t x m k =
       let g = gather_of (step b) (fields_of (under E.table t)) x k in
       let e = only_if E.table F.table r own_kept (record { name = []; «package» = [] }) (out-Field g.0).embedded _ x g.2 in
       subst (λ (y : Spot). IsOwnLayer (out-Term y.term)) e.1 (made_embeds (out-Term t) g.0 m (subst (λ l. HasItem (fields_of l) g.0) (made_under E.table (out-Term t) m) g.1) e.0)
 
-  made_ends : (s : Sel) (k : ℕ) (b : Bool) (t : Term) → IsMade (out-Term t) → ends F.table s k (at_spot b (to t)) ≡ map (ending_to r) (ends E.table s k (at_spot b t))
+  pub made_ends : (s : Sel) (k : ℕ) (b : Bool) (t : Term) → IsMade (out-Term t) → ends F.table s k (at_spot b (to t)) ≡ map (ending_to r) (ends E.table s k (at_spot b t))
   unfolding ends
   made_ends s zero b t m = here r s E.table F.table b t (made_level t m)
       (ap (declared_methods F.table) (out_image r same_sels t) ∙ image_declared F.table r (out-Term t) m ∙ sym (ap (map (method_to r)) (made_declared E.table (out-Term t) m)))
@@ -183,12 +183,12 @@ module _ (E F : Env) (r : Naming) (pairs : List TypePair) (std : TypeName → Bo
       (λ i. let g = gather_of (declared_ending (name_of (out-Term t)) s b) (declared_methods E.table (out-Term t)) e i in subst (λ (x : Ending). Reached x.target) (only_if E.table F.table r own_kept s (same_sel (g.0).sel s) _ e g.2).1 (h.declared g.0 g.1)))
       (λ i. let g = gather_of (method_ending s b) (methods_of (under E.table t)) e i in subst (λ (x : Ending). Reached x.target) (only_if E.table F.table r own_kept s (same_sel (out-Method g.0).sel s) _ e g.2).1 (h.level (method_type g.0) (method_in (under E.table t) g.0 g.1)))
 
-  own_end : (s : Sel) (k : ℕ) (b : Bool) (t : Term) (e : Ending) → IsOwnLayer (out-Term t) → HasItem (ends E.table s k (at_spot b t)) e → Reached e.target
+  pub own_end : (s : Sel) (k : ℕ) (b : Bool) (t : Term) (e : Ending) → IsOwnLayer (out-Term t) → HasItem (ends E.table s k (at_spot b t)) e → Reached e.target
   unfolding ends
   own_end s zero b t e h i = level_end s b t e (own_reached t h) i
   own_end s (suc k) b t e h i = let g = gather_of (ends E.table s k) (steps E.table (at_spot b t)) e i in own_end s k (g.0).through (g.0).term e (next_own E.table F.table r own_kept s b t g.0 h g.1) g.2
 
-  made_end : (s : Sel) (k : ℕ) (b : Bool) (t : Term) (e : Ending) → IsMade (out-Term t) → ((u : Term) → HasItem (parts (out-Term t)) u → R u) → HasItem (ends E.table s k (at_spot b t)) e → Reached e.target
+  pub made_end : (s : Sel) (k : ℕ) (b : Bool) (t : Term) (e : Ending) → IsMade (out-Term t) → ((u : Term) → HasItem (parts (out-Term t)) u → R u) → HasItem (ends E.table s k (at_spot b t)) e → Reached e.target
   unfolding ends
   made_end s zero b t e m h i = level_end s b t e (made_reached t m h) i
   made_end s (suc k) b t e m h i = let g = gather_of (ends E.table s k) (steps E.table (at_spot b t)) e i in own_end s k (g.0).through (g.0).term e (made_next b t g.0 m g.1) g.2
@@ -198,20 +198,23 @@ module _ (E F : Env) (r : Naming) (pairs : List TypePair) (std : TypeName → Bo
   abbrev pub KeepsEnding : Sel → Bool → Term → Bool → Target → Type 0
   KeepsEnding s b t q g = (c : ℕ) × (e : Ending) × IsOnly F.table s (at_spot b (to t)) c e × IsKeptEnding r (end_at q g) e × Reached g
 
-  same_ending : (q : Bool) (g : Target) → IsKeptEnding r (end_at q g) (ending_to r (end_at q g))
+  pub same_ending : (q : Bool) (g : Target) → IsKeptEnding r (end_at q g) (ending_to r (end_at q g))
   same_ending q (field t) = kept_field (λ e. e)
   same_ending q (method o a g) = kept_method (λ h. h)
 
-  by_ends : (s : Sel) (b q : Bool) (t : Term) (d : ℕ) (g : Target) → ((k : ℕ) → ends F.table s k (at_spot b (to t)) ≡ map (ending_to r) (ends E.table s k (at_spot b t))) → Reached g → IsOnly E.table s (at_spot b t) d (end_at q g) → KeepsEnding s b t q g
-  by_ends s b q t d g h w o = (d, ending_to r (end_at q g), record { none = λ k l. h k ∙ ap (map (ending_to r)) (o.none k l); only = h d ∙ ap (map (ending_to r)) o.only }, same_ending q g, w)
+  pub image_only : (s : Sel) (b q : Bool) (t : Term) (d : ℕ) (g : Target) → ((k : ℕ) → ends F.table s k (at_spot b (to t)) ≡ map (ending_to r) (ends E.table s k (at_spot b t))) → IsOnly E.table s (at_spot b t) d (end_at q g) → IsOnly F.table s (at_spot b (to t)) d (ending_to r (end_at q g))
+  image_only s b q t d g h o = record { none = λ k l. h k ∙ ap (map (ending_to r)) (o.none k l); only = h d ∙ ap (map (ending_to r)) o.only }
 
-  exported_end : (t : Term) (s : Sel) (b q : Bool) (d : ℕ) (g : Target) → IsGiven pairs std t → s.«package» ≡ [] → (IsBlank s → ⊥) → IsOnly E.table s (at_spot b t) d (end_at q g) → KeepsEnding s b t q g
+  by_ends : (s : Sel) (b q : Bool) (t : Term) (d : ℕ) (g : Target) → ((k : ℕ) → ends F.table s k (at_spot b (to t)) ≡ map (ending_to r) (ends E.table s k (at_spot b t))) → Reached g → IsOnly E.table s (at_spot b t) d (end_at q g) → KeepsEnding s b t q g
+  by_ends s b q t d g h w o = (d, ending_to r (end_at q g), image_only s b q t d g h o, same_ending q g, w)
+
+  pub exported_end : (t : Term) (s : Sel) (b q : Bool) (d : ℕ) (g : Target) → IsGiven pairs std t → s.«package» ≡ [] → (IsBlank s → ⊥) → IsOnly E.table s (at_spot b t) d (end_at q g) → KeepsEnding s b t q g
   exported_end t s b q d (field v) h x n o = let f = K.types.found_field t s b q d v h x n o in (f.0, end_at f.1 (field (to v)), f.2, kept_field f.3, reach_given f.4)
   exported_end t s b q d (method w a g) h x n o =
       let f = K.types.found_method t s b q a d w g h (K.types.exported_open s x) o in
       (f.0, end_at f.1 (method f.3 f.2 (image_of_signature r same_sels g)), f.4, kept_method f.5, reach_given f.6)
 
-  given_end : (t : Term) (s : Sel) (b q : Bool) (d : ℕ) (g : Target) → IsGiven pairs std t → IsClientSel s → (IsBlank s → ⊥) → IsOnly E.table s (at_spot b t) d (end_at q g) → KeepsEnding s b t q g
+  pub given_end : (t : Term) (s : Sel) (b q : Bool) (d : ℕ) (g : Target) → IsGiven pairs std t → IsClientSel s → (IsBlank s → ⊥) → IsOnly E.table s (at_spot b t) d (end_at q g) → KeepsEnding s b t q g
   given_end t s b q d g h (inl x) n o = exported_end t s b q d g h x n o
   given_end t s b q d g h (inr x) n o = absurd (no_item (ends E.table s d (at_spot b t)) (end_at q g) (K.types.strange t s d b h x) o.only)
 

@@ -1,5 +1,6 @@
 pub mod Conversions
 pub mod FoundEnds
+pub mod FoundTypes
 pub mod Hypotheses
 pub mod Operands
 pub mod Own

@@ -1,6 +1,6 @@
 -- What an environment of a client keeps of another one, where some of the client's types and names may not be had yet.
 -- Own: all that the typing of a client asks of the rules.
-use Rattle.std.specs.Prelude.{◌≡◌, ℕ, Bool, true, false, List, [], Some}
+use Rattle.std.specs.Prelude.{◌≡◌, ◌≢◌, ℕ, Bool, true, false, List, [], Some}
 use Rattle.go_base.specs.Lists.{Has}
 use Rattle.go_model.specs.declared.types.names.Sel.{Sel}
 use Rattle.go_model.specs.declared.types.names.TypeName.{TypeName}
@@ -21,13 +21,14 @@ use Rattle.go_type_images.specs.Images.{Naming, image, same_sels}
 use Rattle.go_type_images.specs.Parts.{function_type, parts}
 use Rattle.go_type_images.specs.declared.pair.TypePair.{TypePair}
 use Rattle.go_client_types.specs.Preserving.{Preserves}
-use Rattle.go_client_types.specs.Reached.{ConstReached, IsMade, IsReached}
+use Rattle.go_client_types.specs.Reached.{ConstReached, IsClientSel, IsMade, IsReached}
 
--- the entry of a client's own type: what is underneath is made of types that it reaches, and so are the signatures of its methods
+-- the entry of a client's own type: what is underneath is made of types that it reaches, and so are the signatures of its methods, whose labels it writes
 pub record IsOwnEntry (pairs : List TypePair) (std : TypeName → Bool) (d : Defined) : Type 0 where
   pub made : IsMade (out-Term d.underlying)
   pub reached : (u : Term) → Has (parts (out-Term d.underlying)) u → IsReached pairs std u
   pub signatures : (m : MethodOf) → Has d.methods m → IsReached pairs std (function_type m.signature)
+  pub labels : (m : MethodOf) → Has d.methods m → IsClientSel m.sel
 
 -- the image of what a name means
 abbrev pub seen_to : Naming → Seen → Seen
@@ -64,7 +65,7 @@ pub record Keeps (E F : Env) (r : Naming) (pairs : List TypePair) (std : TypeNam
   pub own_entries : (n : TypeName) (d : Defined) → is_imported n ≡ false → entry E.table n ≡ Some d → IsOwnEntry pairs std d
   -- the same methods are missing of its own types, and none of others
   pub missing : (n : TypeName) → is_imported n ≡ false → F.missing n ≡ E.missing n
-  pub none_missing : (n : TypeName) → is_imported n ≡ true → (E.missing n ≡ []) × (F.missing n ≡ [])
+  pub none_missing : (n : TypeName) → n.path ≢ client_path → (E.missing n ≡ []) × (F.missing n ≡ [])
   -- a name means the image of what it meant
   pub meanings : (name : List ℕ) (m : Seen) → E.meaning name ≡ Some m → (F.meaning name ≡ Some (seen_to r m)) × SeenReached pairs std m
   -- an exported object of an import has a new one

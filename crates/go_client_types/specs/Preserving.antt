@@ -30,6 +30,11 @@ abbrev pub HasEntry : Table → Layer → Type 0
 HasEntry T (Term-F.Named n) = (d : Defined) × (entry T n ≡ Some d)
 HasEntry T l = Unit {0}
 
+-- no name of a client's type
+abbrev pub IsForeign : Layer → Type 0
+IsForeign (Term-F.Named n) = n.path ≢ client_path
+IsForeign l = Unit {0}
+
 -- of the same form: a struct, an interface, or the image with given parts
 abbrev pub IsKeptLayer : Naming → (Term → Type 0) → Layer → Layer → Type 0
 IsKeptLayer r given (Term-F.Struct fs) l = struct_layer l ≡ true
@@ -60,8 +65,8 @@ pub record Preserves (T U : Table) (r : Naming) (pairs : List TypePair) (std : T
       → (c : ℕ) × (k : Bool) × (e : Bool) × (m : Option TypeName) × IsOnly U s (at_spot b (image r same_sels t)) c (record { through = k; target = method m e (image_of_signature r same_sels g) }) × (Reaches a q → Reaches e k) × IsGiven pairs std (function_type g) × ((n : TypeName) → m ≡ Some n → n.path ≢ client_path)
   -- no selector of a client's package finds anything
   pub strange : (t : Term) (s : Sel) (k : ℕ) (b : Bool) → IsGiven pairs std t → s.«package» ≡ client_path → ends T s k (at_spot b t) ≡ []
-  -- all types on the way of a search from an image have entries
-  pub on_way : (t : Term) (b : Bool) (x : Spot) → IsGiven pairs std t → OnWay U (at_spot b (image r same_sels t)) x → HasEntry U (out-Term x.term)
+  -- all types on the way of a search from an image have entries, and none is a client's
+  pub on_way : (t : Term) (b : Bool) (x : Spot) → IsGiven pairs std t → OnWay U (at_spot b (image r same_sels t)) x → HasEntry U (out-Term x.term) × IsForeign (out-Term x.term)
   -- an interface of open methods has no new one
   pub unsealed : (i : Term) (ms : List Method) → IsGiven pairs std i → under T i ≡ Term-F.Interface ms → Each (λ m. is_open (method_sel m) ≡ true) ms → (n : Method) → Has (methods_of (under U (image r same_sels i))) n → (m : Method) × Has ms m × (n ≡ image_of_method r same_sels m)
   -- a type that implements one with another method implements the image

@@ -1,5 +1,5 @@
 //! Laws of a client's types in two environments, of which the new one keeps what the old one gives.
-ghost use Rattle.std.specs.Prelude.{◌≡◌, ℕ, List, Bool, true, false, map};
+ghost use Rattle.std.specs.Prelude.{◌≡◌, ◌⊎◌, ℕ, List, Bool, true, false, map};
 ghost use Rattle.go_base.specs.Lists.{Has as HasItem};
 ghost use Rattle.go_model.specs.declared.constants.value.Kind.{Kind};
 ghost use Rattle.go_model.specs.declared.constants.value.Untyped.{Untyped};
@@ -7,16 +7,17 @@ ghost use Rattle.go_model.specs.declared.constants.value.Value.{Value};
 ghost use Rattle.go_model.specs.declared.types.names.Sel.{Sel};
 ghost use Rattle.go_model.specs.declared.types.names.TypeName.{TypeName};
 ghost use Rattle.go_model.specs.declared.types.package.ConstTerm.{ConstTerm};
+ghost use Rattle.go_model.specs.declared.types.term.Signature.{Signature};
 ghost use Rattle.go_model.specs.declared.types.term.Term.{Term, out-Term};
 ghost use Rattle.go_model.specs.types.Assignability.{ChannelAssigns};
 ghost use Rattle.go_model.specs.types.Comparison.{Comparable};
 ghost use Rattle.go_model.specs.types.Conversions.{PointerConverts, UnderlyingConverts, basics_convert};
 ghost use Rattle.go_model.specs.types.Selectors.{Ending, IsOnly, Target, ends};
 ghost use Rattle.go_model.specs.types.Tables.{Table};
-ghost use Rattle.go_model.specs.types.Terms.{IsBlank, Layer};
+ghost use Rattle.go_model.specs.types.Terms.{IsBlank, Layer, client_path};
 ghost use Rattle.go_model.specs.types.Underlying.{under};
 ghost use Rattle.go_rules.specs.Asks.{IsOwnLayer, Meets};
-ghost use Rattle.go_rules.specs.Environments.{Entered, Env};
+ghost use Rattle.go_rules.specs.Environments.{Entered, Env, Found, HasMethod};
 ghost use Rattle.go_rules.specs.Expressions.{Has, OfType};
 ghost use Rattle.go_rules.specs.Growth.{Grows};
 ghost use Rattle.go_rules.specs.Nodes.{expression, type};
@@ -26,9 +27,9 @@ ghost use Rattle.go_rules.specs.declared.operand.Operand.{Operand};
 ghost use Rattle.go_syntax.specs.declared.expression.Expr.{Expr};
 ghost use Rattle.go_syntax.specs.declared.types.«Type».{«Type» as Typ};
 ghost use Rattle.go_type_images.specs.EntryImages.{const_to};
-ghost use Rattle.go_type_images.specs.Images.{Naming, image, image_of_layer, same_sels};
+ghost use Rattle.go_type_images.specs.Images.{Naming, image, image_of_layer, image_of_signature, same_sels};
 ghost use Rattle.go_type_images.specs.Levels.{is_structured};
-ghost use Rattle.go_type_images.specs.Parts.{parts};
+ghost use Rattle.go_type_images.specs.Parts.{function_type, parts};
 ghost use Rattle.go_type_images.specs.SpotImages.{at_spot, ending_to};
 ghost use Rattle.go_type_images.specs.declared.pair.TypePair.{TypePair};
 ghost use Rattle.go_client_types.specs.Endings.{IsKeptEnding, TargetReached, end_at};
@@ -90,4 +91,15 @@ pub fn found_endings()
     ensures { (E F : Env) (r : Naming) (pairs : List TypePair) (std : TypeName → Bool) (is_open : Sel → Bool) → Keeps E F r pairs std is_open → (t : Term) → IsReached pairs std t
         → (s : Sel) → IsClientSel s → (IsBlank s → ⊥) → (b through : Bool) (depth : ℕ) (g : Target) → IsOnly E.table s (at_spot b t) depth (end_at through g)
         → (found : ℕ) × (e : Ending) × IsOnly F.table s (at_spot b (image r same_sels t)) found e × IsKeptEnding r (end_at through g) e × TargetReached pairs std g }
+{}
+
+/// What a selector that a client may write finds in a type that it reaches, with all that was searched, it finds in the image; and a
+/// method that can be called there, of an open selector or of one of the client's package, can be called.
+pub fn kept_found()
+    ensures found { (E F : Env) (r : Naming) (pairs : List TypePair) (std : TypeName → Bool) (is_open : Sel → Bool) → Keeps E F r pairs std is_open → (t : Term) → IsReached pairs std t
+        → (s : Sel) → IsClientSel s → (IsBlank s → ⊥) → (through : Bool) (g : Target) → Found E s t (end_at through g)
+        → (e : Ending) × Found F s (image r same_sels t) e × IsKeptEnding r (end_at through g) e × TargetReached pairs std g }
+    ensures method { (E F : Env) (r : Naming) (pairs : List TypePair) (std : TypeName → Bool) (is_open : Sel → Bool) → Keeps E F r pairs std is_open → (addressable : Bool) (t : Term) → IsReached pairs std t
+        → (s : Sel) → (is_open s ≡ true) ⊎ (s.«package» ≡ client_path) → (g : Signature) → HasMethod E addressable t s g
+        → HasMethod F addressable (image r same_sels t) s (image_of_signature r same_sels g) × IsReached pairs std (function_type g) }
 {}
