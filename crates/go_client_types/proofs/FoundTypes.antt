@@ -34,7 +34,7 @@ use Rattle.go_client_types.proofs.Relations.{entered}
 use Rattle.go_client_types.proofs.Views as V
 use Rattle.go_client_types.proofs.Views.{view_given, view_interface, view_own, view_struct}
 
-in_map : {A B : Type 0} (f : A → B) (xs : List A) (y : B) → HasItem (map f xs) y → (x : A) × HasItem xs x × (f x ≡ y)
+pub in_map : {A B : Type 0} (f : A → B) (xs : List A) (y : B) → HasItem (map f xs) y → (x : A) × HasItem xs x × (f x ≡ y)
 in_map f [] y h = absurd h
 in_map f (x ∷ xs) y (inl e) = (x, inl refl, e)
 in_map f (x ∷ xs) y (inr h) = let g = in_map f xs y h in (g.0, inr g.1, g.2)
@@ -42,13 +42,13 @@ in_map f (x ∷ xs) y (inr h) = let g = in_map f xs y h in (g.0, inr g.1, g.2)
 -- ---- where searches begin
 
 module _ (r : Naming) where
-  abbrev lto : Term → Term
-  lto = image r same_sels
+  abbrev of_type : Term → Term
+  of_type = image r same_sels
 
-  abbrev llayer : Layer → Layer
-  llayer = image_of_layer r same_sels
+  abbrev of_level : Layer → Layer
+  of_level = image_of_layer r same_sels
 
-  pointer_image : (t base : Term) (u : Layer) → start_pointer (lto t) (lto base) (llayer u) ≡ spot_to r (start_pointer t base u)
+  pointer_image : (t base : Term) (u : Layer) → start_pointer (of_type t) (of_type base) (of_level u) ≡ spot_to r (start_pointer t base u)
   pointer_image t base (Term-F.Plain b) = refl
   pointer_image t base (Term-F.Named n) = refl
   pointer_image t base (Term-F.Pointer v) = refl
@@ -60,7 +60,7 @@ module _ (r : Naming) where
   pointer_image t base (Term-F.Struct fs) = refl
   pointer_image t base (Term-F.Interface ms) = refl
 
-  named_image : (t : Term) (u : Layer) → start_named (lto t) (llayer u) ≡ spot_to r (start_named t u)
+  named_image : (t : Term) (u : Layer) → start_named (of_type t) (of_level u) ≡ spot_to r (start_named t u)
   named_image t (Term-F.Plain b) = refl
   named_image t (Term-F.Named n) = refl
   named_image t (Term-F.Pointer v) = refl
@@ -72,7 +72,7 @@ module _ (r : Naming) where
   named_image t (Term-F.Struct fs) = refl
   named_image t (Term-F.Interface ms) = refl
 
-  defined_image : (l u : Layer) → is_defined_layer (llayer l) (llayer u) ≡ is_defined_layer l u
+  defined_image : (l u : Layer) → is_defined_layer (of_level l) (of_level u) ≡ is_defined_layer l u
   defined_image (Term-F.Plain b) u = refl
   defined_image (Term-F.Named n) (Term-F.Plain b) = refl
   defined_image (Term-F.Named n) (Term-F.Named m) = refl
@@ -207,11 +207,11 @@ named_term P t (Term-F.Func g) p q = p
 named_term P t (Term-F.Struct fs) p q = p
 named_term P t (Term-F.Interface ms) p q = p
 
--- a search begins at a type of the sort, where its parts and the base underneath are of it
-pub start_term : (P : Term → Type 0) (T : _) (t : Term) (l : Layer) → P t → ((u : Term) → HasItem (parts l) u → P u) → ((u : Term) → under T t ≡ Term-F.Pointer u → P u) → P (start_layer T t l).term
+-- a search begins at a type of the sort, where the bases of a pointer and of one underneath are of it
+pub start_term : (P : Term → Type 0) (T : _) (t : Term) (l : Layer) → P t → ((u : Term) → l ≡ Term-F.Pointer u → P u) → ((u : Term) → under T t ≡ Term-F.Pointer u → P u) → P (start_layer T t l).term
 start_term P T t (Term-F.Plain b) p q h = p
 start_term P T t (Term-F.Named n) p q h = named_term P t (under T t) p h
-start_term P T t (Term-F.Pointer v) p q h = pointer_term P t v (under T v) p (q v (inl refl))
+start_term P T t (Term-F.Pointer v) p q h = pointer_term P t v (under T v) p (q v refl)
 start_term P T t (Term-F.Slice v) p q h = p
 start_term P T t (Term-F.Array n v) p q h = p
 start_term P T t (Term-F.Map k v) p q h = p
@@ -226,11 +226,11 @@ told_on : (F : Env) (s : Sel) (k : ℕ) (at : Spot) → ((x : Spot) → OnWay F.
 told_on F s zero at h = h at here
 told_on F s (suc k) at h = (h at here, λ next j. told_on F s k next (λ x w. h x (further j w)))
 
-through_flag : (q : Bool) (P : Bool → Type 0) → P (if q then true else false) → P q
+pub through_flag : (q : Bool) (P : Bool → Type 0) → P (if q then true else false) → P q
 through_flag true P h = h
 through_flag false P h = h
 
-flag_through : (q : Bool) (P : Bool → Type 0) → P q → P (if q then true else false)
+pub flag_through : (q : Bool) (P : Bool → Type 0) → P q → P (if q then true else false)
 flag_through true P h = h
 flag_through false P h = h
 
@@ -297,7 +297,7 @@ module _ (E F : Env) (r : Naming) (pairs : List TypePair) (std : TypeName → Bo
   start_kept t h = ap (start_layer F.table (to t)) (out_image r same_sels t) ∙ start_by t (out-Term t) h (parts_reached t h)
 
   pub start_reached : (t : Term) → R t → R (start E.table t).term
-  start_reached t h = start_term R E.table t (out-Term t) h (parts_reached t h) (λ u e. (V.form_kept E F r pairs std is_open K t (Term-F.Pointer u) h refl e).1 u (inl refl))
+  start_reached t h = start_term R E.table t (out-Term t) h (λ u e. parts_reached t h u (subst (λ l. HasItem (parts l) u) (sym e) (inl refl))) (λ u e. (V.form_kept E F r pairs std is_open K t (Term-F.Pointer u) h refl e).1 u (inl refl))
 
   defined_by : (t : Term) → View t → is_defined_layer (out-Term (to t)) (under F.table (to t)) ≡ is_defined_layer (out-Term t) (under E.table t)
   defined_by t (view_own f o k) = (λ i. is_defined_layer (out_image r same_sels t i) (f i)) ∙ defined_image r (out-Term t) (under E.table t)

@@ -2,6 +2,7 @@ pub mod Conversions
 pub mod FoundEnds
 pub mod FoundTypes
 pub mod Hypotheses
+pub mod Implementing
 pub mod Operands
 pub mod Own
 pub mod Relations

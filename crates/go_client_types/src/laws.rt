@@ -22,7 +22,7 @@ ghost use Rattle.go_rules.specs.Expressions.{Has, OfType};
 ghost use Rattle.go_rules.specs.Growth.{Grows};
 ghost use Rattle.go_rules.specs.Nodes.{expression, type};
 ghost use Rattle.go_rules.specs.Operands.{HasKind, IsTyped, IsUntyped, ShapeWithin, constant_of};
-ghost use Rattle.go_rules.specs.Usability.{UsableAs};
+ghost use Rattle.go_rules.specs.Usability.{Implements, UsableAs};
 ghost use Rattle.go_rules.specs.declared.operand.Operand.{Operand};
 ghost use Rattle.go_syntax.specs.declared.expression.Expr.{Expr};
 ghost use Rattle.go_syntax.specs.declared.types.«Type».{«Type» as Typ};
@@ -102,4 +102,10 @@ pub fn kept_found()
     ensures method { (E F : Env) (r : Naming) (pairs : List TypePair) (std : TypeName → Bool) (is_open : Sel → Bool) → Keeps E F r pairs std is_open → (addressable : Bool) (t : Term) → IsReached pairs std t
         → (s : Sel) → (is_open s ≡ true) ⊎ (s.«package» ≡ client_path) → (g : Signature) → HasMethod E addressable t s g
         → HasMethod F addressable (image r same_sels t) s (image_of_signature r same_sels g) × IsReached pairs std (function_type g) }
+{}
+
+/// A type that a client reaches, which implements an interface that it reaches, implements the image of the interface on the new side.
+pub fn kept_interfaces()
+    ensures { (E F : Env) (r : Naming) (pairs : List TypePair) (std : TypeName → Bool) (is_open : Sel → Bool) → Keeps E F r pairs std is_open → (t interface : Term) → IsReached pairs std t → IsReached pairs std interface
+        → Implements E t interface → Implements F (image r same_sels t) (image r same_sels interface) }
 {}
