@@ -18,7 +18,7 @@ use Rattle.go_model.specs.types.Terms.{Layer}
 use Rattle.go_model.specs.types.Underlying.{entry, methods_of, under}
 use Rattle.go_rules.specs.Environments.{Entered, EnteredLayer, Env}
 use Rattle.go_rules.specs.Operands.{IsTyped}
-use Rattle.go_rules.specs.Usability.{DefaultHolds, UsableAs, holds_nil, use_constant, use_constant_as_any, use_nil, use_truth, use_truth_as_any, use_value}
+use Rattle.go_rules.specs.Usability.{Compares, DefaultHolds, LeadsTo, UsableAs, holds_nil, leads_array, leads_here, leads_struct, use_constant, use_constant_as_any, use_nil, use_truth, use_truth_as_any, use_value}
 use Rattle.go_rules.specs.declared.operand.Operand.{Operand}
 use Rattle.go_type_images.specs.EntryImages.{defined_to, entry_to}
 use Rattle.go_type_images.specs.Images.{Naming, image, image_of_field, image_of_layer, same_sels}
@@ -236,6 +236,29 @@ module _ (E F : Env) (r : Naming) (pairs : List TypePair) (std : TypeName → Bo
   entered t (reach_given g) x = given_entry (out-Term (to r t)) (K.types.has_entry t g).1
   entered t (reach_own {n = n} e h) x = subst (EnteredLayer F) (sym (out_image r same_sels t ∙ ap (layer r) e)) (own_entry n h (subst (EnteredLayer E) e x))
   entered t (reach_made m h) x = subst (EnteredLayer F) (sym (out_image r same_sels t)) (made_entry (out-Term t) m)
+
+  -- ---- what compares, with each type to which a path leads
+
+  leads : (t : Term) → R t → ((z : Term) → LeadsTo E.table t z → Entered E z) → (v : Term) → v ≡ to r t → (u : Term) → LeadsTo F.table v u → View t → Entered F u
+  leads t h c v e u leads_here w = subst (Entered F) (sym e) (entered t h (c t leads_here))
+  leads t h c v e u (leads_array l d) (view_given g s f k) = given_entry (out-Term u) (K.types.leads t u g (subst (λ x. LeadsTo F.table x u) e (leads_array l d)))
+  leads t h c v e u (leads_array l d) (view_struct g s f) = given_entry (out-Term u) (K.types.leads t u g (subst (λ x. LeadsTo F.table x u) e (leads_array l d)))
+  leads t h c v e u (leads_array l d) (view_interface g s f) = given_entry (out-Term u) (K.types.leads t u g (subst (λ x. LeadsTo F.table x u) e (leads_array l d)))
+  leads t h c v e u (leads_array {e = x} {n = n} l d) (view_own f o k) =
+      let i = array_image r (under E.table t) n x (sym f ∙ ap (under F.table) (sym e) ∙ l) in
+      let p = k i.1 (subst (λ y. HasItem (parts y) i.1) (sym i.2) (inl refl)) in
+      leads i.1 p (λ z w. c z (leads_array i.2 w)) x i.3 u d (view i.1 p)
+  leads t h c v e u (leads_struct g l q d) (view_given a s f k) = given_entry (out-Term u) (K.types.leads t u a (subst (λ x. LeadsTo F.table x u) e (leads_struct g l q d)))
+  leads t h c v e u (leads_struct g l q d) (view_struct a s f) = given_entry (out-Term u) (K.types.leads t u a (subst (λ x. LeadsTo F.table x u) e (leads_struct g l q d)))
+  leads t h c v e u (leads_struct g l q d) (view_interface a s f) = given_entry (out-Term u) (K.types.leads t u a (subst (λ x. LeadsTo F.table x u) e (leads_struct g l q d)))
+  leads t h c v e u (leads_struct {fs = gs} g l q d) (view_own f o k) =
+      let i = struct_image r (under E.table t) gs (sym f ∙ ap (under F.table) (sym e) ∙ l) in
+      let j = field_image r i.0 g (subst (λ xs. HasItem xs g) i.2 q) in
+      let p = k (field_type j.0) (subst (λ y. HasItem (parts y) (field_type j.0)) (sym i.1) (in_fields i.0 j.0 j.1)) in
+      leads (field_type j.0) p (λ z w. c z (leads_struct j.0 i.1 j.1 w)) (field_type g) j.2 u d (view (field_type j.0) p)
+
+  pub compares : (t : Term) → R t → Compares E t → Compares F (to r t)
+  compares t h c = record { comparable = comparable t h c.comparable; entered = λ u d. leads t h c.entered (to r t) refl u d (view t h) }
 
   -- ---- values without a type
 

@@ -1,7 +1,7 @@
 -- What a new table of types keeps of an old one, of the types that a client is given.
 -- Own: all that the typing of a client asks of them.
-use Rattle.std.specs.Prelude.{◌≡◌, ◌≢◌, ℕ, Bool, true, false, List, [], Option, Some}
-use Rattle.go_base.specs.Lists.{Each, Has}
+use Rattle.std.specs.Prelude.{◌≡◌, ◌≢◌, ℕ, Bool, true, false, List, [], map, Option, Some}
+use Rattle.go_base.specs.Lists.{Each, Has, Once}
 use Rattle.go_model.specs.declared.types.names.Sel.{Sel}
 use Rattle.go_model.specs.declared.types.names.TypeName.{TypeName}
 use Rattle.go_model.specs.declared.types.package.Defined.{Defined}
@@ -16,7 +16,8 @@ use Rattle.go_model.specs.types.MethodSets.{Implements, Reaches, method_sel}
 use Rattle.go_model.specs.types.Selectors.{IsOnly, Spot, ends, field, method}
 use Rattle.go_model.specs.types.Tables.{Table}
 use Rattle.go_model.specs.types.Terms.{IsBlank, Layer, client_path, pointer_to}
-use Rattle.go_model.specs.types.Underlying.{entry, fields_of, methods_of, under}
+use Rattle.go_model.specs.types.Underlying.{declared_methods, entry, fields_of, methods_of, under}
+use Rattle.go_rules.specs.Usability.{LeadsTo}
 use Rattle.go_selectors.specs.Ways.{OnWay}
 use Rattle.go_type_images.specs.Images.{Naming, image, image_of_layer, image_of_method, image_of_signature, same_sels}
 use Rattle.go_type_images.specs.Parts.{field_type, function_type, parts}
@@ -75,5 +76,9 @@ pub record Preserves (T U : Table) (r : Naming) (pairs : List TypePair) (std : T
   pub sealed_pointer : (v i : Term) (ms : List Method) (m : Method) → IsGiven pairs std v → IsGiven pairs std i → under T i ≡ Term-F.Interface ms → Has ms m → is_open (method_sel m) ≡ false → Implements T (pointer_to v) i → Implements U (pointer_to (image r same_sels v)) (image r same_sels i)
   -- a comparable type stays so
   pub compares : (t : Term) → IsGiven pairs std t → Comparable T t → Comparable U (image r same_sels t)
+  -- types to which a path leads from an image have entries
+  pub leads : (t u : Term) → IsGiven pairs std t → LeadsTo U (image r same_sels t) u → HasEntry U (out-Term u)
+  -- an interface has each selector once, and no method is declared for it
+  pub interfaces : (t : Term) (ms : List Method) → IsGiven pairs std t → under T t ≡ Term-F.Interface ms → Once (map method_sel ms) × (declared_methods T (out-Term t) ≡ [])
   -- different given names have different images
   pub apart : (s t : Term) (m n : TypeName) → IsGiven pairs std s → IsGiven pairs std t → out-Term s ≡ Term-F.Named m → out-Term t ≡ Term-F.Named n → r m ≡ r n → m ≡ n
