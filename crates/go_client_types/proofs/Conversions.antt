@@ -32,14 +32,14 @@ use Rattle.go_client_types.proofs.Views.{view_given, view_interface, view_own, v
 
 -- ---- words on two truths
 
-true_false : {b : Bool} → b ≡ true → b ≡ false → ⊥
+pub true_false : {b : Bool} → b ≡ true → b ≡ false → ⊥
 true_false e f = let g : true ≡ false = sym e ∙ f in absurd (cc)
 
-neither : (a b : Bool) → (a || b) ≡ false → (a ≡ false) × (b ≡ false)
+pub neither : (a b : Bool) → (a || b) ≡ false → (a ≡ false) × (b ≡ false)
 neither true b e = absurd (cc)
 neither false b e = (refl, e)
 
-none_of : (a b : Bool) → a ≡ false → b ≡ false → (a || b) ≡ false
+pub none_of : (a b : Bool) → a ≡ false → b ≡ false → (a || b) ≡ false
 none_of a b e f = ap (λ x. x || b) e ∙ f
 
 pub permitted : (p a b : Bool) → p ≡ true → (p && (a || b)) ≡ false → (a ≡ false) × (b ≡ false)
@@ -61,7 +61,7 @@ right_of : (a b : Bool) → b ≡ true → (a || b) ≡ true
 right_of true b e = refl
 right_of false b e = e
 
-all_of : (a b : Bool) → (a && b) ≡ true → (a ≡ true) × (b ≡ true)
+pub all_of : (a b : Bool) → (a && b) ≡ true → (a ≡ true) × (b ≡ true)
 all_of true b e = (refl, e)
 all_of false b e = absurd (cc)
 

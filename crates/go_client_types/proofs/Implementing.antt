@@ -31,6 +31,7 @@ use Rattle.go_type_images.proofs.ImageLevels.{image_of, out_image, out_image_met
 use Rattle.go_client_types.specs.Keeping.{Keeps}
 use Rattle.go_client_types.specs.Preserving.{IsKeptLayer}
 use Rattle.go_client_types.specs.Reached.{IsClientSel, IsGiven, IsMade, IsMadeField, IsReached, reach_given, reach_made, reach_own}
+use Rattle.go_client_types.proofs.Conversions.{true_false}
 use Rattle.go_client_types.proofs.FoundEnds as W
 use Rattle.go_client_types.proofs.FoundEnds.{either, first_of, no_item, own_kept}
 use Rattle.go_client_types.proofs.FoundTypes as S
@@ -60,9 +61,6 @@ in_gather f (z ∷ xs) x y (inr h) k = has_right (f z) (gather f xs) y (in_gathe
 
 nothing_in : {A : Type 0} (xs : List A) (x : A) → xs ≡ [] → HasItem xs x → ⊥
 nothing_in xs x e h = subst (λ ys. HasItem ys x) e h
-
-true_false : {b : Bool} → b ≡ true → b ≡ false → ⊥
-true_false e f = let g : true ≡ false = sym e ∙ f in absurd (cc)
 
 -- each method passes the test, or one fails
 each_or_one : (test : Method → Bool) (ms : List Method) → Each (λ m. test m ≡ true) ms ⊎ ((m : Method) × HasItem ms m × (test m ≡ false))

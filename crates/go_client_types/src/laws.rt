@@ -22,7 +22,7 @@ ghost use Rattle.go_rules.specs.Expressions.{Has, OfType};
 ghost use Rattle.go_rules.specs.Growth.{Grows};
 ghost use Rattle.go_rules.specs.Nodes.{expression, type};
 ghost use Rattle.go_rules.specs.Operands.{HasKind, IsTyped, IsUntyped, ShapeWithin, constant_of};
-ghost use Rattle.go_rules.specs.Usability.{Implements, UsableAs};
+ghost use Rattle.go_rules.specs.Usability.{Assignable, Compares, Convertible, Implements, Match, UsableAs};
 ghost use Rattle.go_rules.specs.declared.operand.Operand.{Operand};
 ghost use Rattle.go_syntax.specs.declared.expression.Expr.{Expr};
 ghost use Rattle.go_syntax.specs.declared.types.«Type».{«Type» as Typ};
@@ -108,4 +108,14 @@ pub fn kept_found()
 pub fn kept_interfaces()
     ensures { (E F : Env) (r : Naming) (pairs : List TypePair) (std : TypeName → Bool) (is_open : Sel → Bool) → Keeps E F r pairs std is_open → (t interface : Term) → IsReached pairs std t → IsReached pairs std interface
         → Implements E t interface → Implements F (image r same_sels t) (image r same_sels interface) }
+{}
+
+/// Of types that a client reaches, one is assignable and convertible to another on the new side where it was, and one that compares, with
+/// each type to which a path leads, does so; and an operand may be used as a value of the image, and two match, where they did.
+pub fn kept_assignability()
+    ensures assignable { (E F : Env) (r : Naming) (pairs : List TypePair) (std : TypeName → Bool) (is_open : Sel → Bool) → Keeps E F r pairs std is_open → (t u : Term) → IsReached pairs std t → IsReached pairs std u → Assignable E t u → Assignable F (image r same_sels t) (image r same_sels u) }
+    ensures convertible { (E F : Env) (r : Naming) (pairs : List TypePair) (std : TypeName → Bool) (is_open : Sel → Bool) → Keeps E F r pairs std is_open → (t u : Term) → IsReached pairs std t → IsReached pairs std u → Convertible E t u → Convertible F (image r same_sels t) (image r same_sels u) }
+    ensures compares { (E F : Env) (r : Naming) (pairs : List TypePair) (std : TypeName → Bool) (is_open : Sel → Bool) → Keeps E F r pairs std is_open → (t : Term) → IsReached pairs std t → Compares E t → Compares F (image r same_sels t) }
+    ensures usable { (E F : Env) (r : Naming) (pairs : List TypePair) (std : TypeName → Bool) (is_open : Sel → Bool) → Keeps E F r pairs std is_open → (o p : Operand) (t : Term) → After r pairs std o p → IsReached pairs std t → UsableAs E o t → UsableAs F p (image r same_sels t) }
+    ensures matching { (E F : Env) (r : Naming) (pairs : List TypePair) (std : TypeName → Bool) (is_open : Sel → Bool) → Keeps E F r pairs std is_open → (o p x y : Operand) (c : ConstTerm) → After r pairs std o p → After r pairs std x y → Match E o x c → Match F p y (const_to r c) × ConstReached pairs std c }
 {}
