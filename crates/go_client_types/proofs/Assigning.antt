@@ -1,10 +1,10 @@
 -- Which types that a client reaches are assignable and convertible to which, and which values may be used and stand together, on both sides.
-use Rattle.std.proofs.Common.{◌≡◌, ◌⊎◌, inl, inr, ℕ, zero, suc, Bool, true, false, ◌||◌, ◌&&◌, List, [], ◌∷◌, refl, sym, ap, ◌∙◌, subst}
+use Rattle.std.proofs.Common.{◌≡◌, inl, ℕ, zero, suc, Bool, true, false, ◌&&◌, List, [], refl, sym, ap, ◌∙◌, subst}
 use Rattle.std.specs.Prelude.{not}
 use Rattle.std.specs.Str.{bytes_eq}
 use Rattle.std.proofs.lemmas.Slice.Eq.{bytes_eq-Decides}
 use Rattle.go_base.specs.Gathered.{gather}
-use Rattle.go_base.specs.Lists.{Has as HasItem, Once}
+use Rattle.go_base.specs.Lists.{Has as HasItem}
 use Rattle.go_model.specs.declared.constants.value.Untyped.{Untyped}
 use Rattle.go_model.specs.declared.constants.value.Untyped.TheVariants as untyped
 use Rattle.go_model.specs.declared.constants.value.Value.{Value}
@@ -15,19 +15,18 @@ use Rattle.go_model.specs.declared.types.package.ConstTerm.TheVariants as consta
 use Rattle.go_model.specs.declared.types.term.Method.{Method}
 use Rattle.go_model.specs.declared.types.term.Term.{Term, Term-F, out-Term}
 use Rattle.go_model.specs.types.Assignability.{UnderlyingAssigns}
-use Rattle.go_model.specs.types.Imports.{imported_interface, imported_struct, is_imported, is_imported_interface, is_imported_open, is_imported_struct, is_named, is_named_layer}
+use Rattle.go_model.specs.types.Imports.{imported_interface, is_imported, is_imported_interface, is_imported_open, is_imported_struct, is_named, is_named_layer}
 use Rattle.go_model.specs.types.Selectors.{start, step}
 use Rattle.go_model.specs.types.Tables.{Table}
 use Rattle.go_model.specs.types.Terms.{Layer, client_path}
 use Rattle.go_model.specs.types.Underlying.{declared_methods, fields_of, under, under_layer}
-use Rattle.go_rules.specs.Environments.{Begins, BeginsLayer, Entered, EnteredLayer, Env, Told, ToldLayer, ToldTo, is_among}
-use Rattle.go_rules.specs.Operands.{IsTyped, IsUntyped, constant_of, loose, nil}
+use Rattle.go_rules.specs.Environments.{BeginsLayer, Entered, EnteredLayer, Env, Told, ToldLayer, ToldTo, is_among}
+use Rattle.go_rules.specs.Operands.{IsTyped, constant_of, loose, nil}
 use Rattle.go_rules.specs.Usability.{Assignable, Convertible, Implements, Match, UsableAs, assign_channel, assign_identical, assign_interface, assign_underlying, convert_assignable, convert_basic, convert_pointer, convert_underlying, BasesEntered, match_kinds, match_left, match_right, match_types, use_constant, use_constant_as_any, use_nil, use_truth, use_truth_as_any, use_value}
 use Rattle.go_rules.specs.declared.operand.Operand.{Operand}
 use Rattle.go_types.proofs.Interfaces as I
 use Rattle.go_type_images.specs.EntryImages.{const_to}
 use Rattle.go_type_images.specs.Images.{Naming, image, image_of_layer, same_sels}
-use Rattle.go_type_images.specs.Levels.{interface_layer}
 use Rattle.go_type_images.specs.Parts.{parts}
 use Rattle.go_type_images.specs.SpotImages.{at_spot}
 use Rattle.go_type_images.specs.declared.pair.TypePair.{TypePair}
@@ -112,10 +111,10 @@ module _ (E F : Env) (r : Naming) (pairs : List TypePair) (std : TypeName → Bo
 
   images_assigned : (t u : Term) → R t → R u → Entered E t → Entered E u → is_imported_open E.table t ≡ false → is_imported_open E.table u ≡ false → UnderlyingAssigns E.table E.profile t u → Assignable F (to t) (to u)
   images_assigned t u h k x y o q a = assign_underlying (entered t h x) (entered u k y) (record {
-      same = C.image_beneath E F r pairs std is_open K t h o ∙ ap layer a.same ∙ sym (C.image_beneath E F r pairs std is_open K u k q);
-      unnamed = (λ i. C.named_too E F r pairs std is_open K t i && C.named_too E F r pairs std is_open K u i) ∙ a.unnamed;
-      permitted = permitted_too F.profile (is_imported_struct F.table (to t)) (is_imported_struct F.table (to u)) (neither _ _ (C.not_open E F r pairs std is_open K t h o)).0 (neither _ _ (C.not_open E F r pairs std is_open K u k q)).0;
-    })
+    same = C.image_beneath E F r pairs std is_open K t h o ∙ ap layer a.same ∙ sym (C.image_beneath E F r pairs std is_open K u k q);
+    unnamed = (λ i. C.named_too E F r pairs std is_open K t i && C.named_too E F r pairs std is_open K u i) ∙ a.unnamed;
+    permitted = permitted_too F.profile (is_imported_struct F.table (to t)) (is_imported_struct F.table (to u)) (neither _ _ (C.not_open E F r pairs std is_open K t h o)).0 (neither _ _ (C.not_open E F r pairs std is_open K u k q)).0;
+  })
 
   given_named : (t : Term) (n : TypeName) → out-Term t ≡ Term-F.Named n → is_imported n ≡ true → R t → Given t
   given_named t n e i (reach_given g) = g

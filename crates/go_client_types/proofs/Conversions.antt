@@ -1,16 +1,15 @@
 -- What converts, and which channels are assigned, on both sides.
-use Rattle.std.proofs.Common.{◌≡◌, Bool, true, false, ◌||◌, ◌&&◌, ◌⊎◌, inl, inr, List, [], ◌∷◌, refl, sym, ap, ◌∙◌, subst}
+use Rattle.std.proofs.Common.{◌≡◌, Bool, true, false, ◌||◌, ◌&&◌, ◌⊎◌, inl, inr, List, [], refl, sym, ap, ◌∙◌, subst}
 use Rattle.go_base.specs.Lists.{Has as HasItem}
-use Rattle.go_model.specs.constants.Classes.{class_of_basic, is_string}
 use Rattle.go_model.specs.declared.constants.value.Basic.{Basic}
 use Rattle.go_model.specs.declared.types.names.Sel.{Sel}
 use Rattle.go_model.specs.declared.types.names.TypeName.{TypeName}
 use Rattle.go_model.specs.declared.types.term.Direction.{Direction}
 use Rattle.go_model.specs.declared.types.term.Direction.TheVariants as towards
 use Rattle.go_model.specs.declared.types.term.Term.{Term, Term-F, out-Term, roll-Term}
-use Rattle.go_model.specs.types.Assignability.{AreChannels, ChannelAssigns, UnderlyingAssigns}
+use Rattle.go_model.specs.types.Assignability.{AreChannels, ChannelAssigns}
 use Rattle.go_model.specs.types.Conversions.{PointerConverts, UnderlyingConverts, basics_convert, both_basic, is_character, is_characters, is_text}
-use Rattle.go_model.specs.types.Imports.{imported_interface, imported_struct, is_imported, is_imported_open, is_imported_struct, is_named, is_named_layer}
+use Rattle.go_model.specs.types.Imports.{imported_interface, imported_struct, is_imported, is_imported_open, is_named, is_named_layer}
 use Rattle.go_model.specs.types.Tags.{bare, untagged}
 use Rattle.go_model.specs.types.Tables.{Table}
 use Rattle.go_model.specs.types.Terms.{Layer}
@@ -295,8 +294,8 @@ module _ (E F : Env) (r : Naming) (pairs : List TypePair) (std : TypeName → Bo
     from_is = out_image r same_sels t ∙ ap layer c.from_is;
     to_is = out_image r same_sels u ∙ ap layer c.to_is;
     converts = underlying_kept c.base c.other
-      (part_reached t c.base h (subst (λ l. HasItem (parts l) c.base) (sym c.from_is) (inl refl)))
-      (part_reached u c.other k (subst (λ l. HasItem (parts l) c.other) (sym c.to_is) (inl refl))) c.converts;
+        (part_reached t c.base h (subst (λ l. HasItem (parts l) c.base) (sym c.from_is) (inl refl)))
+        (part_reached u c.other k (subst (λ l. HasItem (parts l) c.other) (sym c.to_is) (inl refl))) c.converts;
   }
 
   plain_too : (t : Term) (b : Basic) → R t → under E.table t ≡ Term-F.Plain b → under F.table (to t) ≡ under E.table t
