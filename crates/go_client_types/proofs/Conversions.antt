@@ -1,16 +1,15 @@
 -- What converts, and which channels are assigned, on both sides.
-use Rattle.std.proofs.Common.{◌≡◌, Bool, true, false, ◌||◌, ◌&&◌, ◌⊎◌, inl, inr, List, [], ◌∷◌, refl, sym, ap, ◌∙◌, subst}
+use Rattle.std.proofs.Common.{◌≡◌, Bool, true, false, ◌||◌, ◌&&◌, ◌⊎◌, inl, inr, List, [], refl, sym, ap, ◌∙◌, subst}
 use Rattle.go_base.specs.Lists.{Has as HasItem}
-use Rattle.go_model.specs.constants.Classes.{class_of_basic, is_string}
 use Rattle.go_model.specs.declared.constants.value.Basic.{Basic}
 use Rattle.go_model.specs.declared.types.names.Sel.{Sel}
 use Rattle.go_model.specs.declared.types.names.TypeName.{TypeName}
 use Rattle.go_model.specs.declared.types.term.Direction.{Direction}
 use Rattle.go_model.specs.declared.types.term.Direction.TheVariants as towards
 use Rattle.go_model.specs.declared.types.term.Term.{Term, Term-F, out-Term, roll-Term}
-use Rattle.go_model.specs.types.Assignability.{AreChannels, ChannelAssigns, UnderlyingAssigns}
+use Rattle.go_model.specs.types.Assignability.{AreChannels, ChannelAssigns}
 use Rattle.go_model.specs.types.Conversions.{PointerConverts, UnderlyingConverts, basics_convert, both_basic, is_character, is_characters, is_text}
-use Rattle.go_model.specs.types.Imports.{imported_interface, imported_struct, is_imported, is_imported_open, is_imported_struct, is_named, is_named_layer}
+use Rattle.go_model.specs.types.Imports.{imported_interface, imported_struct, is_imported, is_imported_open, is_named, is_named_layer}
 use Rattle.go_model.specs.types.Tags.{bare, untagged}
 use Rattle.go_model.specs.types.Tables.{Table}
 use Rattle.go_model.specs.types.Terms.{Layer}
@@ -32,14 +31,14 @@ use Rattle.go_client_types.proofs.Views.{view_given, view_interface, view_own, v
 
 -- ---- words on two truths
 
-true_false : {b : Bool} → b ≡ true → b ≡ false → ⊥
+pub true_false : {b : Bool} → b ≡ true → b ≡ false → ⊥
 true_false e f = let g : true ≡ false = sym e ∙ f in absurd (cc)
 
-neither : (a b : Bool) → (a || b) ≡ false → (a ≡ false) × (b ≡ false)
+pub neither : (a b : Bool) → (a || b) ≡ false → (a ≡ false) × (b ≡ false)
 neither true b e = absurd (cc)
 neither false b e = (refl, e)
 
-none_of : (a b : Bool) → a ≡ false → b ≡ false → (a || b) ≡ false
+pub none_of : (a b : Bool) → a ≡ false → b ≡ false → (a || b) ≡ false
 none_of a b e f = ap (λ x. x || b) e ∙ f
 
 pub permitted : (p a b : Bool) → p ≡ true → (p && (a || b)) ≡ false → (a ≡ false) × (b ≡ false)
@@ -61,7 +60,7 @@ right_of : (a b : Bool) → b ≡ true → (a || b) ≡ true
 right_of true b e = refl
 right_of false b e = e
 
-all_of : (a b : Bool) → (a && b) ≡ true → (a ≡ true) × (b ≡ true)
+pub all_of : (a b : Bool) → (a && b) ≡ true → (a ≡ true) × (b ≡ true)
 all_of true b e = (refl, e)
 all_of false b e = absurd (cc)
 
@@ -295,8 +294,8 @@ module _ (E F : Env) (r : Naming) (pairs : List TypePair) (std : TypeName → Bo
     from_is = out_image r same_sels t ∙ ap layer c.from_is;
     to_is = out_image r same_sels u ∙ ap layer c.to_is;
     converts = underlying_kept c.base c.other
-      (part_reached t c.base h (subst (λ l. HasItem (parts l) c.base) (sym c.from_is) (inl refl)))
-      (part_reached u c.other k (subst (λ l. HasItem (parts l) c.other) (sym c.to_is) (inl refl))) c.converts;
+        (part_reached t c.base h (subst (λ l. HasItem (parts l) c.base) (sym c.from_is) (inl refl)))
+        (part_reached u c.other k (subst (λ l. HasItem (parts l) c.other) (sym c.to_is) (inl refl))) c.converts;
   }
 
   plain_too : (t : Term) (b : Basic) → R t → under E.table t ≡ Term-F.Plain b → under F.table (to t) ≡ under E.table t

@@ -1,19 +1,17 @@
 -- What selectors find in the types that a client reaches, on both sides, with all that was searched.
-use Rattle.std.proofs.Common.{◌≡◌, ◌⊎◌, inl, inr, ℕ, zero, suc, Bool, true, false, ◌||◌, List, [], ◌∷◌, map, refl, sym, ap, ◌∙◌, subst, Option, Some, None}
+use Rattle.std.proofs.Common.{◌≡◌, ◌⊎◌, inl, inr, ℕ, zero, suc, Bool, true, false, List, [], ◌∷◌, map, refl, sym, ap, ◌∙◌, subst, Option}
 use Rattle.std.specs.Prelude.{if◌then◌else◌}
 use Rattle.go_base.specs.Lists.{Has as HasItem}
 use Rattle.go_model.specs.declared.types.names.Sel.{Sel}
 use Rattle.go_model.specs.declared.types.names.TypeName.{TypeName}
-use Rattle.go_model.specs.declared.types.package.Defined.{Defined}
 use Rattle.go_model.specs.declared.types.term.Signature.{Signature}
 use Rattle.go_model.specs.declared.types.term.Term.{Term, Term-F, out-Term}
-use Rattle.go_model.specs.types.Imports.{is_imported}
 use Rattle.go_model.specs.types.MethodSets.{Reaches}
 use Rattle.go_model.specs.types.Selectors.{Ending, IsOnly, Spot, Target, ends, is_defined_layer, is_defined_pointer, method, start, start_layer, start_named, start_pointer, steps}
 use Rattle.go_model.specs.types.Terms.{IsBlank, Layer, client_path}
 use Rattle.go_model.specs.types.Underlying.{entry, under}
 use Rattle.go_rules.specs.Asks.{IsOwnLayer}
-use Rattle.go_rules.specs.Environments.{Begins, BeginsLayer, Entered, Env, Found, HasMethod, Told, ToldLayer, ToldTo, is_among}
+use Rattle.go_rules.specs.Environments.{Begins, BeginsLayer, Env, Found, HasMethod, Told, ToldLayer, ToldTo, is_among}
 use Rattle.go_selectors.specs.Ways.{OnWay, further, here}
 use Rattle.go_type_images.specs.EntryImages.{defined_to, entry_to}
 use Rattle.go_type_images.specs.Images.{Naming, image, image_of_layer, image_of_signature, same_sels}
@@ -369,15 +367,21 @@ module _ (E F : Env) (r : Naming) (pairs : List TypePair) (std : TypeName → Bo
 
   pub own_told : (s : Sel) (k : ℕ) (b : Bool) (t : Term) → IsOwnLayer (out-Term t) → ToldTo E s k (at_spot b t) → ToldTo F s k (at_spot b (to t))
   own_told s zero b t h x = own_spot s t h x
-  own_told s (suc k) b t h x = (own_spot s t h x.0, λ next j.
-      let i = in_map (spot_to r) (steps E.table (at_spot b t)) next (subst (λ xs. HasItem xs next) (all_steps E.table F.table r (own_kept E F r pairs std is_open K) s b t (own_under E.table F.table r (own_kept E F r pairs std is_open K) s t h)) j) in
-      subst (ToldTo F s k) i.2 (own_told s k (i.0).through (i.0).term (next_own E.table F.table r (own_kept E F r pairs std is_open K) s b t i.0 h i.1) (x.1 i.0 i.1)))
+  own_told s (suc k) b t h x = (
+    own_spot s t h x.0,
+    λ next j.
+        let i = in_map (spot_to r) (steps E.table (at_spot b t)) next (subst (λ xs. HasItem xs next) (all_steps E.table F.table r (own_kept E F r pairs std is_open K) s b t (own_under E.table F.table r (own_kept E F r pairs std is_open K) s t h)) j) in
+        subst (ToldTo F s k) i.2 (own_told s k (i.0).through (i.0).term (next_own E.table F.table r (own_kept E F r pairs std is_open K) s b t i.0 h i.1) (x.1 i.0 i.1)),
+  )
 
   pub made_told : (s : Sel) (k : ℕ) (b : Bool) (t : Term) → IsMade (out-Term t) → ToldTo E s k (at_spot b t) → ToldTo F s k (at_spot b (to t))
   made_told s zero b t m x = subst (ToldLayer F s) (sym (out_image r same_sels t)) (made_layer_told s (out-Term t) m)
-  made_told s (suc k) b t m x = (subst (ToldLayer F s) (sym (out_image r same_sels t)) (made_layer_told s (out-Term t) m), λ next j.
-      let i = in_map (spot_to r) (steps E.table (at_spot b t)) next (subst (λ xs. HasItem xs next) (all_steps E.table F.table r (own_kept E F r pairs std is_open K) s b t (W.made_level E F r pairs std is_open K t m)) j) in
-      subst (ToldTo F s k) i.2 (own_told s k (i.0).through (i.0).term (W.made_next E F r pairs std is_open K b t i.0 m i.1) (x.1 i.0 i.1)))
+  made_told s (suc k) b t m x = (
+    subst (ToldLayer F s) (sym (out_image r same_sels t)) (made_layer_told s (out-Term t) m),
+    λ next j.
+        let i = in_map (spot_to r) (steps E.table (at_spot b t)) next (subst (λ xs. HasItem xs next) (all_steps E.table F.table r (own_kept E F r pairs std is_open K) s b t (W.made_level E F r pairs std is_open K t m)) j) in
+        subst (ToldTo F s k) i.2 (own_told s k (i.0).through (i.0).term (W.made_next E F r pairs std is_open K b t i.0 m i.1) (x.1 i.0 i.1)),
+  )
 
   -- ---- what is found, with all that was searched
 

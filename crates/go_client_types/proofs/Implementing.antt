@@ -25,12 +25,13 @@ use Rattle.go_selectors.proofs.Noting.{sel_is, sel_self}
 use Rattle.go_type_images.specs.Images.{Naming, image, image_of_layer, image_of_method, same_sels}
 use Rattle.go_type_images.specs.Levels.{interface_layer, is_structured, struct_layer}
 use Rattle.go_type_images.specs.Parts.{parts}
-use Rattle.go_type_images.specs.SpotImages.{at_spot, spot_to}
+use Rattle.go_type_images.specs.SpotImages.{at_spot}
 use Rattle.go_type_images.specs.declared.pair.TypePair.{TypePair}
 use Rattle.go_type_images.proofs.ImageLevels.{image_of, out_image, out_image_method}
 use Rattle.go_client_types.specs.Keeping.{Keeps}
 use Rattle.go_client_types.specs.Preserving.{IsKeptLayer}
 use Rattle.go_client_types.specs.Reached.{IsClientSel, IsGiven, IsMade, IsMadeField, IsReached, reach_given, reach_made, reach_own}
+use Rattle.go_client_types.proofs.Conversions.{true_false}
 use Rattle.go_client_types.proofs.FoundEnds as W
 use Rattle.go_client_types.proofs.FoundEnds.{either, first_of, no_item, own_kept}
 use Rattle.go_client_types.proofs.FoundTypes as S
@@ -60,9 +61,6 @@ in_gather f (z ∷ xs) x y (inr h) k = has_right (f z) (gather f xs) y (in_gathe
 
 nothing_in : {A : Type 0} (xs : List A) (x : A) → xs ≡ [] → HasItem xs x → ⊥
 nothing_in xs x e h = subst (λ ys. HasItem ys x) e h
-
-true_false : {b : Bool} → b ≡ true → b ≡ false → ⊥
-true_false e f = let g : true ≡ false = sym e ∙ f in absurd (cc)
 
 -- each method passes the test, or one fails
 each_or_one : (test : Method → Bool) (ms : List Method) → Each (λ m. test m ≡ true) ms ⊎ ((m : Method) × HasItem ms m × (test m ≡ false))
@@ -215,9 +213,11 @@ module _ (E F : Env) (r : Naming) (pairs : List TypePair) (std : TypeName → Bo
       let s = method_sel m in
       let e : Ending = record { through = false; target = method None false (out-Method m).signature } in
       let fs = gather (field_ending s false) (fields_of (under E.table i)) in
-      let ds = gather (declared_ending (name_of (out-Term i)) s false) (declared_methods E.table (out-Term i)) in
-      (e, has_right (fs ++ ds) (gather (method_ending s false) (methods_of (under E.table i))) e
-        (in_gather (method_ending s false) (methods_of (under E.table i)) m e k (subst (λ c. HasItem (if c then e ∷ [] else []) e) (sym (sel_self s)) (inl refl))))
+      let ds = gather (declared_ending (name_of (out-Term i)) s false) (declared_methods E.table (out-Term i)) in (
+        e,
+        has_right (fs ++ ds) (gather (method_ending s false) (methods_of (under E.table i))) e
+            (in_gather (method_ending s false) (methods_of (under E.table i)) m e k (subst (λ c. HasItem (if c then e ∷ [] else []) e) (sym (sel_self s)) (inl refl))),
+      )
 
   hidden : (i : Term) (ms : List Method) (m : Method) → Given i → under E.table i ≡ Term-F.Interface ms → HasItem ms m → is_open (method_sel m) ≡ false → IsClientSel (method_sel m) → ⊥
   hidden i ms m g e k o (inl x) = true_false (K.types.exported_open (method_sel m) x) o
@@ -259,10 +259,10 @@ module _ (E F : Env) (r : Naming) (pairs : List TypePair) (std : TypeName → Bo
   sealed_pointer t base i ms m w p g j e k o h =
       from_table F (to t) (to i) (S.begins_kept E F r pairs std is_open K t w ((h.2 m (same_methods (under E.table i) ms h.0 m e h.1 k)).found).begins)
       (told_start t w (start_term (λ x. (s : Sel) (n : ℕ) (b : Bool) → ToldTo F s n (at_spot b (to x))) E.table t (out-Term t) (pointer_told t base p)
-        (λ u q s n b. S.given_told E F r pairs std is_open K s n b u (subst Given (one_base (out-Term t) base u p q) g))
-        (λ u q s n b. S.given_told E F r pairs std is_open K s n b u (subst Given (one_base (under E.table t) base u (ap (under_layer E.table) p) q) g))))
+      (λ u q s n b. S.given_told E F r pairs std is_open K s n b u (subst Given (one_base (out-Term t) base u p q) g))
+      (λ u q s n b. S.given_told E F r pairs std is_open K s n b u (subst Given (one_base (under E.table t) base u (ap (under_layer E.table) p) q) g))))
       (subst (λ x. sets.Implements F.table x (to i)) (sym (image_of r same_sels t (Term-F.Pointer base) p))
-        (K.types.sealed_pointer base i ms m g j e k o (subst (λ x. sets.Implements E.table x i) (sym (as_pointer t base p)) (in_table E t i h))))
+      (K.types.sealed_pointer base i ms m g j e k o (subst (λ x. sets.Implements E.table x i) (sym (as_pointer t base p)) (in_table E t i h))))
 
   -- a client's own type has no such method
   has_label : (t i : Term) (ms : List Method) (m : Method) → IsLabelled (start E.table t).term → under E.table i ≡ Term-F.Interface ms → HasItem ms m → Implements E t i → IsClientSel (method_sel m)
@@ -280,14 +280,13 @@ module _ (E F : Env) (r : Naming) (pairs : List TypePair) (std : TypeName → Bo
   labelled_base u (reach_own e h) = inl (λ s k b y q. own_label s k b u y (subst IsOwnLayer (sym e) h) q)
   labelled_base u (reach_made m h) = inl (λ s k b y q. made_label s k b u y m q)
 
-
   -- the type is the client's own, made by it, or a pointer to a given one
   made_pointer : (t base i : Term) (ms : List Method) (m : Method) → R t → IsMade (out-Term t) → out-Term t ≡ Term-F.Pointer base → IsLabelled base ⊎ Given base → Given i → under E.table i ≡ Term-F.Interface ms → HasItem ms m → is_open (method_sel m) ≡ false → Implements E t i → Implements F (to t) (to i)
   made_pointer t base i ms m w x p (inr g) j e k o h = sealed_pointer t base i ms m w p g j e k o h
   made_pointer t base i ms m w x p (inl f) j e k o h = absurd (hidden i ms m j e k o (has_label t i ms m
       (start_term IsLabelled E.table t (out-Term t) (λ s n b y q. made_label s n b t y x q)
-        (λ u q. subst IsLabelled (one_base (out-Term t) base u p q) f)
-        (λ u q. subst IsLabelled (one_base (under E.table t) base u (ap (under_layer E.table) p) q) f)) e k h))
+      (λ u q. subst IsLabelled (one_base (out-Term t) base u p q) f)
+      (λ u q. subst IsLabelled (one_base (under E.table t) base u (ap (under_layer E.table) p) q) f)) e k h))
 
   made_sealed : (b : Bool) (t i : Term) (ms : List Method) (m : Method) → is_pointer_layer (out-Term t) ≡ b → R t → IsMade (out-Term t) → ((u : Term) → HasItem (parts (out-Term t)) u → R u) → Given i → under E.table i ≡ Term-F.Interface ms → HasItem ms m → is_open (method_sel m) ≡ false → Implements E t i → Implements F (to t) (to i)
   made_sealed true t i ms m f w x p j e k o h =
@@ -295,8 +294,8 @@ module _ (E F : Env) (r : Naming) (pairs : List TypePair) (std : TypeName → Bo
       made_pointer t a.0 i ms m w x a.1 (labelled_base a.0 (p a.0 (subst (λ l. HasItem (parts l) a.0) (sym a.1) (inl refl)))) j e k o h
   made_sealed false t i ms m f w x p j e k o h = absurd (hidden i ms m j e k o (has_label t i ms m
       (start_term IsLabelled E.table t (out-Term t) (λ s n b y q. made_label s n b t y x q)
-        (λ u q. absurd (no_pointer (out-Term t) u f q))
-        (λ u q. absurd (no_pointer (out-Term t) u f (sym (made_under E.table (out-Term t) x) ∙ q)))) e k h))
+      (λ u q. absurd (no_pointer (out-Term t) u f q))
+      (λ u q. absurd (no_pointer (out-Term t) u f (sym (made_under E.table (out-Term t) x) ∙ q)))) e k h))
 
   sealed_by : (t i : Term) (ms : List Method) (m : Method) → R t → Given i → under E.table i ≡ Term-F.Interface ms → HasItem ms m → is_open (method_sel m) ≡ false → Implements E t i → Implements F (to t) (to i)
   sealed_by t i ms m (reach_given g) j e k o h = sealed_given t i ms m g j e k o h
@@ -313,15 +312,23 @@ module _ (E F : Env) (r : Naming) (pairs : List TypePair) (std : TypeName → Bo
   image_method t m h c x = subst (λ (y : OpenMethod). HasMethod F false (to t) y.sel y.signature) (sym (out_image_method r same_sels m)) (S.method_kept E F r pairs std is_open K false t (method_sel m) (out-Method m).signature h c x).0
 
   by_image : (t i : Term) (ms : List Method) → R t → under E.table i ≡ Term-F.Interface ms → ((m : Method) → HasItem ms m → IsClientSel (method_sel m)) → under F.table (to i) ≡ layer (under E.table i) → ((m : Method) → HasItem ms m → HasMethod E false t (method_sel m) (out-Method m).signature) → Implements F (to t) (to i)
-  by_image t i ms h e c f x = (map (image_of_method r same_sels) ms, f ∙ ap layer e, λ n k.
-      let j = in_map (image_of_method r same_sels) ms n k in
-      subst (λ y. HasMethod F false (to t) (method_sel y) (out-Method y).signature) j.2 (image_method t j.0 h (called (method_sel j.0) (c j.0 j.1)) (x j.0 j.1)))
+  by_image t i ms h e c f x = (
+    map (image_of_method r same_sels) ms,
+    f ∙ ap layer e,
+    λ n k.
+        let j = in_map (image_of_method r same_sels) ms n k in
+        subst (λ y. HasMethod F false (to t) (method_sel y) (out-Method y).signature) j.2 (image_method t j.0 h (called (method_sel j.0) (c j.0 j.1)) (x j.0 j.1)),
+  )
 
   by_given : (t i : Term) (ms : List Method) → R t → Given i → under E.table i ≡ Term-F.Interface ms → interface_layer (under F.table (to i)) ≡ true → Implements E t i → ((m : Method) → HasItem ms m → HasMethod E false t (method_sel m) (out-Method m).signature) → Each (λ m. is_open (method_sel m) ≡ true) ms ⊎ ((m : Method) × HasItem ms m × (is_open (method_sel m) ≡ false)) → Implements F (to t) (to i)
   by_given t i ms h g e f w x (inl o) =
-      let ns = interface_form (under F.table (to i)) f in (ns.0, ns.1, λ n k.
-      let j = K.types.unsealed i ms g e o n (subst (λ l. HasItem (methods_of l) n) (sym ns.1) k) in
-      subst (λ y. HasMethod F false (to t) (method_sel y) (out-Method y).signature) (sym j.2) (image_method t j.0 h (inl (each_has (λ m. is_open (method_sel m) ≡ true) ms j.0 o j.1)) (x j.0 j.1)))
+      let ns = interface_form (under F.table (to i)) f in (
+        ns.0,
+        ns.1,
+        λ n k.
+            let j = K.types.unsealed i ms g e o n (subst (λ l. HasItem (methods_of l) n) (sym ns.1) k) in
+            subst (λ y. HasMethod F false (to t) (method_sel y) (out-Method y).signature) (sym j.2) (image_method t j.0 h (inl (each_has (λ m. is_open (method_sel m) ≡ true) ms j.0 o j.1)) (x j.0 j.1)),
+      )
   by_given t i ms h g e f w x (inr m) = sealed_by t i ms m.0 h g e m.1 m.2 w
 
   client_methods : (ms : List Method) (l : Layer) → l ≡ Term-F.Interface ms → V.IsOwnLevel l → (m : Method) → HasItem ms m → IsClientSel (method_sel m)

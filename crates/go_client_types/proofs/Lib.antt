@@ -1,3 +1,4 @@
+pub mod Assigning
 pub mod Conversions
 pub mod FoundEnds
 pub mod FoundTypes

@@ -9,9 +9,7 @@ ghost use Rattle.go_model.specs.declared.types.names.TypeName.{TypeName};
 ghost use Rattle.go_model.specs.declared.types.package.ConstTerm.{ConstTerm};
 ghost use Rattle.go_model.specs.declared.types.term.Signature.{Signature};
 ghost use Rattle.go_model.specs.declared.types.term.Term.{Term, out-Term};
-ghost use Rattle.go_model.specs.types.Assignability.{ChannelAssigns};
 ghost use Rattle.go_model.specs.types.Comparison.{Comparable};
-ghost use Rattle.go_model.specs.types.Conversions.{PointerConverts, UnderlyingConverts, basics_convert};
 ghost use Rattle.go_model.specs.types.Selectors.{Ending, IsOnly, Target, ends};
 ghost use Rattle.go_model.specs.types.Tables.{Table};
 ghost use Rattle.go_model.specs.types.Terms.{IsBlank, Layer, client_path};
@@ -22,7 +20,7 @@ ghost use Rattle.go_rules.specs.Expressions.{Has, OfType};
 ghost use Rattle.go_rules.specs.Growth.{Grows};
 ghost use Rattle.go_rules.specs.Nodes.{expression, type};
 ghost use Rattle.go_rules.specs.Operands.{HasKind, IsTyped, IsUntyped, ShapeWithin, constant_of};
-ghost use Rattle.go_rules.specs.Usability.{Implements, UsableAs};
+ghost use Rattle.go_rules.specs.Usability.{Assignable, Compares, Convertible, Implements, Match, UsableAs};
 ghost use Rattle.go_rules.specs.declared.operand.Operand.{Operand};
 ghost use Rattle.go_syntax.specs.declared.expression.Expr.{Expr};
 ghost use Rattle.go_syntax.specs.declared.types.«Type».{«Type» as Typ};
@@ -67,24 +65,6 @@ pub fn followed_operands()
     ensures kind { (E F : Env) (r : Naming) (pairs : List TypePair) (std : TypeName → Bool) (is_open : Sel → Bool) → Keeps E F r pairs std is_open → (c : ConstTerm) (k : Kind) → ConstReached pairs std c → HasKind E c k → HasKind F (const_to r c) k }
 {}
 
-/// Of types that a client reaches, a comparable one stays so, and one that has its entry has it on the new side; and where a value
-/// without a type, as a constant of an untyped kind or nil, may be used as one of a type, it may be used as one of the image.
-pub fn kept_relations()
-    ensures comparable { (E F : Env) (r : Naming) (pairs : List TypePair) (std : TypeName → Bool) (is_open : Sel → Bool) → Keeps E F r pairs std is_open → (t : Term) → IsReached pairs std t → Comparable E.table t → Comparable F.table (image r same_sels t) }
-    ensures entered { (E F : Env) (r : Naming) (pairs : List TypePair) (std : TypeName → Bool) (is_open : Sel → Bool) → Keeps E F r pairs std is_open → (t : Term) → IsReached pairs std t → Entered E t → Entered F (image r same_sels t) }
-    ensures usable { (E F : Env) (r : Naming) (pairs : List TypePair) (std : TypeName → Bool) (is_open : Sel → Bool) → Keeps E F r pairs std is_open → (o p : Operand) (t : Term) → After r pairs std o p → IsReached pairs std t
-        → ((u : Term) → IsTyped o u → ⊥) → UsableAs E o t → UsableAs F p (image r same_sels t) }
-{}
-
-/// Of types that a client reaches, those that convert by what is underneath them, underneath the bases of pointers, or as basic types,
-/// do so on the new side, and a channel is assigned where it was.
-pub fn kept_conversions()
-    ensures underlying { (E F : Env) (r : Naming) (pairs : List TypePair) (std : TypeName → Bool) (is_open : Sel → Bool) → Keeps E F r pairs std is_open → (t u : Term) → IsReached pairs std t → IsReached pairs std u → UnderlyingConverts E.table E.profile t u → UnderlyingConverts F.table F.profile (image r same_sels t) (image r same_sels u) }
-    ensures pointers { (E F : Env) (r : Naming) (pairs : List TypePair) (std : TypeName → Bool) (is_open : Sel → Bool) → Keeps E F r pairs std is_open → (t u : Term) → IsReached pairs std t → IsReached pairs std u → PointerConverts E.table E.profile t u → PointerConverts F.table F.profile (image r same_sels t) (image r same_sels u) }
-    ensures basics { (E F : Env) (r : Naming) (pairs : List TypePair) (std : TypeName → Bool) (is_open : Sel → Bool) → Keeps E F r pairs std is_open → (t u : Term) → IsReached pairs std t → IsReached pairs std u → basics_convert E.table t u ≡ true → basics_convert F.table (image r same_sels t) (image r same_sels u) ≡ true }
-    ensures channels { (E F : Env) (r : Naming) (pairs : List TypePair) (std : TypeName → Bool) (is_open : Sel → Bool) → Keeps E F r pairs std is_open → (t u : Term) → IsReached pairs std t → IsReached pairs std u → ChannelAssigns E.table t u → ChannelAssigns F.table (image r same_sels t) (image r same_sels u) }
-{}
-
 /// What a selector that a client may write finds from a type that it reaches, it finds on the new side from the image: the image,
 /// through a pointer where it was, and of a type that the client reaches.
 pub fn found_endings()
@@ -104,8 +84,17 @@ pub fn kept_found()
         → HasMethod F addressable (image r same_sels t) s (image_of_signature r same_sels g) × IsReached pairs std (function_type g) }
 {}
 
-/// A type that a client reaches, which implements an interface that it reaches, implements the image of the interface on the new side.
-pub fn kept_interfaces()
-    ensures { (E F : Env) (r : Naming) (pairs : List TypePair) (std : TypeName → Bool) (is_open : Sel → Bool) → Keeps E F r pairs std is_open → (t interface : Term) → IsReached pairs std t → IsReached pairs std interface
-        → Implements E t interface → Implements F (image r same_sels t) (image r same_sels interface) }
+/// The relations of the types that a client reaches are kept: a comparable one stays so, with the entries of the types to which paths lead,
+/// one that implements an interface implements the image, and one that is assignable or convertible to another stays so; where an operand
+/// may be used as a value of a type, it may be used as one of the image, and where two match, they match.
+pub fn kept_relations()
+    ensures comparable { (E F : Env) (r : Naming) (pairs : List TypePair) (std : TypeName → Bool) (is_open : Sel → Bool) → Keeps E F r pairs std is_open → (t : Term) → IsReached pairs std t → Comparable E.table t → Comparable F.table (image r same_sels t) }
+    ensures entered { (E F : Env) (r : Naming) (pairs : List TypePair) (std : TypeName → Bool) (is_open : Sel → Bool) → Keeps E F r pairs std is_open → (t : Term) → IsReached pairs std t → Entered E t → Entered F (image r same_sels t) }
+    ensures compares { (E F : Env) (r : Naming) (pairs : List TypePair) (std : TypeName → Bool) (is_open : Sel → Bool) → Keeps E F r pairs std is_open → (t : Term) → IsReached pairs std t → Compares E t → Compares F (image r same_sels t) }
+    ensures implements { (E F : Env) (r : Naming) (pairs : List TypePair) (std : TypeName → Bool) (is_open : Sel → Bool) → Keeps E F r pairs std is_open → (t interface : Term) → IsReached pairs std t → IsReached pairs std interface → Implements E t interface → Implements F (image r same_sels t) (image r same_sels interface) }
+    ensures assignable { (E F : Env) (r : Naming) (pairs : List TypePair) (std : TypeName → Bool) (is_open : Sel → Bool) → Keeps E F r pairs std is_open → (from to : Term) → IsReached pairs std from → IsReached pairs std to → Assignable E from to → Assignable F (image r same_sels from) (image r same_sels to) }
+    ensures convertible { (E F : Env) (r : Naming) (pairs : List TypePair) (std : TypeName → Bool) (is_open : Sel → Bool) → Keeps E F r pairs std is_open → (from to : Term) → IsReached pairs std from → IsReached pairs std to → Convertible E from to → Convertible F (image r same_sels from) (image r same_sels to) }
+    ensures usable { (E F : Env) (r : Naming) (pairs : List TypePair) (std : TypeName → Bool) (is_open : Sel → Bool) → Keeps E F r pairs std is_open → (o p : Operand) (t : Term) → After r pairs std o p → IsReached pairs std t → UsableAs E o t → UsableAs F p (image r same_sels t) }
+    ensures matching { (E F : Env) (r : Naming) (pairs : List TypePair) (std : TypeName → Bool) (is_open : Sel → Bool) → Keeps E F r pairs std is_open → (left right new_left new_right : Operand) (c : ConstTerm) → After r pairs std left new_left → After r pairs std right new_right → Match E left right c
+        → Match F new_left new_right (const_to r c) × ConstReached pairs std c }
 {}
