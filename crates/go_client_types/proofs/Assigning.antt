@@ -99,10 +99,10 @@ module _ (E F : Env) (r : Naming) (pairs : List TypePair) (std : TypeName → Bo
   layer = image_of_layer r same_sels
 
   abbrev R : Term → Type 0
-  R = IsReached pairs std
+  R = IsReached pairs std is_open
 
   abbrev Given : Term → Type 0
-  Given = IsGiven pairs std
+  Given = IsGiven pairs std is_open
 
   entered : (t : Term) → R t → Entered E t → Entered F (to t)
   entered t h x = L.entered E F r pairs std is_open K t h x
@@ -133,7 +133,7 @@ module _ (E F : Env) (r : Naming) (pairs : List TypePair) (std : TypeName → Bo
   from_named : (t u : Term) → R t → Entered E t → is_imported_interface E.table t ≡ true → under E.table t ≡ under E.table u → Implements E t u
   from_named t u h x i s =
       let f = imported_form (out-Term t) (under E.table t) i in
-      let y = K.types.interfaces t f.1 (given_named t f.0 f.2 f.3 h) f.4 in
+      let y = K.types.interfaces t f.0 f.1 (given_named t f.0 f.2 f.3 h) f.2 f.4 in
       let d = subst (EnteredLayer E) f.2 x in
       P.from_table E F r pairs std is_open K E t u (subst (BeginsLayer E t) (sym f.2) x)
       (interface_told t f.1 f.4 (λ n. subst (ToldLayer E n) (sym f.2) (d.0, d.1, ap (is_among n) (K.none_missing f.0 (foreign f.0 f.3)).0)))
@@ -143,7 +143,7 @@ module _ (E F : Env) (r : Naming) (pairs : List TypePair) (std : TypeName → Bo
   to_named : (t u : Term) → R u → is_named t ≡ false → is_imported_interface E.table u ≡ true → under E.table t ≡ under E.table u → Implements E t u
   to_named t u h n i s =
       let f = imported_form (out-Term u) (under E.table u) i in
-      let y = K.types.interfaces u f.1 (given_named u f.0 f.2 f.3 h) f.4 in
+      let y = K.types.interfaces u f.0 f.1 (given_named u f.0 f.2 f.3 h) f.2 f.4 in
       let l = unnamed_form E.table (out-Term t) f.1 n (s ∙ f.4) in
       P.from_table E F r pairs std is_open K E t u (subst (BeginsLayer E t) (sym l) (subst (EnteredLayer E) (sym l) tt))
       (interface_told t f.1 (s ∙ f.4) (λ x. subst (ToldLayer E x) (sym l) tt))
@@ -193,16 +193,16 @@ module _ (E F : Env) (r : Naming) (pairs : List TypePair) (std : TypeName → Bo
   no_nil : {u : Term} → IsTyped nil u → ⊥
   no_nil i = elim i [ ]
 
-  pub usable_kept : {o p : Operand} {t : Term} → After r pairs std o p → R t → UsableAs E o t → UsableAs F p (to t)
-  usable_kept {t = t} a k (use_value {u = u} i x) = let j = typed_after r pairs std a i in use_value j.0 (assignable_kept u t j.1 k x)
+  pub usable_kept : {o p : Operand} {t : Term} → After r pairs std is_open o p → R t → UsableAs E o t → UsableAs F p (to t)
+  usable_kept {t = t} a k (use_value {u = u} i x) = let j = typed_after r pairs std is_open a i in use_value j.0 (assignable_kept u t j.1 k x)
   usable_kept a k (use_constant e d) = L.usable E F r pairs std is_open K a k (λ u i. no_kind i) (use_constant e d)
   usable_kept a k (use_constant_as_any e d) = L.usable E F r pairs std is_open K a k (λ u i. no_kind i) (use_constant_as_any e d)
   usable_kept a k (use_truth e) = L.usable E F r pairs std is_open K a k (λ u i. no_truth i) (use_truth e)
   usable_kept a k (use_truth_as_any e) = L.usable E F r pairs std is_open K a k (λ u i. no_truth i) (use_truth_as_any e)
   usable_kept a k (use_nil e) = L.usable E F r pairs std is_open K a k (λ u i. no_nil i) (use_nil e)
 
-  pub match_kept : {o p x y : Operand} {c : ConstTerm} → After r pairs std o p → After r pairs std x y → Match E o x c → Match F p y (const_to r c) × ConstReached pairs std c
-  match_kept a b (match_types i j) = let f = typed_after r pairs std a i in (match_types f.0 (typed_after r pairs std b j).0, f.1)
-  match_kept a b (match_right i j u) = let f = typed_after r pairs std b j in (match_right (untyped_after r pairs std a i) f.0 (usable_kept a f.1 u), f.1)
-  match_kept a b (match_left i j u) = let f = typed_after r pairs std a i in (match_left f.0 (untyped_after r pairs std b j) (usable_kept b f.1 u), f.1)
-  match_kept a b (match_kinds i j l) = (match_kinds (untyped_after r pairs std a i) (untyped_after r pairs std b j) l, tt)
+  pub match_kept : {o p x y : Operand} {c : ConstTerm} → After r pairs std is_open o p → After r pairs std is_open x y → Match E o x c → Match F p y (const_to r c) × ConstReached pairs std is_open c
+  match_kept a b (match_types i j) = let f = typed_after r pairs std is_open a i in (match_types f.0 (typed_after r pairs std is_open b j).0, f.1)
+  match_kept a b (match_right i j u) = let f = typed_after r pairs std is_open b j in (match_right (untyped_after r pairs std is_open a i) f.0 (usable_kept a f.1 u), f.1)
+  match_kept a b (match_left i j u) = let f = typed_after r pairs std is_open a i in (match_left f.0 (untyped_after r pairs std is_open b j) (usable_kept b f.1 u), f.1)
+  match_kept a b (match_kinds i j l) = (match_kinds (untyped_after r pairs std is_open a i) (untyped_after r pairs std is_open b j) l, tt)

@@ -106,10 +106,10 @@ module _ (E F : Env) (r : Naming) (pairs : List TypePair) (std : TypeName → Bo
   layer = image_of_layer r same_sels
 
   abbrev R : Term → Type 0
-  R = IsReached pairs std
+  R = IsReached pairs std is_open
 
   abbrev Reached : Target → Type 0
-  Reached = TargetReached pairs std
+  Reached = TargetReached pairs std is_open
 
   pub own_kept : OwnTypes E.table F.table r
   own_kept = record {
@@ -208,13 +208,13 @@ module _ (E F : Env) (r : Naming) (pairs : List TypePair) (std : TypeName → Bo
   by_ends : (s : Sel) (b q : Bool) (t : Term) (d : ℕ) (g : Target) → ((k : ℕ) → ends F.table s k (at_spot b (to t)) ≡ map (ending_to r) (ends E.table s k (at_spot b t))) → Reached g → IsOnly E.table s (at_spot b t) d (end_at q g) → KeepsEnding s b t q g
   by_ends s b q t d g h w o = (d, ending_to r (end_at q g), image_only s b q t d g h o, same_ending q g, w)
 
-  pub exported_end : (t : Term) (s : Sel) (b q : Bool) (d : ℕ) (g : Target) → IsGiven pairs std t → s.«package» ≡ [] → (IsBlank s → ⊥) → IsOnly E.table s (at_spot b t) d (end_at q g) → KeepsEnding s b t q g
+  pub exported_end : (t : Term) (s : Sel) (b q : Bool) (d : ℕ) (g : Target) → IsGiven pairs std is_open t → s.«package» ≡ [] → (IsBlank s → ⊥) → IsOnly E.table s (at_spot b t) d (end_at q g) → KeepsEnding s b t q g
   exported_end t s b q d (field v) h x n o = let f = K.types.found_field t s b q d v h x n o in (f.0, end_at f.1 (field (to v)), f.2, kept_field f.3, reach_given f.4)
   exported_end t s b q d (method w a g) h x n o =
       let f = K.types.found_method t s b q a d w g h (K.types.exported_open s x) o in
       (f.0, end_at f.1 (method f.3 f.2 (image_of_signature r same_sels g)), f.4, kept_method f.5, reach_given f.6)
 
-  pub given_end : (t : Term) (s : Sel) (b q : Bool) (d : ℕ) (g : Target) → IsGiven pairs std t → IsClientSel s → (IsBlank s → ⊥) → IsOnly E.table s (at_spot b t) d (end_at q g) → KeepsEnding s b t q g
+  pub given_end : (t : Term) (s : Sel) (b q : Bool) (d : ℕ) (g : Target) → IsGiven pairs std is_open t → IsClientSel s → (IsBlank s → ⊥) → IsOnly E.table s (at_spot b t) d (end_at q g) → KeepsEnding s b t q g
   given_end t s b q d g h (inl x) n o = exported_end t s b q d g h x n o
   given_end t s b q d g h (inr x) n o = absurd (no_item (ends E.table s d (at_spot b t)) (end_at q g) (K.types.strange t s d b h x) o.only)
 

@@ -3,6 +3,7 @@ use Rattle.std.proofs.Common.{◌≡◌, Bool, true, false, List, [], refl, sym,
 use Rattle.go_base.specs.Lists.{Has as HasItem}
 use Rattle.std.specs.Prelude.{codes, ℕ}
 use Rattle.go_model.specs.declared.constants.value.Basic.{Basic}
+use Rattle.go_model.specs.declared.types.names.Sel.{Sel}
 use Rattle.go_model.specs.declared.types.names.TypeName.{TypeName}
 use Rattle.go_model.specs.declared.types.term.Term.{Term, Term-F, out-Term, roll-Term, out-roll-Term}
 use Rattle.go_model.specs.types.Selectors.{base_layer, base_of}
@@ -54,11 +55,11 @@ module _ (E G : Env) (grows : (q : QualifiedName) (t : Term) → IsTypeName E q 
 error_name : TypeName
 error_name = record { path = []; name = codes "error" }
 
-module _ (r : Naming) (pairs : List TypePair) (std : TypeName → Bool) (named : r (record { path = []; name = codes "error" }) ≡ record { path = []; name = codes "error" }) where
+module _ (r : Naming) (pairs : List TypePair) (std : TypeName → Bool) (is_open : Sel → Bool) (named : r (record { path = []; name = codes "error" }) ≡ record { path = []; name = codes "error" }) where
   abbrev Universal : Term → Type 0
-  Universal t = (image r same_sels t ≡ t) × IsReached pairs std t
+  Universal t = (image r same_sels t ≡ t) × IsReached pairs std is_open t
 
-  made : (l : Layer) → IsMade l → ((u : Term) → HasItem (parts l) u → IsReached pairs std u) → IsReached pairs std (roll-Term l)
+  made : (l : Layer) → IsMade l → ((u : Term) → HasItem (parts l) u → IsReached pairs std is_open u) → IsReached pairs std is_open (roll-Term l)
   made l m h = reach_made (subst IsMade (sym (out-roll-Term l)) m) (λ u k. h u (subst (λ x. HasItem (parts x) u) (out-roll-Term l) k))
 
   basic : (b : Basic) (t : Term) → Some (basic_term b) ≡ Some t → Universal t

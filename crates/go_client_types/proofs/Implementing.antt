@@ -136,10 +136,10 @@ module _ (E F : Env) (r : Naming) (pairs : List TypePair) (std : TypeName → Bo
   layer = image_of_layer r same_sels
 
   abbrev R : Term → Type 0
-  R = IsReached pairs std
+  R = IsReached pairs std is_open
 
   abbrev Given : Term → Type 0
-  Given = IsGiven pairs std
+  Given = IsGiven pairs std is_open
 
   abbrev View : Term → Type 0
   View = V.View E F r pairs std is_open K

@@ -23,15 +23,15 @@ use Rattle.go_type_images.specs.EntryImages.{const_to}
 use Rattle.go_type_images.proofs.Sizes.{same_height, same_nodes}
 use Rattle.go_client_types.proofs.Views as V
 
-module _ (r : Naming) (pairs : List TypePair) (std : TypeName → Bool) where
+module _ (r : Naming) (pairs : List TypePair) (std : TypeName → Bool) (is_open : Sel → Bool) where
   abbrev to : Term → Term
   to = image r same_sels
 
   abbrev R : Term → Type 0
-  R = IsReached pairs std
+  R = IsReached pairs std is_open
 
   abbrev A : Operand → Operand → Type 0
-  A = After r pairs std
+  A = After r pairs std is_open
 
   pub value_kept : (m k : Mode) → Becomes m k → is_value_mode m ≡ true → is_value_mode k ≡ true
   value_kept m k same_mode e = e
@@ -51,7 +51,7 @@ module _ (r : Naming) (pairs : List TypePair) (std : TypeName → Bool) where
   untyped_after (after_bare h) untyped_constant = absurd h
   untyped_after (after_bare h) untyped_truth = untyped_truth
 
-  pub of_after : {o p : Operand} {c : ConstTerm} → A o p → IsOf o c → IsOf p (const_to r c) × ConstReached pairs std c
+  pub of_after : {o p : Operand} {c : ConstTerm} → A o p → IsOf o c → IsOf p (const_to r c) × ConstReached pairs std is_open c
   of_after a (is_of_type i) = let f = typed_after a i in (is_of_type f.0, f.1)
   of_after a (is_of_kind i) = (is_of_kind (untyped_after a i), tt)
 
@@ -73,6 +73,6 @@ module _ (r : Naming) (pairs : List TypePair) (std : TypeName → Bool) where
   within_after (after_bare h) s = s
 
 module _ (E F : Env) (r : Naming) (pairs : List TypePair) (std : TypeName → Bool) (is_open : Sel → Bool) (K : Keeps E F r pairs std is_open) where
-  pub kind_kept : {c : ConstTerm} {k : Kind} → ConstReached pairs std c → HasKind E c k → HasKind F (const_to r c) k
+  pub kind_kept : {c : ConstTerm} {k : Kind} → ConstReached pairs std is_open c → HasKind E c k → HasKind F (const_to r c) k
   kind_kept h (kind_of_type {t = t} {b = b} e) = kind_of_type (V.form_kept E F r pairs std is_open K t (Term-F.Plain b) h refl e).0
   kind_kept h kind_of_untyped = kind_of_untyped

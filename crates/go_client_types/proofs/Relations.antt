@@ -169,7 +169,7 @@ interface_struct ms e = absurd (cc)
 
 module _ (E F : Env) (r : Naming) (pairs : List TypePair) (std : TypeName → Bool) (is_open : Sel → Bool) (K : Keeps E F r pairs std is_open) where
   abbrev R : Term → Type 0
-  R = IsReached pairs std
+  R = IsReached pairs std is_open
 
   abbrev View : Term → Type 0
   View = V.View E F r pairs std is_open K
@@ -281,7 +281,7 @@ module _ (E F : Env) (r : Naming) (pairs : List TypePair) (std : TypeName → Bo
   default_by k v d = (d.0, d.1, subst (λ b. is_representable v d.0 b ≡ true) (sym K.bits) d.2)
 
   -- a value without a type may be used as one of the image
-  pub usable : {o p : Operand} {t : Term} → After r pairs std o p → R t → ((u : Term) → IsTyped o u → ⊥) → UsableAs E o t → UsableAs F p (to r t)
+  pub usable : {o p : Operand} {t : Term} → After r pairs std is_open o p → R t → ((u : Term) → IsTyped o u → ⊥) → UsableAs E o t → UsableAs F p (to r t)
   usable (after_value b h) k n (use_value i a) = absurd (n _ i)
   usable (after_constant h) k n (use_value i a) = absurd (n _ i)
   usable {t = t} (after_constant h) k n (use_constant {v = v} {b = b} e d) = use_constant (plain_by t b k e) (subst (λ x. is_representable v b x ≡ true) (sym K.bits) d)

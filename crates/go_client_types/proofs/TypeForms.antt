@@ -85,7 +85,7 @@ one_interface : {ms ns : List Method} → ◌≡◌ {A = Layer} (Term-F.Interfac
 one_interface e = cc
 
 module _ (E F G : Env) (r : Naming) (pairs : List TypePair) (std : TypeName → Bool) (is_open : Sel → Bool) (K : Keeps E F r pairs std is_open)
-    (universe : (p : Predeclared) (t : Term) → predeclared_operand E.iota p ≡ Some (type_name t) → (image r same_sels t ≡ t) × IsReached pairs std t)
+    (universe : (p : Predeclared) (t : Term) → predeclared_operand E.iota p ≡ Some (type_name t) → (image r same_sels t ≡ t) × IsReached pairs std is_open t)
     (embeds : (star : Bool) (q : QualifiedName) (u : Term) → EmbedsField G star q → IsTypeName E q u → IsOwnLayer (out-Term (base_of (starred star u))))
     (embeds_too : (q : QualifiedName) (u : Term) → EmbedsInterface G q → IsTypeName E q u → IsOwnLayer (out-Term u))
     (lengths : (e : Expr) (c : ConstTerm) (v : Value) → Has E e (constant_of c v) → Meets G (expression e) → Has F e (constant_of (const_to r c) v)) where
@@ -93,17 +93,17 @@ module _ (E F G : Env) (r : Naming) (pairs : List TypePair) (std : TypeName → 
   to = image r same_sels
 
   abbrev R : Term → Type 0
-  R = IsReached pairs std
+  R = IsReached pairs std is_open
 
   -- ---- names
 
-  of_entity : (x : Entity) (t : Term) → denoted x ≡ type_name t → EntityReached pairs std x → (denoted (entity_to r x) ≡ type_name (to t)) × R t
+  of_entity : (x : Entity) (t : Term) → denoted x ≡ type_name t → EntityReached pairs std is_open x → (denoted (entity_to r x) ≡ type_name (to t)) × R t
   of_entity (entity.TypeOf u) t e h = let s : u ≡ t = one_name e in (ap (λ z. type_name (to z)) s, subst R s h)
   of_entity (entity.Const c v) t e h = absurd (no_constant c v t e)
   of_entity (entity.Var u) t e h = absurd (no_variable u t e)
   of_entity (entity.Function g) t e h = absurd (no_plain (function_of g) t e)
 
-  of_meaning : (m : Seen) (t : Term) → seen_operand E.iota m ≡ Some (type_name t) → SeenReached pairs std m → (seen_operand F.iota (seen_to r m) ≡ Some (type_name (to t))) × R t
+  of_meaning : (m : Seen) (t : Term) → seen_operand E.iota m ≡ Some (type_name t) → SeenReached pairs std is_open m → (seen_operand F.iota (seen_to r m) ≡ Some (type_name (to t))) × R t
   of_meaning (seen.Local u) t e h = absurd (no_variable u t (one_some e))
   of_meaning (seen.LocalConst c v) t e h = absurd (no_constant c v t (one_some e))
   of_meaning (seen.Object x) t e h = let k = of_entity x t (one_some e) h in (ap Some k.0, k.1)
@@ -115,7 +115,7 @@ module _ (E F G : Env) (r : Naming) (pairs : List TypePair) (std : TypeName → 
       let m = K.meanings n.text d.meaning d.means in let k = of_meaning d.meaning t d.denotes m.1 in
       (record { names = d.names; meaning = seen_to r d.meaning; means = m.0; denotes = k.0 }, k.1)
 
-  of_kept : (x y : Entity) (t : Term) → IsKeptEntity r x y → denoted x ≡ type_name t → EntityReached pairs std x → (denoted y ≡ type_name (to t)) × R t
+  of_kept : (x y : Entity) (t : Term) → IsKeptEntity r x y → denoted x ≡ type_name t → EntityReached pairs std is_open x → (denoted y ≡ type_name (to t)) × R t
   of_kept x y t stays e h = of_entity x t e h
   of_kept (entity.Function g) y t varies e h = absurd (no_plain (function_of g) t e)
 

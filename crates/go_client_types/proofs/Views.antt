@@ -69,16 +69,16 @@ module _ (E F : Env) (r : Naming) (pairs : List TypePair) (std : TypeName → Bo
   layer = image_of_layer r same_sels
 
   abbrev R : Term → Type 0
-  R = IsReached pairs std
+  R = IsReached pairs std is_open
 
   -- underneath it is the image of what it was, of reached parts, made by the client or neither a struct nor an interface; or it is a given struct, or a given interface
   pub data View (t : Term) : Type 0 where
     view_own : under F.table (to t) ≡ layer (under E.table t) → IsOwnLevel (under E.table t) → ((u : Term) → HasItem (parts (under E.table t)) u → R u) → View t
-    view_given : IsGiven pairs std t → is_structured (under E.table t) ≡ false → under F.table (to t) ≡ layer (under E.table t) → ((u : Term) → HasItem (parts (under E.table t)) u → R u) → View t
-    view_struct : IsGiven pairs std t → struct_layer (under E.table t) ≡ true → struct_layer (under F.table (to t)) ≡ true → View t
-    view_interface : IsGiven pairs std t → interface_layer (under E.table t) ≡ true → interface_layer (under F.table (to t)) ≡ true → View t
+    view_given : IsGiven pairs std is_open t → is_structured (under E.table t) ≡ false → under F.table (to t) ≡ layer (under E.table t) → ((u : Term) → HasItem (parts (under E.table t)) u → R u) → View t
+    view_struct : IsGiven pairs std is_open t → struct_layer (under E.table t) ≡ true → struct_layer (under F.table (to t)) ≡ true → View t
+    view_interface : IsGiven pairs std is_open t → interface_layer (under E.table t) ≡ true → interface_layer (under F.table (to t)) ≡ true → View t
 
-  given_view : (t : Term) → IsGiven pairs std t → (l : Layer) → under E.table t ≡ l → IsKeptLayer r (IsGiven pairs std) l (under F.table (to t)) → View t
+  given_view : (t : Term) → IsGiven pairs std is_open t → (l : Layer) → under E.table t ≡ l → IsKeptLayer r (IsGiven pairs std is_open) l (under F.table (to t)) → View t
   given_view t g (Term-F.Struct fs) e h = view_struct g (ap struct_layer e) h
   given_view t g (Term-F.Interface ms) e h = view_interface g (ap interface_layer e) h
   given_view t g (Term-F.Plain b) e h = view_given g (ap is_structured e) (h.0 ∙ ap layer (sym e)) (λ u k. reach_given (h.1 u (subst (λ l. HasItem (parts l) u) e k)))

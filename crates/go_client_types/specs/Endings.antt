@@ -1,6 +1,7 @@
 -- What a selector of a client finds on the old side, and what it finds then on the new one.
 -- Own: words on what is found.
 use Rattle.std.specs.Prelude.{◌≡◌, Bool, true, List, Option}
+use Rattle.go_model.specs.declared.types.names.Sel.{Sel}
 use Rattle.go_model.specs.declared.types.names.TypeName.{TypeName}
 use Rattle.go_model.specs.declared.types.term.Signature.{Signature}
 use Rattle.go_model.specs.declared.types.term.Term.{Term}
@@ -20,6 +21,6 @@ pub data IsKeptEnding (r : Naming) : Ending → Ending → Type 0 where
   kept_method : {q k a c : Bool} {o m : Option TypeName} {g : Signature} → (Reaches a q → Reaches c k) → IsKeptEnding r (end_at q (method o a g)) (end_at k (method m c (image_of_signature r same_sels g)))
 
 -- of a type that the client reaches
-abbrev pub TargetReached : List TypePair → (TypeName → Bool) → Target → Type 0
-TargetReached pairs std (field t) = IsReached pairs std t
-TargetReached pairs std (method o p g) = IsReached pairs std (function_type g)
+abbrev pub TargetReached : List TypePair → (TypeName → Bool) → (Sel → Bool) → Target → Type 0
+TargetReached pairs std is_open (field t) = IsReached pairs std is_open t
+TargetReached pairs std is_open (method o p g) = IsReached pairs std is_open (function_type g)

@@ -3,6 +3,7 @@
 use Rattle.std.specs.Prelude.{List, Bool, map}
 use Rattle.go_base.specs.Lists.{Each}
 use Rattle.go_model.specs.declared.constants.value.Value.{Value}
+use Rattle.go_model.specs.declared.types.names.Sel.{Sel}
 use Rattle.go_model.specs.declared.types.names.TypeName.{TypeName}
 use Rattle.go_model.specs.declared.types.package.ConstTerm.{ConstTerm}
 use Rattle.go_model.specs.declared.types.term.Term.{Term}
@@ -30,8 +31,8 @@ IsBare (shape.Many ts) = ⊥
 IsBare s = Unit {0}
 
 -- what an operand of the old side is on the new one
-pub data After (r : Naming) (pairs : List TypePair) (std : TypeName → Bool) : Operand → Operand → Type 0 where
-  after_value : {m k : Mode} {t : Term} → Becomes m k → IsReached pairs std t → After r pairs std (value_of m t) (value_of k (image r same_sels t))
-  after_constant : {c : ConstTerm} {v : Value} → ConstReached pairs std c → After r pairs std (constant_of c v) (constant_of (const_to r c) v)
-  after_tuple : {ts : List Term} → Each (IsReached pairs std) ts → After r pairs std (tuple ts) (tuple (map (image r same_sels) ts))
-  after_bare : {o : Operand} → IsBare o.shape → After r pairs std o o
+pub data After (r : Naming) (pairs : List TypePair) (std : TypeName → Bool) (is_open : Sel → Bool) : Operand → Operand → Type 0 where
+  after_value : {m k : Mode} {t : Term} → Becomes m k → IsReached pairs std is_open t → After r pairs std is_open (value_of m t) (value_of k (image r same_sels t))
+  after_constant : {c : ConstTerm} {v : Value} → ConstReached pairs std is_open c → After r pairs std is_open (constant_of c v) (constant_of (const_to r c) v)
+  after_tuple : {ts : List Term} → Each (IsReached pairs std is_open) ts → After r pairs std is_open (tuple ts) (tuple (map (image r same_sels) ts))
+  after_bare : {o : Operand} → IsBare o.shape → After r pairs std is_open o o

@@ -24,10 +24,10 @@ use Rattle.go_client_types.specs.Preserving.{Preserves}
 use Rattle.go_client_types.specs.Reached.{ConstReached, IsClientSel, IsMade, IsReached}
 
 -- the entry of a client's own type: what is underneath is made of types that it reaches, and so are the signatures of its methods, whose labels it writes
-pub record IsOwnEntry (pairs : List TypePair) (std : TypeName → Bool) (d : Defined) : Type 0 where
+pub record IsOwnEntry (pairs : List TypePair) (std : TypeName → Bool) (is_open : Sel → Bool) (d : Defined) : Type 0 where
   pub made : IsMade (out-Term d.underlying)
-  pub reached : (u : Term) → Has (parts (out-Term d.underlying)) u → IsReached pairs std u
-  pub signatures : (m : MethodOf) → Has d.methods m → IsReached pairs std (function_type m.signature)
+  pub reached : (u : Term) → Has (parts (out-Term d.underlying)) u → IsReached pairs std is_open u
+  pub signatures : (m : MethodOf) → Has d.methods m → IsReached pairs std is_open (function_type m.signature)
   pub labels : (m : MethodOf) → Has d.methods m → IsClientSel m.sel
 
 -- the image of what a name means
@@ -39,17 +39,17 @@ seen_to r (seen.Import path) = seen.Import path
 seen_to r (seen.Universe p) = seen.Universe p
 
 -- of types that the client reaches
-abbrev pub EntityReached : List TypePair → (TypeName → Bool) → Entity → Type 0
-EntityReached pairs std (entity.Const c v) = ConstReached pairs std c
-EntityReached pairs std (entity.Var t) = IsReached pairs std t
-EntityReached pairs std (entity.Function g) = IsReached pairs std (function_type g)
-EntityReached pairs std (entity.TypeOf t) = IsReached pairs std t
+abbrev pub EntityReached : List TypePair → (TypeName → Bool) → (Sel → Bool) → Entity → Type 0
+EntityReached pairs std is_open (entity.Const c v) = ConstReached pairs std is_open c
+EntityReached pairs std is_open (entity.Var t) = IsReached pairs std is_open t
+EntityReached pairs std is_open (entity.Function g) = IsReached pairs std is_open (function_type g)
+EntityReached pairs std is_open (entity.TypeOf t) = IsReached pairs std is_open t
 
-abbrev pub SeenReached : List TypePair → (TypeName → Bool) → Seen → Type 0
-SeenReached pairs std (seen.Local t) = IsReached pairs std t
-SeenReached pairs std (seen.LocalConst c v) = ConstReached pairs std c
-SeenReached pairs std (seen.Object x) = EntityReached pairs std x
-SeenReached pairs std m = Unit {0}
+abbrev pub SeenReached : List TypePair → (TypeName → Bool) → (Sel → Bool) → Seen → Type 0
+SeenReached pairs std is_open (seen.Local t) = IsReached pairs std is_open t
+SeenReached pairs std is_open (seen.LocalConst c v) = ConstReached pairs std is_open c
+SeenReached pairs std is_open (seen.Object x) = EntityReached pairs std is_open x
+SeenReached pairs std is_open m = Unit {0}
 
 -- the new object of an import: the image, or a variable that a function became
 pub data IsKeptEntity (r : Naming) : Entity → Entity → Type 0 where
@@ -62,14 +62,14 @@ pub record Keeps (E F : Env) (r : Naming) (pairs : List TypePair) (std : TypeNam
   -- the client's own types have the images of their entries
   pub entries : (n : TypeName) → is_imported n ≡ false → entry F.table n ≡ entry_to r (entry E.table n)
   -- which are made of what the client reaches
-  pub own_entries : (n : TypeName) (d : Defined) → is_imported n ≡ false → entry E.table n ≡ Some d → IsOwnEntry pairs std d
+  pub own_entries : (n : TypeName) (d : Defined) → is_imported n ≡ false → entry E.table n ≡ Some d → IsOwnEntry pairs std is_open d
   -- the same methods are missing of its own types, and none of others
   pub missing : (n : TypeName) → is_imported n ≡ false → F.missing n ≡ E.missing n
   pub none_missing : (n : TypeName) → n.path ≢ client_path → (E.missing n ≡ []) × (F.missing n ≡ [])
   -- a name means the image of what it meant
-  pub meanings : (name : List ℕ) (m : Seen) → E.meaning name ≡ Some m → (F.meaning name ≡ Some (seen_to r m)) × SeenReached pairs std m
+  pub meanings : (name : List ℕ) (m : Seen) → E.meaning name ≡ Some m → (F.meaning name ≡ Some (seen_to r m)) × SeenReached pairs std is_open m
   -- an exported object of an import has a new one
-  pub objects : (name path object : List ℕ) (x : Entity) → E.meaning name ≡ Some (seen.Import path) → is_exported object ≡ true → E.object path object ≡ Some x → (y : Entity) × (F.object path object ≡ Some y) × IsKeptEntity r x y × EntityReached pairs std x
+  pub objects : (name path object : List ℕ) (x : Entity) → E.meaning name ≡ Some (seen.Import path) → is_exported object ≡ true → E.object path object ≡ Some x → (y : Entity) × (F.object path object ≡ Some y) × IsKeptEntity r x y × EntityReached pairs std is_open x
   -- the same package, word size and `iota`, and both are of a client of the profile
   pub path : F.path ≡ E.path
   pub bits : F.bits ≡ E.bits

@@ -12,6 +12,7 @@ use Rattle.go_model.specs.types.Imports.{is_imported}
 use Rattle.go_model.specs.types.MethodSets.{method_sel}
 use Rattle.go_model.specs.types.Selectors.{base_of}
 use Rattle.go_model.specs.types.TypeNames.{names}
+use Rattle.go_model.specs.types.TypeSelectors.{selectors}
 use Rattle.go_model.specs.types.Terms.{Layer, client_path}
 use Rattle.go_rules.specs.Asks.{IsOwnLayer}
 use Rattle.go_type_images.specs.Parts.{parts}
@@ -33,14 +34,14 @@ IsMade (Term-F.Struct fs) = Each IsMadeField fs
 IsMade (Term-F.Interface ms) = Each (λ m. IsClientSel (method_sel m)) ms
 IsMade l = Unit {0}
 
--- the old type of a pair, or a type of the names that pass the test alone
-abbrev pub IsGiven : List TypePair → (TypeName → Bool) → Term → Type 0
-IsGiven pairs std t = ((p : TypePair) × Has pairs p × (p.old ≡ t)) ⊎ Passes std (names t)
+-- the old type of a pair, or a type of which all names and all labels pass the tests
+abbrev pub IsGiven : List TypePair → (TypeName → Bool) → (Sel → Bool) → Term → Type 0
+IsGiven pairs std is_open t = ((p : TypePair) × Has pairs p × (p.old ≡ t)) ⊎ (Passes std (names t) × Passes is_open (selectors t))
 
-module _ (pairs : List TypePair) (std : TypeName → Bool) where
+module _ (pairs : List TypePair) (std : TypeName → Bool) (is_open : Sel → Bool) where
   -- a type that a client reaches
   pub data IsReached : Term → Type 0 where
-    reach_given : {t : Term} → IsGiven pairs std t → IsReached t
+    reach_given : {t : Term} → IsGiven pairs std is_open t → IsReached t
     reach_own : {t : Term} {n : TypeName} → out-Term t ≡ Term-F.Named n → is_imported n ≡ false → IsReached t
     reach_made : {t : Term} → IsMade (out-Term t) → ((u : Term) → Has (parts (out-Term t)) u → IsReached u) → IsReached t
 

@@ -45,8 +45,8 @@ pub fn own_types()
 /// What is underneath a type that a client reaches, but for structs and interfaces, is on the new side the image of what it is on
 /// the old one, and the client reaches the types in it.
 pub fn kept_levels()
-    ensures { (E F : Env) (r : Naming) (pairs : List TypePair) (std : TypeName → Bool) (is_open : Sel → Bool) → Keeps E F r pairs std is_open → (t : Term) (l : Layer) → IsReached pairs std t → is_structured l ≡ false → under E.table t ≡ l
-        → (under F.table (image r same_sels t) ≡ image_of_layer r same_sels l) × ((u : Term) → HasItem (parts l) u → IsReached pairs std u) }
+    ensures { (E F : Env) (r : Naming) (pairs : List TypePair) (std : TypeName → Bool) (is_open : Sel → Bool) → Keeps E F r pairs std is_open → (t : Term) (l : Layer) → IsReached pairs std is_open t → is_structured l ≡ false → under E.table t ≡ l
+        → (under F.table (image r same_sels t) ≡ image_of_layer r same_sels l) × ((u : Term) → HasItem (parts l) u → IsReached pairs std is_open u) }
 {}
 
 /// A type form of a client that stands for a type on the old side, and meets what it is asked once all is had, stands on the new side
@@ -54,47 +54,47 @@ pub fn kept_levels()
 pub fn kept_type_forms()
     ensures { (E F G : Env) (r : Naming) (pairs : List TypePair) (std : TypeName → Bool) (is_open : Sel → Bool) → Keeps E F r pairs std is_open → Grows E G → G.profile ≡ true
         → ((e : Expr) (c : ConstTerm) (v : Value) → Has E e (constant_of c v) → Meets G (expression e) → Has F e (constant_of (const_to r c) v))
-        → (t : Typ) (u : Term) → OfType E t u → Meets G (type t) → OfType F t (image r same_sels u) × IsReached pairs std u }
+        → (t : Typ) (u : Term) → OfType E t u → Meets G (type t) → OfType F t (image r same_sels u) × IsReached pairs std is_open u }
 {}
 
 /// What is known of an operand is known of what it is on the new side: its type or kind, and that it is within bounds.
 pub fn followed_operands()
-    ensures typed { (r : Naming) (pairs : List TypePair) (std : TypeName → Bool) (o p : Operand) (t : Term) → After r pairs std o p → IsTyped o t → IsTyped p (image r same_sels t) × IsReached pairs std t }
-    ensures untyped { (r : Naming) (pairs : List TypePair) (std : TypeName → Bool) (o p : Operand) (k : Untyped) → After r pairs std o p → IsUntyped o k → IsUntyped p k }
-    ensures within { (r : Naming) (pairs : List TypePair) (std : TypeName → Bool) (o p : Operand) → After r pairs std o p → ShapeWithin o.shape → ShapeWithin p.shape }
-    ensures kind { (E F : Env) (r : Naming) (pairs : List TypePair) (std : TypeName → Bool) (is_open : Sel → Bool) → Keeps E F r pairs std is_open → (c : ConstTerm) (k : Kind) → ConstReached pairs std c → HasKind E c k → HasKind F (const_to r c) k }
+    ensures typed { (r : Naming) (pairs : List TypePair) (std : TypeName → Bool) (is_open : Sel → Bool) (o p : Operand) (t : Term) → After r pairs std is_open o p → IsTyped o t → IsTyped p (image r same_sels t) × IsReached pairs std is_open t }
+    ensures untyped { (r : Naming) (pairs : List TypePair) (std : TypeName → Bool) (is_open : Sel → Bool) (o p : Operand) (k : Untyped) → After r pairs std is_open o p → IsUntyped o k → IsUntyped p k }
+    ensures within { (r : Naming) (pairs : List TypePair) (std : TypeName → Bool) (is_open : Sel → Bool) (o p : Operand) → After r pairs std is_open o p → ShapeWithin o.shape → ShapeWithin p.shape }
+    ensures kind { (E F : Env) (r : Naming) (pairs : List TypePair) (std : TypeName → Bool) (is_open : Sel → Bool) → Keeps E F r pairs std is_open → (c : ConstTerm) (k : Kind) → ConstReached pairs std is_open c → HasKind E c k → HasKind F (const_to r c) k }
 {}
 
 /// What a selector that a client may write finds from a type that it reaches, it finds on the new side from the image: the image,
 /// through a pointer where it was, and of a type that the client reaches.
 pub fn found_endings()
-    ensures { (E F : Env) (r : Naming) (pairs : List TypePair) (std : TypeName → Bool) (is_open : Sel → Bool) → Keeps E F r pairs std is_open → (t : Term) → IsReached pairs std t
+    ensures { (E F : Env) (r : Naming) (pairs : List TypePair) (std : TypeName → Bool) (is_open : Sel → Bool) → Keeps E F r pairs std is_open → (t : Term) → IsReached pairs std is_open t
         → (s : Sel) → IsClientSel s → (IsBlank s → ⊥) → (b through : Bool) (depth : ℕ) (g : Target) → IsOnly E.table s (at_spot b t) depth (end_at through g)
-        → (found : ℕ) × (e : Ending) × IsOnly F.table s (at_spot b (image r same_sels t)) found e × IsKeptEnding r (end_at through g) e × TargetReached pairs std g }
+        → (found : ℕ) × (e : Ending) × IsOnly F.table s (at_spot b (image r same_sels t)) found e × IsKeptEnding r (end_at through g) e × TargetReached pairs std is_open g }
 {}
 
 /// What a selector that a client may write finds in a type that it reaches, with all that was searched, it finds in the image; and a
 /// method that can be called there, of an open selector or of one of the client's package, can be called.
 pub fn kept_found()
-    ensures found { (E F : Env) (r : Naming) (pairs : List TypePair) (std : TypeName → Bool) (is_open : Sel → Bool) → Keeps E F r pairs std is_open → (t : Term) → IsReached pairs std t
+    ensures found { (E F : Env) (r : Naming) (pairs : List TypePair) (std : TypeName → Bool) (is_open : Sel → Bool) → Keeps E F r pairs std is_open → (t : Term) → IsReached pairs std is_open t
         → (s : Sel) → IsClientSel s → (IsBlank s → ⊥) → (through : Bool) (g : Target) → Found E s t (end_at through g)
-        → (e : Ending) × Found F s (image r same_sels t) e × IsKeptEnding r (end_at through g) e × TargetReached pairs std g }
-    ensures method { (E F : Env) (r : Naming) (pairs : List TypePair) (std : TypeName → Bool) (is_open : Sel → Bool) → Keeps E F r pairs std is_open → (addressable : Bool) (t : Term) → IsReached pairs std t
+        → (e : Ending) × Found F s (image r same_sels t) e × IsKeptEnding r (end_at through g) e × TargetReached pairs std is_open g }
+    ensures method { (E F : Env) (r : Naming) (pairs : List TypePair) (std : TypeName → Bool) (is_open : Sel → Bool) → Keeps E F r pairs std is_open → (addressable : Bool) (t : Term) → IsReached pairs std is_open t
         → (s : Sel) → (is_open s ≡ true) ⊎ (s.«package» ≡ client_path) → (g : Signature) → HasMethod E addressable t s g
-        → HasMethod F addressable (image r same_sels t) s (image_of_signature r same_sels g) × IsReached pairs std (function_type g) }
+        → HasMethod F addressable (image r same_sels t) s (image_of_signature r same_sels g) × IsReached pairs std is_open (function_type g) }
 {}
 
 /// The relations of the types that a client reaches are kept: a comparable one stays so, with the entries of the types to which paths lead,
 /// one that implements an interface implements the image, and one that is assignable or convertible to another stays so; where an operand
 /// may be used as a value of a type, it may be used as one of the image, and where two match, they match.
 pub fn kept_relations()
-    ensures comparable { (E F : Env) (r : Naming) (pairs : List TypePair) (std : TypeName → Bool) (is_open : Sel → Bool) → Keeps E F r pairs std is_open → (t : Term) → IsReached pairs std t → Comparable E.table t → Comparable F.table (image r same_sels t) }
-    ensures entered { (E F : Env) (r : Naming) (pairs : List TypePair) (std : TypeName → Bool) (is_open : Sel → Bool) → Keeps E F r pairs std is_open → (t : Term) → IsReached pairs std t → Entered E t → Entered F (image r same_sels t) }
-    ensures compares { (E F : Env) (r : Naming) (pairs : List TypePair) (std : TypeName → Bool) (is_open : Sel → Bool) → Keeps E F r pairs std is_open → (t : Term) → IsReached pairs std t → Compares E t → Compares F (image r same_sels t) }
-    ensures implements { (E F : Env) (r : Naming) (pairs : List TypePair) (std : TypeName → Bool) (is_open : Sel → Bool) → Keeps E F r pairs std is_open → (t interface : Term) → IsReached pairs std t → IsReached pairs std interface → Implements E t interface → Implements F (image r same_sels t) (image r same_sels interface) }
-    ensures assignable { (E F : Env) (r : Naming) (pairs : List TypePair) (std : TypeName → Bool) (is_open : Sel → Bool) → Keeps E F r pairs std is_open → (from to : Term) → IsReached pairs std from → IsReached pairs std to → Assignable E from to → Assignable F (image r same_sels from) (image r same_sels to) }
-    ensures convertible { (E F : Env) (r : Naming) (pairs : List TypePair) (std : TypeName → Bool) (is_open : Sel → Bool) → Keeps E F r pairs std is_open → (from to : Term) → IsReached pairs std from → IsReached pairs std to → Convertible E from to → Convertible F (image r same_sels from) (image r same_sels to) }
-    ensures usable { (E F : Env) (r : Naming) (pairs : List TypePair) (std : TypeName → Bool) (is_open : Sel → Bool) → Keeps E F r pairs std is_open → (o p : Operand) (t : Term) → After r pairs std o p → IsReached pairs std t → UsableAs E o t → UsableAs F p (image r same_sels t) }
-    ensures matching { (E F : Env) (r : Naming) (pairs : List TypePair) (std : TypeName → Bool) (is_open : Sel → Bool) → Keeps E F r pairs std is_open → (left right new_left new_right : Operand) (c : ConstTerm) → After r pairs std left new_left → After r pairs std right new_right → Match E left right c
-        → Match F new_left new_right (const_to r c) × ConstReached pairs std c }
+    ensures comparable { (E F : Env) (r : Naming) (pairs : List TypePair) (std : TypeName → Bool) (is_open : Sel → Bool) → Keeps E F r pairs std is_open → (t : Term) → IsReached pairs std is_open t → Comparable E.table t → Comparable F.table (image r same_sels t) }
+    ensures entered { (E F : Env) (r : Naming) (pairs : List TypePair) (std : TypeName → Bool) (is_open : Sel → Bool) → Keeps E F r pairs std is_open → (t : Term) → IsReached pairs std is_open t → Entered E t → Entered F (image r same_sels t) }
+    ensures compares { (E F : Env) (r : Naming) (pairs : List TypePair) (std : TypeName → Bool) (is_open : Sel → Bool) → Keeps E F r pairs std is_open → (t : Term) → IsReached pairs std is_open t → Compares E t → Compares F (image r same_sels t) }
+    ensures implements { (E F : Env) (r : Naming) (pairs : List TypePair) (std : TypeName → Bool) (is_open : Sel → Bool) → Keeps E F r pairs std is_open → (t interface : Term) → IsReached pairs std is_open t → IsReached pairs std is_open interface → Implements E t interface → Implements F (image r same_sels t) (image r same_sels interface) }
+    ensures assignable { (E F : Env) (r : Naming) (pairs : List TypePair) (std : TypeName → Bool) (is_open : Sel → Bool) → Keeps E F r pairs std is_open → (from to : Term) → IsReached pairs std is_open from → IsReached pairs std is_open to → Assignable E from to → Assignable F (image r same_sels from) (image r same_sels to) }
+    ensures convertible { (E F : Env) (r : Naming) (pairs : List TypePair) (std : TypeName → Bool) (is_open : Sel → Bool) → Keeps E F r pairs std is_open → (from to : Term) → IsReached pairs std is_open from → IsReached pairs std is_open to → Convertible E from to → Convertible F (image r same_sels from) (image r same_sels to) }
+    ensures usable { (E F : Env) (r : Naming) (pairs : List TypePair) (std : TypeName → Bool) (is_open : Sel → Bool) → Keeps E F r pairs std is_open → (o p : Operand) (t : Term) → After r pairs std is_open o p → IsReached pairs std is_open t → UsableAs E o t → UsableAs F p (image r same_sels t) }
+    ensures matching { (E F : Env) (r : Naming) (pairs : List TypePair) (std : TypeName → Bool) (is_open : Sel → Bool) → Keeps E F r pairs std is_open → (left right new_left new_right : Operand) (c : ConstTerm) → After r pairs std is_open left new_left → After r pairs std is_open right new_right → Match E left right c
+        → Match F new_left new_right (const_to r c) × ConstReached pairs std is_open c }
 {}

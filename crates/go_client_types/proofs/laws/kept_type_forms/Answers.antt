@@ -15,4 +15,4 @@ more E G grows q t a = subst (λ D. IsTypeName D q t) (joined_is E G grows) (typ
 
 pub returns : goal.returns
 returns c = λ E F G r pairs std is_open K grows barred lengths t u h m.
-    type_kept E F G r pairs std is_open K (universe r pairs std (K.types.own _ refl) E.iota) (embeds E G (more E G grows) barred) (embeds_too E G (more E G grows) barred) lengths h m
+    type_kept E F G r pairs std is_open K (universe r pairs std is_open (K.types.own _ refl) E.iota) (embeds E G (more E G grows) barred) (embeds_too E G (more E G grows) barred) lengths h m
