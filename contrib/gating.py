@@ -1,6 +1,7 @@
-"""What contrib/release-gate and contrib/debian-gate have in common: the cutter, the program, and versions."""
+"""What the recipes have in common: how the program is run, versions, why nothing was judged, and how a run ends."""
 import os
 import re
+import signal
 import subprocess
 import sys
 
@@ -8,14 +9,13 @@ TOP = os.path.dirname(os.path.dirname(os.path.abspath(__file__)))
 PROGRAM = os.path.join(TOP, "apigate")
 NUMBER = "(0|[1-9][0-9]*)"
 RELEASE = re.compile(r"v?%s\.%s\.%s$" % (NUMBER, NUMBER, NUMBER))
-OLD_FORM = re.compile(rb"^//[ \t]*\+build[ \t]", re.M)
-NEW_FORM = re.compile(rb"^//go:build[ \t]", re.M)
+REFUSED = 3
 
 
 class Stop(Exception):
     """Why nothing was judged, and the status to end with."""
 
-    def __init__(self, what, status=3):
+    def __init__(self, what, status=REFUSED):
         super().__init__(what)
         self.status = status
 
@@ -26,67 +26,44 @@ def numbers(version):
     return tuple(int(number) for number in found.groups()) if found else None
 
 
-def old_form(folder):
-    """The files that have build lines of the old form alone."""
-    found = []
-    for at, _, names in os.walk(folder):
-        for path in (os.path.join(at, name) for name in names if name.endswith(".go") and not name.endswith("_test.go")):
-            if os.path.islink(path):
-                continue
-            with open(path, "rb") as file:
-                text = file.read()
-            if OLD_FORM.search(text) and not NEW_FORM.search(text):
-                found.append(os.path.relpath(path, folder))
-    return sorted(found)
+def shown(text):
+    """A name on one line: what doesn't print is written as Python writes it."""
+    return "".join(each if each.isprintable() else each.encode("unicode_escape", "backslashreplace").decode() for each in text)
 
 
-def renew(folder):
-    """Gives these files of a copy build lines of the new form, as gofmt does."""
-    found = old_form(folder)
-    if found:
-        subprocess.run(["gofmt", "-w", "--", *found], cwd=folder)
-        print("note: gofmt gave a go:build line to %s" % " ".join(found), file=sys.stderr)
+def say(text):
+    """Writes a line on standard error."""
+    print(text, file=sys.stderr, flush=True)
 
 
-def cut(room, platforms, old, new, settings=None):
-    """Cuts what both trees need of other packages into room/std."""
-    program = os.path.join(room, "stdcut")
-    made = subprocess.run(["go", "build", "-o", program, "./tools/stdcut"], cwd=TOP)
-    if made.returncode:
-        raise Stop("tools/stdcut can't be built")
-    folder = os.path.join(room, "std")
-    words = [program, "--platforms", platforms, "--out", folder, old, new]
-    ran = subprocess.run(words, env={**os.environ, **(settings or {})}, stderr=subprocess.PIPE, text=True, errors="replace")
-    if ran.returncode == 2:
-        raise Stop("tools/stdcut: " + ran.stderr.strip())
-    for line in ran.stderr.splitlines():
-        if line.startswith("fault "):
-            print(line, file=sys.stderr)
-    return folder
-
-
-def gate(room, std, platforms, old, new, api, exceptions, version):
-    """Runs the gate; without files of frozen lines the features of the old tree are the promises. Returns its status and report."""
-    # the launcher unpacks or builds the program at its first run, and tells of it
+def ready():
+    """Tries the program: the launcher unpacks or builds it at its first run, and tells of it."""
     tried = subprocess.run([PROGRAM, "make", "--seed", "1", "--size", "1"], stdout=subprocess.DEVNULL)
     if tried.returncode:
         raise Stop("the program can't be run", tried.returncode)
+
+
+def told(words):
+    """Runs the program with these words, and returns its status, its report and its line on standard error."""
+    ran = subprocess.run([PROGRAM, *words], stdout=subprocess.PIPE, stderr=subprocess.PIPE)
+    return ran.returncode, ran.stdout.decode(), ran.stderr.decode(errors="replace")
+
+
+def gate(room, std, platforms, old, new, api, exceptions, version):
+    """Runs the gate; without files of frozen lines the features of the old tree are the promises. Returns its status, report and line on
+    standard error."""
+    ready()
     common = ["--std", std, "--platforms", platforms]
     if not api:
         api = os.path.join(room, "api.txt")
-        ran = subprocess.run([PROGRAM, "features", "--new", old, *common], stdout=subprocess.PIPE, stderr=subprocess.PIPE)
-        # what is new to this run is the old tree
-        sys.stderr.write(ran.stderr.decode(errors="replace").replace("apigate: new", "apigate: old"))
-        if ran.returncode:
-            return ran.returncode, ""
-        with open(api, "wb") as file:
-            file.write(ran.stdout)
+        status, report, fault = told(["features", "--new", old, *common])
+        if status:
+            # what is new to this run is the old tree
+            return status, "", fault.replace("apigate: new", "apigate: old", 1)
+        with open(api, "w", encoding="utf-8") as file:
+            file.write(report)
     words = ["gate", "--old", old, "--new", new, *common, "--api", api, "--version", version]
-    if exceptions:
-        words += ["--except", exceptions]
-    ran = subprocess.run([PROGRAM, *words], stdout=subprocess.PIPE, text=True)
-    sys.stdout.write(ran.stdout)
-    return ran.returncode, ran.stdout
+    return told(words + (["--except", exceptions] if exceptions else []))
 
 
 def advised(report):
@@ -97,8 +74,20 @@ def advised(report):
 
 def main(run):
     """Ends with the status of run(), or with that of what stopped it."""
+    signal.signal(signal.SIGTERM, lambda *_: sys.exit(128 + signal.SIGTERM))
     try:
-        sys.exit(run())
+        status = run()
+        sys.stdout.flush()
     except Stop as stop:
-        print("%s: %s" % (os.path.basename(sys.argv[0]), stop), file=sys.stderr)
-        sys.exit(stop.status)
+        say("%s: %s" % (os.path.basename(sys.argv[0]), stop))
+        status = stop.status
+    except KeyboardInterrupt:
+        status = 128 + signal.SIGINT
+    except BrokenPipeError:
+        # or else the interpreter tries once more
+        os.dup2(os.open(os.devnull, os.O_WRONLY), sys.stdout.fileno())
+        status = 5
+    except OSError as error:
+        say("%s: %s" % (os.path.basename(sys.argv[0]), shown(str(error))))
+        status = 4
+    sys.exit(status)

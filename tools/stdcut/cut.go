@@ -10,12 +10,14 @@ import (
 	"sort"
 	"strconv"
 	"strings"
+
+	"apigate/internal/trees"
 )
 
 // A cut is what is needed on one platform.
 type cut struct {
 	loader  *loader
-	trees   []*tree
+	trees   []*trees.Tree
 	units   map[*types.Package]*unit
 	dropped map[types.Object]string
 	kept    map[types.Object]*declaration
@@ -56,7 +58,7 @@ func (c *cut) written(object types.Object) types.Type {
 
 // cutOut gives files for the packages `units` and all others that are wanted so that the objects `roots`, which modules name, and
 // `more` mean what they do.
-func cutOut(l *loader, trees []*tree, units []*unit, roots, more []types.Object) *cut {
+func cutOut(l *loader, trees []*trees.Tree, units []*unit, roots, more []types.Object) *cut {
 	c := &cut{
 		loader: l, trees: trees, units: map[*types.Package]*unit{}, dropped: map[types.Object]string{},
 		kept: map[types.Object]*declaration{}, lines: map[string]bool{}, files: map[string]string{},

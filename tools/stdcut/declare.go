@@ -8,6 +8,8 @@ import (
 	"sort"
 	"strconv"
 	"strings"
+
+	"apigate/internal/trees"
 )
 
 // Bounds of apigate's constants: those of numbers of 128 bits, and the length of a text.
@@ -77,12 +79,12 @@ func (c *cut) speller(d *declaration, names map[*types.Package]string) *speller 
 func (c *cut) unfit(object types.Object) string {
 	path := object.Pkg().Path()
 	for _, element := range strings.Split(path, "/") {
-		if !isWalked(element) {
+		if !trees.IsWalked(element) {
 			return "a path that apigate doesn't read"
 		}
 	}
 	for _, one := range c.trees {
-		if isUnder(path, one.module) {
+		if trees.IsUnder(path, one.Module) {
 			return "a path under that of a module"
 		}
 	}

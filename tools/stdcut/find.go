@@ -7,6 +7,8 @@ import (
 	"os/exec"
 	"path/filepath"
 	"strings"
+
+	"apigate/internal/trees"
 )
 
 // vendored begins the paths under which Go's own packages hold copies of others.
@@ -21,7 +23,9 @@ func isFolder(path string) bool {
 type finder struct {
 	context build.Context
 	folder  string
+	module  string
 	listed  map[string]string
+	told    func(string) // gets a line on what is taken from where nothing of the user's says so
 }
 
 // own finds a package of Go's: its whole path and folder. Those that it imports may be copies.
@@ -48,14 +52,54 @@ func (f *finder) other(path string) (string, bool) {
 		f.list("-find", "--", path)
 	}
 	if f.listed[path] == "" {
-		f.listed[path] = "" // what isn't found is sought once
-		for _, top := range filepath.SplitList(f.context.GOPATH) {
-			if folder := filepath.Join(top, "src", path); f.listed[path] == "" && isFolder(folder) {
-				f.listed[path] = folder
-			}
-		}
+		f.listed[path] = f.lying(path) // what isn't found is sought once
 	}
 	return f.listed[path], f.listed[path] != ""
+}
+
+// lying finds a package where no command finds it: among the module's vendored ones, below GOPATH, below the GOPATH in which the module
+// itself lies, and where Debian's packages put it.
+func (f *finder) lying(path string) string {
+	if folder := filepath.Join(f.folder, vendored, path); f.folder != "" && isFolder(folder) {
+		return folder
+	}
+	for _, top := range filepath.SplitList(f.context.GOPATH) {
+		if folder := below(top, path); folder != "" {
+			return folder
+		}
+	}
+	tops := []string{debian}
+	if whole, err := filepath.Abs(f.folder); err == nil && f.folder != "" {
+		if top := strings.TrimSuffix(whole, filepath.FromSlash("/src/"+f.module)); top != whole {
+			tops = []string{top, debian}
+		}
+	}
+	for _, top := range tops {
+		if folder := below(top, path); folder != "" {
+			f.told(path + " is taken from " + top)
+			return folder
+		}
+	}
+	return ""
+}
+
+// below is the folder of a package below a GOPATH; a major number in its path may stand in go.mod alone.
+func below(top, path string) string {
+	if folder := filepath.Join(top, "src", path); isFolder(folder) {
+		return folder
+	}
+	elements := strings.Split(path, "/")
+	for i, one := range elements {
+		if i == 0 || !major.MatchString("/"+one) {
+			continue
+		}
+		module, rest := strings.Join(elements[:i], "/"), strings.Join(elements[i+1:], "/")
+		text, err := os.ReadFile(filepath.Join(top, "src", module, "go.mod"))
+		if said, _ := trees.ModuleOf(string(text)); err == nil && said == module+"/"+one && isFolder(filepath.Join(top, "src", module, rest)) {
+			return filepath.Join(top, "src", module, rest)
+		}
+	}
+	return ""
 }
 
 // list asks the command `go`, which is to fetch nothing.

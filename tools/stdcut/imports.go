@@ -1,21 +1,13 @@
-// Which imports of a file count: those that are used outside of the bodies of functions.
+// Which imports of a file are kept: those that are used outside of the bodies of functions.
 package main
 
 import (
 	"go/ast"
 	"go/token"
 	"strconv"
-	"strings"
-)
 
-func importsC(file *ast.File) bool {
-	for _, spec := range file.Imports {
-		if spec.Path.Value == `"C"` || spec.Path.Value == "`C`" {
-			return true
-		}
-	}
-	return false
-}
+	"apigate/internal/trees"
+)
 
 // dropValues drops the values of variables that have a written type: nothing stands on them.
 func dropValues(file *ast.File) {
@@ -30,29 +22,9 @@ func dropValues(file *ast.File) {
 	}
 }
 
-// qualifiers are the names that stand before a dot, outside of bodies unless `whole` is said.
-func qualifiers(file *ast.File, whole bool) map[string]bool {
-	found := map[string]bool{}
-	look := func(node ast.Node) bool {
-		switch node := node.(type) {
-		case *ast.BlockStmt:
-			return whole
-		case *ast.SelectorExpr:
-			if name, is := node.X.(*ast.Ident); is {
-				found[name.Name] = true
-			}
-		}
-		return true
-	}
-	for _, decl := range file.Decls {
-		ast.Inspect(decl, look)
-	}
-	return found
-}
-
 // keepUsed leaves only those imports in a file that are used; in a client, which is read whole, all.
 func (l *loader) keepUsed(file *ast.File, from seeker, whole bool) {
-	used := qualifiers(file, whole)
+	used := trees.Qualifiers(file, whole)
 	isUsed := func(spec *ast.ImportSpec) bool {
 		path, err := strconv.Unquote(spec.Path.Value)
 		switch {
@@ -70,7 +42,7 @@ func (l *loader) keepUsed(file *ast.File, from seeker, whole bool) {
 				return used[name]
 			}
 		}
-		return used[assumedName(path)]
+		return used[trees.AssumedName(path)]
 	}
 	kept := file.Imports[:0]
 	for _, spec := range file.Imports {
@@ -101,21 +73,4 @@ func among(specs []ast.Spec, kept []*ast.ImportSpec) []ast.Spec {
 		}
 	}
 	return found
-}
-
-// assumedName is the name that apigate assumes of a package that isn't found.
-func assumedName(path string) string {
-	elements := strings.Split(path, "/")
-	last := elements[len(elements)-1]
-	if digits := strings.TrimPrefix(last, "v"); len(elements) > 1 && digits != last && digits != "" && strings.Trim(digits, "0123456789") == "" {
-		last = elements[len(elements)-2]
-	}
-	last = strings.TrimPrefix(last, "go-")
-	for i := 0; i < len(last); i++ {
-		b := last[i]
-		if !('a' <= b && b <= 'z' || 'A' <= b && b <= 'Z' || '0' <= b && b <= '9' || b == '_') {
-			return last[:i]
-		}
-	}
-	return last
 }

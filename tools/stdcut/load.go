@@ -1,4 +1,4 @@
-// Packages read from their sources and typed for one platform, without the bodies of functions.
+// Packages read from their sources and typed for one trees.Platform, without the bodies of functions.
 package main
 
 import (
@@ -14,6 +14,8 @@ import (
 	"sort"
 	"strconv"
 	"strings"
+
+	"apigate/internal/trees"
 )
 
 // A unit is a package that was read and typed.
@@ -29,28 +31,28 @@ type unit struct {
 
 // A seeker says by which module imports are sought, whether the importing package is in it, or else one of Go's own.
 type seeker struct {
-	by          *tree
+	by          *trees.Tree
 	inside, own bool
 }
 
 // A loader reads packages for one platform.
 type loader struct {
-	platform platform
+	platform trees.Platform
 	context  build.Context
 	files    *token.FileSet
-	inside   map[*tree]map[string]*unit
+	inside   map[*trees.Tree]map[string]*unit
 	outside  map[string]*unit
-	finders  map[*tree]*finder
+	finders  map[*trees.Tree]*finder
 	names    map[string]string
 	faults   map[string]bool // why a module can't be read or typed
 	notes    map[string]bool // what is amiss outside of modules
 }
 
-func newLoader(of platform) *loader {
+func newLoader(of trees.Platform) *loader {
 	return &loader{
-		platform: of, context: of.context(), files: token.NewFileSet(),
-		inside: map[*tree]map[string]*unit{}, outside: map[string]*unit{},
-		finders: map[*tree]*finder{}, names: map[string]string{}, faults: map[string]bool{}, notes: map[string]bool{},
+		platform: of, context: of.Context(), files: token.NewFileSet(),
+		inside: map[*trees.Tree]map[string]*unit{}, outside: map[string]*unit{},
+		finders: map[*trees.Tree]*finder{}, names: map[string]string{}, faults: map[string]bool{}, notes: map[string]bool{},
 	}
 }
 
@@ -110,14 +112,14 @@ func (l *loader) locate(path string, from seeker) (location, bool) {
 	if path == "unsafe" || path == "C" {
 		return location{}, false
 	}
-	if from.inside && from.by != nil && isUnder(path, from.by.module) {
-		folder, is := from.by.places[path]
+	if from.inside && from.by != nil && trees.IsUnder(path, from.by.Module) {
+		folder, is := from.by.Places[path]
 		return location{path, folder, from}, is
 	}
 	if l.finders[from.by] == nil {
-		l.finders[from.by] = &finder{context: l.context}
+		l.finders[from.by] = &finder{context: l.context, told: func(line string) { l.notes[line] = true }}
 		if from.by != nil {
-			l.finders[from.by].folder = from.by.folder
+			l.finders[from.by].folder, l.finders[from.by].module = from.by.Folder, from.by.Module
 		}
 	}
 	finder := l.finders[from.by]
@@ -135,7 +137,7 @@ func (l *loader) locate(path string, from seeker) (location, bool) {
 func (l *loader) load(path string, from seeker) (*unit, error) {
 	at, is := l.locate(path, from)
 	if !is {
-		return nil, fmt.Errorf("not found")
+		return nil, errNotFound
 	}
 	known := l.outside
 	if at.seeker.inside {
@@ -161,8 +163,11 @@ func (l *loader) load(path string, from seeker) (*unit, error) {
 	return found, err
 }
 
-// errNoFile is the error of a folder that is no package on the platform.
-var errNoFile = errors.New("no file for the platform")
+// errNoFile is the error of a folder that is no package on the platform, errNotFound that of a path without one.
+var (
+	errNoFile   = errors.New("no file for the platform")
+	errNotFound = errors.New("not found")
+)
 
 // read reads and types the package in a folder; bodies count where `whole` is said.
 func (l *loader) read(at location, whole bool) (*unit, error) {
@@ -170,28 +175,28 @@ func (l *loader) read(at location, whole bool) (*unit, error) {
 	if err != nil {
 		return nil, err
 	}
-	var trees []*ast.File
+	var parsed []*ast.File
 	for _, path := range files {
 		file, err := parser.ParseFile(l.files, path, nil, parser.SkipObjectResolution)
 		if err != nil {
 			return nil, err
 		}
-		if importsC(file) {
+		if trees.ImportsC(file) {
 			continue
 		}
-		if trees = append(trees, file); file.Name.Name != trees[0].Name.Name {
+		if parsed = append(parsed, file); file.Name.Name != parsed[0].Name.Name {
 			return nil, fmt.Errorf("two package names in %s", at.folder)
 		}
 	}
-	if len(trees) == 0 {
+	if len(parsed) == 0 {
 		return nil, errNoFile
 	}
-	if trees[0].Name.Name == "main" && !at.seeker.inside {
+	if parsed[0].Name.Name == "main" && !at.seeker.inside {
 		return nil, fmt.Errorf("a program")
 	}
 	found := &unit{path: at.path, folder: at.folder}
 	known := imported{"unsafe": types.Unsafe}
-	for _, file := range trees {
+	for _, file := range parsed {
 		if !at.seeker.inside {
 			dropValues(file)
 		}
@@ -202,11 +207,11 @@ func (l *loader) read(at location, whole bool) (*unit, error) {
 	}
 	found.info = &types.Info{Types: map[ast.Expr]types.TypeAndValue{}, Defs: map[*ast.Ident]types.Object{}, Uses: map[*ast.Ident]types.Object{}}
 	settings := types.Config{
-		Importer: known, Sizes: l.platform.sizes(), IgnoreFuncBodies: !whole,
+		Importer: known, Sizes: l.platform.Sizes(), IgnoreFuncBodies: !whole,
 		Error: func(err error) { l.untyped(at, err) },
 	}
-	found.pack, _ = settings.Check(at.path, l.files, trees, found.info)
-	found.index(trees)
+	found.pack, _ = settings.Check(at.path, l.files, parsed, found.info)
+	found.index(parsed)
 	return found, nil
 }
 
@@ -224,7 +229,9 @@ func (l *loader) follow(found *unit, spec *ast.ImportSpec, at location, known im
 		return
 	}
 	below, err := l.load(path, at.seeker)
-	if err != nil && at.seeker.inside {
+	if err == errNotFound && at.seeker.inside {
+		l.fault("%s imports %s: %v%s", at.path, path, err, mends(at.seeker.by, path))
+	} else if err != nil && at.seeker.inside {
 		l.fault("%s imports %s: %v", at.path, path, err)
 	} else if err != nil {
 		l.notes[fmt.Sprintf("%s imports %s: %v", at.path, path, err)] = true

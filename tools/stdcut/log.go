@@ -6,17 +6,19 @@ import (
 	"io"
 	"sort"
 	"strings"
+
+	"apigate/internal/trees"
 )
 
 // A log holds lines with the platforms that they are about.
 type log struct {
-	lines  map[string][]platform
+	lines  map[string][]trees.Platform
 	faulty bool // whether something that a module names isn't there
 }
 
-func (l *log) add(one platform, made *cut) {
+func (l *log) add(one trees.Platform, made *cut) {
 	if l.lines == nil {
-		l.lines = map[string][]platform{}
+		l.lines = map[string][]trees.Platform{}
 	}
 	for line := range made.lines {
 		l.lines[line] = append(l.lines[line], one)
@@ -31,11 +33,11 @@ func (l *log) add(one platform, made *cut) {
 }
 
 // print writes the lines in order; one that isn't about all platforms ends with those that it is about.
-func (l *log) print(out io.Writer, all []platform) {
+func (l *log) print(out io.Writer, all []trees.Platform) {
 	var lines []string
 	for line, set := range l.lines {
 		if len(set) < len(all) {
-			inOrder(set)
+			trees.InOrder(set)
 			line += " (" + strings.Trim(fmt.Sprint(set), "[]") + ")"
 		}
 		lines = append(lines, line)

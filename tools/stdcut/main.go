@@ -1,7 +1,8 @@
 // Stdcut cuts the declarations that a module needs out of Go's standard library, and out of other modules that it imports, into a
 // folder for apigate's option --std.
 //
-//	go run ./tools/stdcut [--platforms NAMES] [--client DIR] [--whole PATHS] --out DIR MODULE..
+//	go run ./tools/stdcut [--platforms NAMES] [--client DIR] [--whole PATHS] [--read FILE] --out DIR MODULE..
+//	go run ./tools/stdcut --key MODULE..
 //
 // README.md beside this file says what it writes, what it drops and what it says on its error output.
 package main
@@ -14,6 +15,8 @@ import (
 	"path/filepath"
 	"sort"
 	"strings"
+
+	"apigate/internal/trees"
 )
 
 // Statuses of the program.
@@ -35,11 +38,14 @@ func (f *folders) Set(word string) error {
 
 // A request is what the words ask for.
 type request struct {
-	platforms []platform
+	platforms []trees.Platform
 	out       string
-	trees     []*tree
+	trees     []*trees.Tree
 	clients   []string
 	whole     []string
+	read      string          // the file for the folders that were read outside of modules, if they are to be told
+	folders   map[string]bool // these folders
+	key       bool            // whether the digest of the trees is all that is asked for
 }
 
 func main() {
@@ -47,6 +53,15 @@ func main() {
 	if err != nil {
 		fmt.Fprintln(os.Stderr, "stdcut:", err)
 		os.Exit(badWords)
+	}
+	if asked.key {
+		digest, err := key(asked.trees)
+		if err != nil {
+			fmt.Fprintln(os.Stderr, "stdcut:", err)
+			os.Exit(badWords)
+		}
+		fmt.Println(digest)
+		return
 	}
 	os.Exit(run(asked))
 }
@@ -56,38 +71,41 @@ func read(words []string) (*request, error) {
 	names := options.String("platforms", "linux-amd64", "names of platforms joined by commas, or all")
 	out := options.String("out", "", "the folder that is written; it holds nothing yet, or isn't there")
 	whole := options.String("whole", "", "import paths, joined by commas, of which all that is exported is kept")
+	listed := options.String("read", "", "a file that gets the folders which were read outside of the modules, a line each")
+	digest := options.Bool("key", false, "print a digest of what decides about the modules, and write nothing")
 	var clients folders
 	options.Var(&clients, "client", "the folder of a client of the last module; may stand several times")
 	options.Usage = func() {
-		fmt.Fprintln(options.Output(), "stdcut [--platforms NAMES] [--client DIR] [--whole PATHS] --out DIR MODULE..")
+		fmt.Fprintln(options.Output(), "stdcut [--platforms NAMES] [--client DIR] [--whole PATHS] [--read FILE] --out DIR MODULE..")
+		fmt.Fprintln(options.Output(), "stdcut --key MODULE..")
 		options.PrintDefaults()
 	}
 	if err := options.Parse(words); err != nil {
 		return nil, err
 	}
-	asked := &request{out: *out, clients: clients}
+	asked := &request{out: *out, clients: clients, read: *listed, folders: map[string]bool{}, key: *digest}
 	var err error
-	if asked.platforms, err = platformsOf(*names); err != nil {
+	if asked.platforms, err = trees.PlatformsOf(*names); err != nil {
 		return nil, err
 	}
 	if *whole != "" {
 		asked.whole = strings.Split(*whole, ",")
 	}
-	if asked.out == "" || options.NArg() == 0 && len(asked.whole) == 0 {
+	if asked.out == "" && !asked.key || options.NArg() == 0 && len(asked.whole) == 0 {
 		return nil, fmt.Errorf("--out DIR and a MODULE are wanted")
 	}
 	if options.NArg() == 0 && len(clients) > 0 {
 		return nil, fmt.Errorf("a client wants a MODULE")
 	}
-	if entries, err := os.ReadDir(asked.out); err == nil && len(entries) > 0 {
+	if entries, err := os.ReadDir(asked.out); asked.out != "" && err == nil && len(entries) > 0 {
 		return nil, fmt.Errorf("%s isn't empty", asked.out)
 	}
 	for _, folder := range options.Args() {
-		found, err := newTree(folder)
+		found, err := trees.Read(folder)
 		if err != nil {
 			return nil, err
 		}
-		if found.reads(asked.out) {
+		if asked.out != "" && found.Reads(asked.out) {
 			return nil, fmt.Errorf("%s lies in the module %s, which would read it", asked.out, folder)
 		}
 		asked.trees = append(asked.trees, found)
@@ -104,6 +122,9 @@ func run(asked *request) int {
 		told.add(one, made)
 	}
 	count, err := files.write(asked.out, asked.platforms)
+	if err == nil && asked.read != "" {
+		err = asked.tellFolders()
+	}
 	told.print(os.Stderr, asked.platforms)
 	if err != nil {
 		fmt.Fprintln(os.Stderr, "stdcut:", err)
@@ -117,7 +138,7 @@ func run(asked *request) int {
 }
 
 // on cuts for one platform.
-func (asked *request) on(one platform) *cut {
+func (asked *request) on(one trees.Platform) *cut {
 	l := newLoader(one)
 	var readers, units []*unit
 	for _, tree := range asked.trees {
@@ -149,7 +170,22 @@ func (asked *request) on(one platform) *cut {
 			}
 		}
 	}
+	for _, one := range l.outside {
+		if one != nil {
+			asked.folders[one.folder] = true
+		}
+	}
 	return cutOut(l, asked.trees, units, roots, more)
+}
+
+// tellFolders writes the folders that were read outside of modules.
+func (asked *request) tellFolders() error {
+	var lines []string
+	for folder := range asked.folders {
+		lines = append(lines, folder+"\n")
+	}
+	sort.Strings(lines)
+	return os.WriteFile(asked.read, []byte(strings.Join(lines, "")), 0o666)
 }
 
 func (asked *request) anySeeker() seeker {
@@ -160,9 +196,9 @@ func (asked *request) anySeeker() seeker {
 }
 
 // module reads all packages of a module.
-func (l *loader) module(of *tree) []*unit {
+func (l *loader) module(of *trees.Tree) []*unit {
 	var paths []string
-	for path, folder := range of.places {
+	for path, folder := range of.Places {
 		if files, err := l.chosen(folder, true); err != nil {
 			l.fault("%s: %v", path, err)
 		} else if len(files) > 0 {
@@ -202,6 +238,9 @@ func (l *loader) outer(list []types.Object) []types.Object {
 	}
 	return found
 }
+
+// clientPath is the path of a client's package, which no import can name.
+const clientPath = "-client"
 
 // inFolder is where a package's file stands.
 func inFolder(out, path, name string) string {

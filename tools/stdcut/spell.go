@@ -7,6 +7,8 @@ import (
 	"sort"
 	"strconv"
 	"strings"
+
+	"apigate/internal/trees"
 )
 
 // A speller writes types in one package.
@@ -73,7 +75,7 @@ func barred(from string, object types.Object) string {
 		if elements[i] != "internal" {
 			continue
 		}
-		if top := strings.Join(elements[:i], "/"); top != "" && !isUnder(from, top) {
+		if top := strings.Join(elements[:i], "/"); top != "" && !trees.IsUnder(from, top) {
 			return "an internal package of others, " + object.Pkg().Path()
 		}
 		break

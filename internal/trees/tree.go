@@ -1,5 +1,7 @@
+// Package trees has what apigate reads of a module: its path, its folders, and the files of a platform.
+//
 // Module trees: the path of a module, and the folders of it that apigate reads.
-package main
+package trees
 
 import (
 	"fmt"
@@ -8,18 +10,15 @@ import (
 	"strings"
 )
 
-// A tree is the folder of a module.
-type tree struct {
-	folder string
-	module string            // its path
-	places map[string]string // the folder of each import path, by the walk
+// A Tree is the folder of a module.
+type Tree struct {
+	Folder string
+	Module string            // its path
+	Places map[string]string // the folder of each import path, by the walk
 }
 
-// clientPath is the path of a client's package, which no import can name.
-const clientPath = "-client"
-
-// isElement says whether a word may be an element of an import path of apigate's.
-func isElement(word string) bool {
+// IsElement says whether a word may be an element of an import path of apigate's.
+func IsElement(word string) bool {
 	if word == "" || word[0] == '-' || word[0] == '.' {
 		return false
 	}
@@ -33,16 +32,16 @@ func isElement(word string) bool {
 	return true
 }
 
-// isWalked says whether the walk goes into a folder of this name.
-func isWalked(name string) bool {
-	return isElement(name) && name[0] != '_' && name != "testdata" && name != "vendor"
+// IsWalked says whether the walk goes into a folder of this name.
+func IsWalked(name string) bool {
+	return IsElement(name) && name[0] != '_' && name != "testdata" && name != "vendor"
 }
 
-// isUnder says whether a path equals another or lies under it.
-func isUnder(path, top string) bool { return path == top || strings.HasPrefix(path, top+"/") }
+// IsUnder says whether a path equals another or lies under it.
+func IsUnder(path, top string) bool { return path == top || strings.HasPrefix(path, top+"/") }
 
-// moduleOf reads the path in the one module line of a go.mod.
-func moduleOf(text string) (string, error) {
+// ModuleOf reads the path in the one module line of a go.mod.
+func ModuleOf(text string) (string, error) {
 	path, lines := "", 0
 	for _, line := range strings.Split(text, "\n") {
 		if words := strings.Fields(line); len(words) > 0 && words[0] == "module" {
@@ -54,30 +53,30 @@ func moduleOf(text string) (string, error) {
 		return "", fmt.Errorf("no module line in go.mod")
 	}
 	for _, element := range strings.Split(path, "/") {
-		if !isElement(element) {
+		if !IsElement(element) {
 			return "", fmt.Errorf("no module line in go.mod: %q isn't a path that apigate takes", path)
 		}
 	}
 	return path, nil
 }
 
-// newTree walks a module's tree.
-func newTree(folder string) (*tree, error) {
+// Read walks a module's tree.
+func Read(folder string) (*Tree, error) {
 	text, err := os.ReadFile(filepath.Join(folder, "go.mod"))
 	if err != nil {
 		return nil, err
 	}
-	module, err := moduleOf(string(text))
+	module, err := ModuleOf(string(text))
 	if err != nil {
 		return nil, fmt.Errorf("%s: %v", folder, err)
 	}
-	found := &tree{folder: folder, module: module, places: map[string]string{}}
+	found := &Tree{Folder: folder, Module: module, Places: map[string]string{}}
 	return found, found.walk(folder, module)
 }
 
-// reads says whether the walk of the tree would go into a folder, which needn't be there yet.
-func (t *tree) reads(folder string) bool {
-	top, err := filepath.Abs(t.folder)
+// Reads says whether the walk of the tree would go into a folder, which needn't be there yet.
+func (t *Tree) Reads(folder string) bool {
+	top, err := filepath.Abs(t.Folder)
 	if err != nil {
 		return false
 	}
@@ -90,22 +89,22 @@ func (t *tree) reads(folder string) bool {
 		return false
 	}
 	for _, element := range strings.Split(filepath.ToSlash(below), "/") {
-		if element != "." && !isWalked(element) {
+		if element != "." && !IsWalked(element) {
 			return false
 		}
 	}
 	return true
 }
 
-func (t *tree) walk(folder, path string) error {
+func (t *Tree) walk(folder, path string) error {
 	entries, err := os.ReadDir(folder)
 	if err != nil {
 		return err
 	}
-	t.places[path] = folder
+	t.Places[path] = folder
 	for _, entry := range entries {
 		below := filepath.Join(folder, entry.Name())
-		if !entry.IsDir() || !isWalked(entry.Name()) {
+		if !entry.IsDir() || !IsWalked(entry.Name()) {
 			continue
 		}
 		if info, err := os.Stat(filepath.Join(below, "go.mod")); err == nil && info.Mode().IsRegular() {

@@ -1,0 +1,119 @@
+"""A git repository: its releases, and the files of a commit. Nothing of it is changed."""
+import os
+import re
+import subprocess
+
+import gating
+
+# what Go's own commands read of a module besides its Go files
+KEPT = {"go.mod", "go.sum", "go.work", "go.work.sum", "modules.txt"}
+MAJOR = re.compile(r"(?:/|\.)v([0-9]+)$")
+
+
+def git(folder, *words, given=None):
+    """Runs git in a folder; where a hook runs this, what it says of its own repository doesn't count."""
+    settings = {name: value for name, value in os.environ.items() if not name.startswith("GIT_")}
+    try:
+        ran = subprocess.run(["git", "-C", folder, *words], input=given, capture_output=True, env={**settings, "LC_ALL": "C"})
+    except FileNotFoundError as error:
+        raise gating.Stop("git isn't installed") from error
+    if ran.returncode:
+        lines = ran.stderr.decode(errors="replace").strip().splitlines() or ["it ended with %d" % ran.returncode]
+        raise gating.Stop("git %s: %s" % (words[0], gating.shown(lines[0])))
+    return ran.stdout
+
+
+def line(folder, *words):
+    return os.fsdecode(git(folder, *words)).removesuffix("\n")
+
+
+class Repository:
+    """The repository in which a folder stands."""
+
+    def __init__(self, folder):
+        self.folder = folder
+        self.top = line(folder, "rev-parse", "--show-toplevel")
+        self.prefix = line(folder, "rev-parse", "--show-prefix")
+
+    def commit(self, revision):
+        """The commit that a revision names."""
+        try:
+            return line(self.top, "rev-parse", "--verify", "--quiet", "--end-of-options", revision + "^{commit}")
+        except gating.Stop:
+            return None
+
+    def changed(self):
+        """How many Go files of the folder aren't as at HEAD."""
+        return git(self.folder, "status", "--porcelain", "-z", "--", "*.go", "go.mod").count(b"\0")
+
+    def tag_prefix(self, module):
+        """What stands in front of a version in the tags of the module in this folder."""
+        major = MAJOR.search(module)
+        if major and self.prefix.rstrip("/").split("/")[-1] == "v" + major[1]:
+            return self.prefix.rstrip("/")[: -len(major[1]) - 1]
+        return self.prefix
+
+    def releases(self, module, below="HEAD"):
+        """The tags of releases at or below a commit, those of the module's own major number where there are some, from the greatest down."""
+        prefix = self.tag_prefix(module)
+        tags = [tag for tag in line(self.top, "tag", "--merged", below).split("\n") if tag.startswith(prefix)]
+        found = {tag: gating.numbers(tag[len(prefix):]) for tag in tags if gating.numbers(tag[len(prefix):])}
+        major = MAJOR.search(module)
+        own = [tag for tag in found if (found[tag][0] == int(major[1]) if major else found[tag][0] < 2)]
+        return sorted(own or found, key=found.get, reverse=True)
+
+    def last_release(self, module):
+        """The tag of the last release: one of HEAD itself is what is to be released, unless files have changed since."""
+        if not self.commit("HEAD"):
+            raise gating.Stop("the repository has no commit")
+        tags = self.releases(module)
+        if not self.changed():
+            here = set(line(self.top, "tag", "--points-at", "HEAD").split("\n"))
+            tags = [tag for tag in tags if tag not in here]
+        if tags:
+            return tags[0]
+        if line(self.top, "rev-parse", "--is-shallow-repository") == "true":
+            raise gating.Stop("no tag of a release below HEAD, and the clone is shallow: git fetch --tags --unshallow, or in a job fetch-depth: 0")
+        raise gating.Stop("no tag %svN.N.N of a release below HEAD: name what was released last, as --old REVISION --version V"
+                          % gating.shown(self.tag_prefix(module)))
+
+    def files(self, commit, below):
+        """The paths and blobs of the Go files and what Go reads besides of a folder at a commit, but for tests."""
+        tree = "%s:%s" % (commit, below.rstrip("/")) if below else commit
+        for entry in git(self.top, "ls-tree", "-r", "-z", tree).split(b"\0"):
+            head, _, path = entry.partition(b"\t")
+            path, name = os.fsdecode(path), os.fsdecode(path).split("/")[-1]
+            if head.startswith(b"100") and (name in KEPT or name.endswith(".go") and not name.endswith("_test.go")):
+                yield path, head.split()[2]
+
+    def text(self, commit, path):
+        """A file of a commit, or None."""
+        try:
+            return git(self.top, "cat-file", "blob", "%s:%s" % (commit, path)).decode(errors="replace")
+        except gating.Stop:
+            return None
+
+    def write(self, commit, below, folder):
+        """Writes the files of a folder at a commit, byte for byte as they were committed."""
+        found = list(self.files(commit, below))
+        given = b"".join(blob + b"\n" for _, blob in found)
+        contents, at = git(self.top, "cat-file", "--batch", given=given), 0
+        for path, blob in found:
+            end = contents.index(b"\n", at)
+            size = int(contents[at:end].split()[2])
+            place = os.path.join(folder, path)
+            os.makedirs(os.path.dirname(place), exist_ok=True)
+            with open(place, "wb") as file:
+                file.write(contents[end + 1:end + 1 + size])
+            at = end + 1 + size + 1
+        os.makedirs(folder, exist_ok=True)
+
+
+def around(folder):
+    """The repository of a folder, or None."""
+    try:
+        return Repository(folder)
+    except gating.Stop as stop:
+        if "not a git repository" in str(stop) or "isn't installed" in str(stop) or "must be run in a work tree" in str(stop):
+            return None
+        raise
