@@ -36,7 +36,7 @@ def where_told(place):
 def told(broken):
     """A break in words."""
     found = "%s: %s%s" % (broken.rule, broken.owner, "" if broken.subject == "-" else ": " + broken.subject)
-    if broken.ways:
+    if broken.ways and broken.ways != ["by its declaration"]:
         found += " (" + "; ".join(broken.ways) + ")"
     return found + " [%s]" % ", ".join(broken.platforms)
 
