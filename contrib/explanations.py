@@ -73,7 +73,7 @@ class Explainer:
             told = self.ask("reasons", **{"new": self.folders[side], "platforms": [platform]}) or []
             found = [each for each in told if each["file"] == file and each["grammar"]]
             for each in found[:3]:
-                yield "%s: %s%s; %s" % (each["where"], of_name(each), each["cause"], seen(each))
+                yield "%s: %s%s%s" % (each["where"], of_name(each), each["cause"], "; " + seen(each) if each["name"] != "-" else "")
             if len(found) > 3:
                 yield "%d declarations more of this file aren't in the grammar; contrib/profile-check has them all" % (len(found) - 3)
             if not found:

@@ -15,7 +15,7 @@ class Side:
     def __init__(self, name, room, asked):
         self.name, self.room = name, os.path.join(room, name)
         self.folder = self.told = self.version = self.module = ""
-        self.is_copy = False
+        self.is_copy, self.called = False, "the %s tree" % name
         self.notes = []
         self.asked = asked
 
@@ -69,13 +69,13 @@ class Side:
             self.module = module
             with open(os.path.join(self.folder, "go.mod"), "w", encoding="utf-8") as file:
                 file.write("module %s\n" % module)
-            self.notes.append("the %s tree has no go.mod: it is judged as module %s, on a copy" % (self.name, module))
+            self.notes.append("%s has no go.mod: it is judged as module %s, on a copy" % (self.called, module))
         found = modules.old_form(self.folder)
         if found:
             self.copy()
             modules.renew(self.folder)
-            self.notes.append("gofmt gave a go:build line to %s of the %s tree, on a copy: %s"
-                              % ("a file" if len(found) == 1 else "%d files" % len(found), self.name, modules.names(found)))
+            self.notes.append("gofmt gave a go:build line to %s of %s, on a copy: %s"
+                              % ("a file" if len(found) == 1 else "%d files" % len(found), self.called, modules.names(found)))
 
 
 def ambiguous(word, where):
@@ -140,3 +140,15 @@ def found(folder, asked, room):
     if gating.numbers(old.version) is None:
         raise gating.Stop("version %s is not a release: three whole numbers, as v1.4.0" % gating.shown(old.version))
     return old, new
+
+
+def alone(folder, room):
+    """A module's tree for itself, with the new tree's name."""
+    new = Side("new", room, "")
+    new.called = "the tree"
+    new.of_folder(folder)
+    module = new.module or modules.path_in_gopath(folder)
+    if not module:
+        raise gating.Stop("no go.mod in %s, and it isn't below a GOPATH: go mod init PATH writes one" % new.told)
+    new.mend(module)
+    return new

@@ -7,7 +7,7 @@ import (
 	"fmt"
 	"go/ast"
 	"go/parser"
-	"go/printer"
+	"go/scanner"
 	"go/token"
 	"io"
 	"os"
@@ -56,24 +56,43 @@ func keyOfFolder(sum io.Writer, path, folder string) error {
 	return nil
 }
 
-// outer is a file up to its package clause, where build lines stand, and its declarations without comments and bodies; one that can't
-// be parsed is taken as it stands.
+// outer is a file up to its package clause, where build lines stand, and then its tokens outside of the bodies of functions; one that
+// can't be parsed is taken as it stands.
 func outer(text []byte) []byte {
 	set := token.NewFileSet()
 	file, err := parser.ParseFile(set, "", text, parser.SkipObjectResolution)
 	if err != nil {
 		return text
 	}
+	at := set.File(file.Pos())
 	var out bytes.Buffer
-	out.Write(text[:set.File(file.Pos()).Offset(file.Name.End())])
+	out.Write(text[:at.Offset(file.Name.End())])
+	from := at.Offset(file.Name.End())
 	for _, decl := range file.Decls {
-		if function, is := decl.(*ast.FuncDecl); is {
-			function.Body = nil
-		}
-		out.WriteByte('\n')
-		if err := printer.Fprint(&out, set, decl); err != nil {
-			return text
+		if function, is := decl.(*ast.FuncDecl); is && function.Body != nil {
+			tokens(&out, text[from:at.Offset(function.Body.Pos())])
+			from = at.Offset(function.Body.End())
 		}
 	}
+	tokens(&out, text[from:])
 	return out.Bytes()
+}
+
+// tokens writes the tokens of a part of a file, without comments.
+func tokens(out *bytes.Buffer, text []byte) {
+	var scan scanner.Scanner
+	set := token.NewFileSet()
+	scan.Init(set.AddFile("", -1, len(text)), text, nil, 0)
+	for {
+		_, kind, literal := scan.Scan()
+		if kind == token.EOF {
+			out.WriteByte('\n')
+			return
+		}
+		if !kind.IsLiteral() {
+			literal = kind.String()
+		}
+		out.WriteString(literal)
+		out.WriteByte(' ')
+	}
 }
