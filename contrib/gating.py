@@ -10,6 +10,8 @@ PROGRAM = os.path.join(TOP, "apigate")
 NUMBER = "(0|[1-9][0-9]*)"
 RELEASE = re.compile(r"v?%s\.%s\.%s$" % (NUMBER, NUMBER, NUMBER))
 REFUSED = 3
+# the program that runs, once it is known
+found = ""
 
 
 class Stop(Exception):
@@ -22,8 +24,8 @@ class Stop(Exception):
 
 def numbers(version):
     """The three numbers of a release, or None for what is none."""
-    found = RELEASE.match(version)
-    return tuple(int(number) for number in found.groups()) if found else None
+    release = RELEASE.match(version)
+    return tuple(int(number) for number in release.groups()) if release else None
 
 
 def shown(text):
@@ -36,23 +38,44 @@ def say(text):
     print(text, file=sys.stderr, flush=True)
 
 
+def at_hand():
+    """The program itself where it stands ready, so that the launcher needn't look at all sources at each run; else nothing."""
+    sys.path += [os.path.join(TOP, ".ci"), os.path.join(TOP, "tools")]
+    try:
+        import building
+        import delivered
+        import repository
+    except ImportError:
+        return ""
+    sums = repository.digests(repository.needed(["apigate"]))
+    try:
+        return building.current(repository.digest_of(sums)) or delivered.program(sums, lambda text: say("apigate: " + text))
+    except (delivered.Unfit, OSError):
+        return ""
+
+
 def ready():
-    """Tries the program: the launcher unpacks or builds it at its first run, and tells of it."""
-    tried = subprocess.run([PROGRAM, "make", "--seed", "1", "--size", "1"], stdout=subprocess.DEVNULL)
-    if tried.returncode:
-        raise Stop("the program can't be run", tried.returncode)
+    """Returns the program; the launcher builds it where it isn't ready, and tells of it."""
+    global found
+    if not found:
+        found = at_hand()
+    if not found:
+        tried = subprocess.run([PROGRAM, "make", "--seed", "1", "--size", "1"], stdout=subprocess.DEVNULL, check=False)
+        if tried.returncode:
+            raise Stop("the program can't be run", tried.returncode)
+        found = PROGRAM
+    return found
 
 
 def told(words):
     """Runs the program with these words, and returns its status, its report and its line on standard error."""
-    ran = subprocess.run([PROGRAM, *words], stdout=subprocess.PIPE, stderr=subprocess.PIPE)
+    ran = subprocess.run([ready(), *words], stdout=subprocess.PIPE, stderr=subprocess.PIPE, check=False)
     return ran.returncode, ran.stdout.decode(), ran.stderr.decode(errors="replace")
 
 
 def gate(room, std, platforms, old, new, api, exceptions, version):
     """Runs the gate; without files of frozen lines the features of the old tree are the promises. Returns its status, report and line on
     standard error."""
-    ready()
     common = ["--std", std, "--platforms", platforms]
     if not api:
         api = os.path.join(room, "api.txt")

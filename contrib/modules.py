@@ -10,6 +10,8 @@ import gating
 MODULE_LINE = re.compile(r'^[ \t]*module[ \t]+("[^"\n]*"|`[^`\n]*`|[^ \t\r\n]+)', re.M)
 OLD_FORM = re.compile(rb"^//[ \t]*\+build[ \t]", re.M)
 NEW_FORM = re.compile(rb"^//go:build[ \t]", re.M)
+OLD_FORM_LINE = re.compile(rb"^//[ \t]*\+build[ \t][^\n]*", re.M)
+NEW_FORM_LINE = re.compile(rb"^//go:build[ \t][^\n]*", re.M)
 ELEMENT = re.compile(r"[A-Za-z0-9~][A-Za-z0-9._~-]*$|_$")
 # where Debian's packages of Go modules stand
 DEBIAN = "/usr/share/gocode"
@@ -42,10 +44,17 @@ def old_form(folder):
 
 
 def renew(folder):
-    """Gives these files of a copy build lines of the new form, as gofmt does, and returns them."""
+    """Gives these files of a copy build lines of the new form, those that gofmt gives them, in place of the old ones, so that no other line
+    moves; returns the files."""
     found = old_form(folder)
-    if found:
-        subprocess.run(["gofmt", "-w", "--", *found], cwd=folder, stderr=subprocess.DEVNULL, check=False)
+    for name in found:
+        path = os.path.join(folder, name)
+        ran = subprocess.run(["gofmt", "--", name], cwd=folder, capture_output=True, check=False)
+        new = NEW_FORM_LINE.search(ran.stdout)
+        if new:
+            text = OLD_FORM_LINE.sub(lambda _: b"//", OLD_FORM_LINE.sub(lambda _: new[0], content(path), count=1))
+            with open(path, "wb") as file:
+                file.write(text)
     return found
 
 

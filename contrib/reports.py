@@ -44,7 +44,7 @@ class Judged:
         for line in filter(None, map(BREAK.match, self.report.splitlines())):
             platform, *words = line.groups()
             found.setdefault(tuple(words), Break(*words)).platforms.append(platform)
-        return list(found.values())
+        return sorted(found.values(), key=lambda each: each.text.encode())
 
     @property
     def is_refused(self):

@@ -4,7 +4,7 @@ import re
 
 import gating
 import modules
-import repository
+import history
 
 VERSIONED = re.compile(r"([^@{}\s]+)@(v[0-9][^@{}\s]*)$")
 
@@ -106,7 +106,7 @@ def found(folder, asked, room):
     """Returns the old and the new side of what is asked of the module in a folder."""
     if not os.path.isdir(folder):
         raise gating.Stop("no folder %s" % gating.shown(folder))
-    where = repository.around(folder)
+    where = history.around(folder)
     old, new = Side("old", room, asked["old"]), Side("new", room, asked["new"])
     module = modules.path_of(folder) or modules.path_in_gopath(folder)
     if asked["new"]:

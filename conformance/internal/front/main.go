@@ -72,6 +72,10 @@ func offset(set *token.FileSet, file *ast.File, line, column int) int {
 
 // holds says whether a node is what a cause tells of.
 func holds(set *token.FileSet, file *ast.File, node ast.Node, cause string) bool {
+	if _, why, is := strings.Cut(cause, " isn't in the profile: "); is {
+		_, isSelector := node.(*ast.SelectorExpr)
+		return isSelector && hasValue(set, file, node, why)
+	}
 	switch {
 	case strings.HasPrefix(cause, "a floating constant"), strings.HasPrefix(cause, "a complex constant"), cause == "a number past 128 bits":
 		return hasValue(set, file, node, cause)

@@ -66,12 +66,14 @@ class Repository:
         """The tag of the last release: one of HEAD itself is what is to be released, unless files have changed since."""
         if not self.commit("HEAD"):
             raise gating.Stop("the repository has no commit")
-        tags = self.releases(module)
+        tags, here = self.releases(module), set()
         if not self.changed():
             here = set(line(self.top, "tag", "--points-at", "HEAD").split("\n"))
-            tags = [tag for tag in tags if tag not in here]
+        below = [tag for tag in tags if tag not in here]
+        if below:
+            return below[0]
         if tags:
-            return tags[0]
+            raise gating.Stop("%s of HEAD is the first release: nothing was promised before; --old %s judges it against itself" % ((gating.shown(tags[0]),) * 2))
         if line(self.top, "rev-parse", "--is-shallow-repository") == "true":
             raise gating.Stop("no tag of a release below HEAD, and the clone is shallow: git fetch --tags --unshallow, or in a job fetch-depth: 0")
         raise gating.Stop("no tag %svN.N.N of a release below HEAD: name what was released last, as --old REVISION --version V"
