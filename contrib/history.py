@@ -62,18 +62,19 @@ class Repository:
         own = [tag for tag in found if (found[tag][0] == int(major[1]) if major else found[tag][0] < 2)]
         return sorted(own or found, key=found.get, reverse=True)
 
-    def last_release(self, module):
-        """The tag of the last release: one of HEAD itself is what is to be released, unless files have changed since."""
+    def last_release(self, module, commit=""):
+        """The tag of the last release below a commit, or below HEAD with what has changed since: a tag of the commit itself, or of HEAD where
+        nothing has changed, is what is to be released."""
         if not self.commit("HEAD"):
             raise gating.Stop("the repository has no commit")
-        tags, here = self.releases(module), set()
-        if not self.changed():
-            here = set(line(self.top, "tag", "--points-at", "HEAD").split("\n"))
+        tags, here = self.releases(module, commit or "HEAD"), set()
+        if commit or not self.changed():
+            here = set(line(self.top, "tag", "--points-at", commit or "HEAD").split("\n"))
         below = [tag for tag in tags if tag not in here]
         if below:
             return below[0]
         if tags:
-            raise gating.Stop("%s of HEAD is the first release: nothing was promised before; --old %s judges it against itself" % ((gating.shown(tags[0]),) * 2))
+            raise gating.Stop("%s of what is to be released is the first release: nothing was promised before; --old %s judges it against itself" % ((gating.shown(tags[0]),) * 2))
         if line(self.top, "rev-parse", "--is-shallow-repository") == "true":
             raise gating.Stop("no tag of a release below HEAD, and the clone is shallow: git fetch --tags --unshallow, or in a job fetch-depth: 0")
         raise gating.Stop("no tag %svN.N.N of a release below HEAD: name what was released last, as --old REVISION --version V"

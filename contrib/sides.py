@@ -3,8 +3,8 @@ import os
 import re
 
 import gating
-import modules
 import history
+import modules
 
 VERSIONED = re.compile(r"([^@{}\s]+)@(v[0-9][^@{}\s]*)$")
 
@@ -15,7 +15,7 @@ class Side:
     def __init__(self, name, room, asked):
         self.name, self.room = name, os.path.join(room, name)
         self.folder = self.told = self.version = self.module = ""
-        self.is_copy, self.called = False, "the %s tree" % name
+        self.is_copy, self.called, self.commit = False, "the %s tree" % name, ""
         self.notes = []
         self.asked = asked
 
@@ -47,7 +47,7 @@ class Side:
             where.write(commit, where.prefix, self.folder)
             modules.follow(self.folder, where.folder)
         self.told = gating.shown(revision) + ("" if commit.startswith(revision) else " (commit %s)" % commit[:12])
-        self.module, self.is_copy = modules.path_of(self.folder), True
+        self.module, self.is_copy, self.commit = modules.path_of(self.folder), True, commit
         prefix = where.tag_prefix(module)
         if revision.startswith(prefix) and gating.numbers(revision[len(prefix):]):
             self.version = revision[len(prefix):]
@@ -120,7 +120,7 @@ def found(folder, asked, room):
     if asked["old"]:
         chosen(old, asked["old"], where, module or modules.path_of(folder))
     elif where and module:
-        tag = where.last_release(module)
+        tag = where.last_release(module, new.commit)
         old.of_commit(where, tag, where.commit("refs/tags/" + tag), module)
     elif where:
         raise gating.Stop("no go.mod in %s: name the folder of a module" % gating.shown(folder))
