@@ -293,6 +293,9 @@ func (f *waysFinder) ways(of broken) []string {
 			way = "by " + way
 		}
 		if one.owner == of.Owner {
+			if way == "" && of.Rule == "type" {
+				way = "by its type"
+			}
 			if way != "" {
 				own = append(own, way)
 			}
