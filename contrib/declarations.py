@@ -16,7 +16,8 @@ import modules
 sys.path.append(os.path.join(gating.TOP, "tools"))
 import places
 
-SOURCES = ["go.mod", "tools/stdcut", "internal/trees"]
+# the sources of the Go programs of this repository that are built here
+SOURCES = {"stdcut": ["go.mod", "tools/stdcut", "internal/trees"], "explain": ["go.mod", "tools/explain", "internal/trees", "internal/typed", "internal/reasons"]}
 # what of Go's settings decides which packages are found
 ASKED = ["GOVERSION", "GOROOT", "GOPATH", "GOMODCACHE", "GOFLAGS", "GO111MODULE", "GOWORK"]
 MOST = 32
@@ -43,12 +44,11 @@ def kept(name):
         return None
 
 
-def sources():
-    """The files of Go programs of this repository that the cutter is made of."""
-    for name in SOURCES:
+def sources(program):
+    """The files that one of these programs is made of."""
+    for name in SOURCES[program]:
         path = os.path.join(gating.TOP, name)
-        for each in [path] if os.path.isfile(path) else sorted(os.path.join(path, it) for it in os.listdir(path) if it.endswith(".go")):
-            yield each
+        yield from [path] if os.path.isfile(path) else sorted(os.path.join(path, it) for it in os.listdir(path) if it.endswith(".go"))
 
 
 def settings_of_go(settings):
@@ -62,10 +62,8 @@ def settings_of_go(settings):
 def built(program, room, known):
     """Builds a Go program of this repository, or takes the one that was built of the same sources by the same Go."""
     sums = hashlib.sha256()
-    folder = os.path.join(gating.TOP, "tools", program)
-    paths = list(sources()) + [os.path.join(folder, name) for name in sorted(os.listdir(folder)) if name.endswith(".go")]
-    for path in paths + [os.path.join(gating.TOP, "internal", "reasons", name) for name in listed(os.path.join(gating.TOP, "internal", "reasons"))]:
-        sums.update(os.path.basename(path).encode() + b"\0" + modules.content(path) + b"\0")
+    for path in sources(program):
+        sums.update(os.path.relpath(path, gating.TOP).encode() + b"\0" + modules.content(path) + b"\0")
     digest = hashlib.sha256((sums.hexdigest() + known["GOVERSION"] + known["GOROOT"]).encode()).hexdigest()
     place = os.path.join(kept("tools") or room, program + "-" + digest[:16])
     if not os.access(place, os.X_OK):
@@ -75,10 +73,6 @@ def built(program, room, known):
             raise gating.Stop("tools/%s can't be built" % program)
         places.put(place, modules.content(made), 0o755)
     return place, digest
-
-
-def listed(folder):
-    return sorted(name for name in os.listdir(folder) if name.endswith(".go")) if os.path.isdir(folder) else []
 
 
 def stamps(folder):
