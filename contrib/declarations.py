@@ -1,6 +1,7 @@
 """The folder for --std: the declarations of other packages, cut by tools/stdcut once for what decides about them, and kept in the user's
 cache."""
 import contextlib
+import functools
 import hashlib
 import json
 import os
@@ -40,8 +41,13 @@ def kept(name):
         os.makedirs(folder, exist_ok=True)
         return places.opened(folder)
     except OSError as error:
-        gating.say("note: nothing is kept: %s: %s; XDG_CACHE_HOME may name another folder" % (gating.shown(folder), error.strerror))
+        tell_once("note: nothing is kept: %s: %s; XDG_CACHE_HOME may name another folder" % (gating.shown(os.path.dirname(folder)), error.strerror))
         return None
+
+
+@functools.cache
+def tell_once(text):
+    gating.say(text)
 
 
 def sources(program):
