@@ -4,6 +4,7 @@ import json
 import os
 import re
 import sys
+import types
 from xml.etree import ElementTree
 
 import gating
@@ -201,6 +202,14 @@ def junit(run):
 
 def told_at(run, each):
     return told(each) + ("\n%s" % where_told({**each.place, "file": run.prefix + each.place["file"]}) if each.place else "")
+
+
+def stopped(form, status, why, module):
+    """A report where nothing was judged, for those who read it by a program; nothing as text."""
+    if form != "text":
+        judged = reports.Judged(status, "", why)
+        side = types.SimpleNamespace(told="", version="", module=module, folder=".")
+        write(Run(side, side, types.SimpleNamespace(go=""), judged, ""), form, False)
 
 
 def is_coloured():

@@ -73,8 +73,8 @@ func offset(set *token.FileSet, file *ast.File, line, column int) int {
 // holds says whether a node is what a cause tells of.
 func holds(set *token.FileSet, file *ast.File, node ast.Node, cause string) bool {
 	if _, why, is := strings.Cut(cause, " isn't in the profile: "); is {
-		_, isSelector := node.(*ast.SelectorExpr)
-		return isSelector && hasValue(set, file, node, why)
+		_, isName := node.(*ast.Ident)
+		return isName && hasValue(set, file, node, why)
 	}
 	switch {
 	case strings.HasPrefix(cause, "a floating constant"), strings.HasPrefix(cause, "a complex constant"), cause == "a number past 128 bits":
@@ -127,7 +127,7 @@ func hasValue(set *token.FileSet, file *ast.File, node ast.Node, cause string) b
 	if literal, is := node.(*ast.BasicLit); is {
 		return literal.Kind == token.FLOAT && strings.HasPrefix(cause, "a floating") || literal.Kind == token.IMAG && strings.HasPrefix(cause, "a complex")
 	}
-	info := &types.Info{Types: map[ast.Expr]types.TypeAndValue{}, Defs: map[*ast.Ident]types.Object{}}
+	info := &types.Info{Types: map[ast.Expr]types.TypeAndValue{}, Defs: map[*ast.Ident]types.Object{}, Uses: map[*ast.Ident]types.Object{}}
 	files := []*ast.File{file}
 	beside, _ := filepath.Glob(filepath.Join(filepath.Dir(set.Position(file.Pos()).Filename), "*.go"))
 	for _, path := range beside {
@@ -141,9 +141,11 @@ func hasValue(set *token.FileSet, file *ast.File, node ast.Node, cause string) b
 	settings.Check("front", set, files, info)
 	var value constant.Value
 	var t types.Type
-	if name, is := node.(*ast.Ident); is && info.Defs[name] != nil {
-		if object, is := info.Defs[name].(*types.Const); is {
-			value, t = object.Val(), object.Type()
+	if name, is := node.(*ast.Ident); is {
+		for _, object := range []types.Object{info.Defs[name], info.Uses[name]} {
+			if object, is := object.(*types.Const); is {
+				value, t = object.Val(), object.Type()
+			}
 		}
 	}
 	if expr, is := node.(ast.Expr); is && value == nil {
