@@ -32,7 +32,7 @@ class Explainer:
         asked = {"old": self.folders["old"], "new": self.folders["new"], "std": self.cut.folder, "platforms": self.platforms, **more}
         ran = subprocess.run([self.program, question], input=json.dumps(asked), capture_output=True, text=True, check=False)
         if ran.returncode:
-            gating.say("note: tools/explain: %s" % gating.shown(ran.stderr.strip()))
+            gating.say("note: tools/explain: %s" % gating.shown((ran.stderr.strip().splitlines() or ["it ended with %d" % ran.returncode])[0]))
             return None
         return json.loads(ran.stdout)
 
