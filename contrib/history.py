@@ -74,7 +74,7 @@ class Repository:
         if below:
             return below[0]
         if tags:
-            raise gating.Stop("%s of what is to be released is the first release: nothing was promised before; --old %s judges it against itself" % ((gating.shown(tags[0]),) * 2))
+            raise gating.Stop("%s, which is to be released, is the first release: nothing was promised before; --old %s judges it against itself" % ((gating.shown(tags[0]),) * 2))
         if line(self.top, "rev-parse", "--is-shallow-repository") == "true":
             raise gating.Stop("no tag of a release below HEAD, and the clone is shallow: git fetch --tags --unshallow, or in a job fetch-depth: 0")
         raise gating.Stop("no tag %svN.N.N of a release below HEAD: name what was released last, as --old REVISION --version V"
