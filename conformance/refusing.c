@@ -1,14 +1,16 @@
 /* Refuses memory to the program in which it is preloaded: counts its allocations from 1, and refuses the one of the number that
-   REFUSED names, or with a + behind the number also all that follow. At the end the count is written into the file that COUNTED names. */
+   REFUSED names, or with a + behind the number also all that follow. At the end the count is written into the file that COUNTED names.
+   Programs that aren't called as ONLY says, as those that start it, are left alone. */
 #define _GNU_SOURCE
 #include <dlfcn.h>
 #include <errno.h>
 #include <fcntl.h>
 #include <stdlib.h>
+#include <string.h>
 #include <unistd.h>
 
 static unsigned long refused, count;
-static int all_from;
+static int is_tried, all_from;
 
 static int is_refused(void)
 {
@@ -57,10 +59,11 @@ int posix_memalign(void **block, size_t alignment, size_t size)
 
 __attribute__((constructor)) static void begin(void)
 {
-    const char *text = getenv("REFUSED");
+    const char *text = getenv("REFUSED"), *only = getenv("ONLY");
     char *end = NULL;
+    is_tried = !only || !strcmp(only, program_invocation_short_name);
     count = 0;
-    if (text) {
+    if (text && is_tried) {
         refused = strtoul(text, &end, 10);
         all_from = *end == '+';
     }
@@ -72,7 +75,7 @@ __attribute__((destructor)) static void finish(void)
     char digits[24];
     int at = sizeof digits, file;
     unsigned long left = __atomic_load_n(&count, __ATOMIC_SEQ_CST);
-    if (!path || (file = open(path, O_WRONLY | O_CREAT | O_TRUNC, 0600)) < 0)
+    if (!is_tried || !path || (file = open(path, O_WRONLY | O_CREAT | O_TRUNC, 0600)) < 0)
         return;
     do
         digits[--at] = '0' + left % 10;
