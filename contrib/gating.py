@@ -1,6 +1,9 @@
-"""What contrib/release-gate and contrib/debian-gate have in common: the cutter, the program, and versions."""
+"""What contrib/release-gate and contrib/debian-gate have in common: the cutter, the program, the limits of both, and versions."""
+import collections
 import os
 import re
+import resource
+import stat
 import subprocess
 import sys
 
@@ -12,12 +15,46 @@ OLD_FORM = re.compile(rb"^//[ \t]*\+build[ \t]", re.M)
 NEW_FORM = re.compile(rb"^//go:build[ \t]", re.M)
 
 
+# what the cutter and each run of the program may take
+Limits = collections.namedtuple("Limits", "seconds megabytes")
+
+
 class Stop(Exception):
     """Why nothing was judged, and the status to end with."""
 
     def __init__(self, what, status=3):
         super().__init__(what)
         self.status = status
+
+
+def add_limits(parser):
+    """The options that say what the trees of others may take."""
+    parser.add_argument("--seconds", type=int, default=600)
+    parser.add_argument("--megabytes", type=int, default=4096)
+
+
+def within(limits, words, **how):
+    """Runs a program within the limits: so much data, so long by the clock, and nothing to read on its input. Where it is killed, nothing was judged."""
+    name, data = os.path.basename(words[0]), limits.megabytes << 20
+
+    def before():
+        resource.setrlimit(resource.RLIMIT_DATA, (data, data))
+        resource.setrlimit(resource.RLIMIT_CORE, (0, 0))
+
+    try:
+        ran = subprocess.run(words, stdin=subprocess.DEVNULL, preexec_fn=before, timeout=limits.seconds, **how)
+    except subprocess.TimeoutExpired:
+        raise Stop("%s took more than %d seconds, and was ended; nothing was judged" % (name, limits.seconds)) from None
+    if ran.returncode < 0:
+        raise Stop("%s was ended by signal %d; nothing was judged" % (name, -ran.returncode))
+    return ran
+
+
+def check_module(folder):
+    """Refuses a tree whose go.mod is a link, a fifo or a device: the program would read where it leads."""
+    path = os.path.join(folder, "go.mod")
+    if os.path.lexists(path) and not stat.S_ISREG(os.lstat(path).st_mode):
+        raise Stop("%s is no file; nothing was judged" % path)
 
 
 def numbers(version):
@@ -31,7 +68,7 @@ def old_form(folder):
     found = []
     for at, _, names in os.walk(folder):
         for path in (os.path.join(at, name) for name in names if name.endswith(".go") and not name.endswith("_test.go")):
-            if os.path.islink(path):
+            if os.path.islink(path) or not os.path.isfile(path):
                 continue
             with open(path, "rb") as file:
                 text = file.read()
@@ -48,15 +85,17 @@ def renew(folder):
         print("note: gofmt gave a go:build line to %s" % " ".join(found), file=sys.stderr)
 
 
-def cut(room, platforms, old, new, settings=None):
+def cut(room, limits, platforms, old, new, settings=None):
     """Cuts what both trees need of other packages into room/std."""
+    for tree in old, new:
+        check_module(tree)
     program = os.path.join(room, "stdcut")
     made = subprocess.run(["go", "build", "-o", program, "./tools/stdcut"], cwd=TOP)
     if made.returncode:
         raise Stop("tools/stdcut can't be built")
     folder = os.path.join(room, "std")
     words = [program, "--platforms", platforms, "--out", folder, old, new]
-    ran = subprocess.run(words, env={**os.environ, **(settings or {})}, stderr=subprocess.PIPE, text=True, errors="replace")
+    ran = within(limits, words, env={**os.environ, **(settings or {})}, stderr=subprocess.PIPE, text=True, errors="replace")
     if ran.returncode == 2:
         raise Stop("tools/stdcut: " + ran.stderr.strip())
     for line in ran.stderr.splitlines():
@@ -65,7 +104,7 @@ def cut(room, platforms, old, new, settings=None):
     return folder
 
 
-def gate(room, std, platforms, old, new, api, exceptions, version):
+def gate(room, limits, std, platforms, old, new, api, exceptions, version):
     """Runs the gate; without files of frozen lines the features of the old tree are the promises. Returns its status and report."""
     # the launcher unpacks or builds the program at its first run, and tells of it
     tried = subprocess.run([PROGRAM, "make", "--seed", "1", "--size", "1"], stdout=subprocess.DEVNULL)
@@ -74,7 +113,7 @@ def gate(room, std, platforms, old, new, api, exceptions, version):
     common = ["--std", std, "--platforms", platforms]
     if not api:
         api = os.path.join(room, "api.txt")
-        ran = subprocess.run([PROGRAM, "features", "--new", old, *common], stdout=subprocess.PIPE, stderr=subprocess.PIPE)
+        ran = within(limits, [PROGRAM, "features", "--new", old, *common], stdout=subprocess.PIPE, stderr=subprocess.PIPE)
         # what is new to this run is the old tree
         sys.stderr.write(ran.stderr.decode(errors="replace").replace("apigate: new", "apigate: old"))
         if ran.returncode:
@@ -84,7 +123,7 @@ def gate(room, std, platforms, old, new, api, exceptions, version):
     words = ["gate", "--old", old, "--new", new, *common, "--api", api, "--version", version]
     if exceptions:
         words += ["--except", exceptions]
-    ran = subprocess.run([PROGRAM, *words], stdout=subprocess.PIPE, text=True)
+    ran = within(limits, [PROGRAM, *words], stdout=subprocess.PIPE, text=True)
     sys.stdout.write(ran.stdout)
     return ran.returncode, ran.stdout
 

@@ -168,7 +168,11 @@ fn name_of(alloc: Global, piece: &Piece) -> anyhow::Result<Vec<u8>> {
 }
 
 /// Adds a file to those of a store.
-pub fn add_file(pairs: &mut List<FilePair>, path: Vec<u8>, bytes: Vec<u8>) -> Result<(), AllocError> {
+pub fn add_file(
+    pairs: &mut List<FilePair>,
+    path: Vec<u8>,
+    bytes: Vec<u8>,
+) -> Result<(), AllocError> {
     let pair = FilePair {
         path: Text::from_vec(path),
         bytes: Text::from_vec(bytes),
