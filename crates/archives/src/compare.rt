@@ -143,9 +143,7 @@ pub fn add_differences(
     got: &Ending,
 ) -> Result<(), AllocError> {
     add_status(alloc, found, label, wanted.status, got.status)?;
-    if !wanted.is_any_output {
-        add_text(alloc, found, label, "output", &wanted.output, &got.output)?;
-    }
+    add_text(alloc, found, label, "output", &wanted.output, &got.output)?;
     add_text(alloc, found, label, "error", &wanted.error, &got.error)?;
     add_counts(
         alloc,
@@ -154,40 +152,6 @@ pub fn add_differences(
         wanted.counts.as_str(),
         got.counts.as_str(),
     )?;
-    add_pieces(alloc, found, label, &got.output_pieces)?;
-    add_pieces(alloc, found, label, &got.error_pieces)
-}
-
-// Tells where something else than one line was written to the error output.
-fn add_line_fault(found: &mut String, label: &str, error: &[u8]) -> Result<(), AllocError> {
-    let (number, start) = last_line(error);
-    let is_line = number == 2 && start == error.len();
-    if is_line {
-        return Ok(());
-    }
-    add(found, label, "error: not one line")
-}
-
-/// Tells what is wrong with a run that may end with one of several statuses: with 0 and 1 it writes
-/// nothing to the error output, and else nothing to the output and one line to the error output.
-pub fn add_faults(
-    alloc: Global,
-    found: &mut String,
-    label: &str,
-    statuses: &[u8],
-    got: &Ending,
-) -> Result<(), AllocError> {
-    let status = got.status;
-    if !statuses.contains(&status) {
-        let text = format!(in alloc; "status: got {status}")?;
-        add(found, label, text.as_str())?;
-    }
-    if status <= 1 {
-        add_text(alloc, found, label, "error", b"", &got.error)?;
-    } else {
-        add_text(alloc, found, label, "output", b"", &got.output)?;
-        add_line_fault(found, label, &got.error)?;
-    }
     add_pieces(alloc, found, label, &got.output_pieces)?;
     add_pieces(alloc, found, label, &got.error_pieces)
 }

@@ -2,7 +2,6 @@
 use crate::archive::Piece;
 use crate::escape::unescaped;
 use crate::heading::Copies;
-use crate::made::add_made;
 use anyhow::bail;
 use go_base::list::List;
 use go_base::text::Text;
@@ -167,12 +166,7 @@ fn name_of(alloc: Global, piece: &Piece) -> anyhow::Result<Vec<u8>> {
     }
 }
 
-/// Adds a file to those of a store.
-pub fn add_file(
-    pairs: &mut List<FilePair>,
-    path: Vec<u8>,
-    bytes: Vec<u8>,
-) -> Result<(), AllocError> {
+fn add_file(pairs: &mut List<FilePair>, path: Vec<u8>, bytes: Vec<u8>) -> Result<(), AllocError> {
     let pair = FilePair {
         path: Text::from_vec(path),
         bytes: Text::from_vec(bytes),
@@ -240,10 +234,6 @@ pub fn files(alloc: Global, pieces: &[&Piece], row: usize) -> anyhow::Result<Lis
         let is_held = piece.is_file() && !piece.how.is_absent;
         if is_held {
             add_files(alloc, &mut pairs, piece, section_at(&pieces[at..]), row)?;
-        }
-        if piece.name.as_str() == "made" {
-            let lines = text(alloc, section_at(&pieces[at..]), row)?;
-            add_made(alloc, &mut pairs, lines.as_str())?;
         }
     }
     Ok(pairs)

@@ -2,7 +2,6 @@
 use crate::archive::Piece;
 use crate::content::{section, text};
 use crate::counted::{CountedFiles, CountedSink};
-use crate::prefixes::{cut, prefixes_of};
 use anyhow::{anyhow, bail, ensure};
 use go_base::list::List;
 use go_outside::failing_files::FailingFiles;
@@ -14,15 +13,13 @@ use std::alloc::Global;
 /// The most bytes that a sink takes where a case says nothing else.
 const CAPACITY: u64 = 1_048_576;
 
-/// What is tried besides what the case names: a call or a write that fails, or a beginning of a file.
+/// A call or a write that fails besides those that the case names.
 #[derive(Clone, Copy, Debug)]
 pub enum Trial {
     Plain,
     Call(u64),
     OutputWrite(u64),
     ErrorWrite(u64),
-    /// The file whose beginnings are tried ends after so many bytes.
-    Prefix(u64),
 }
 
 /// The numbers, from 1, of the calls and writes that fail, and which are tried in turn.
@@ -83,7 +80,7 @@ impl Failing {
 
     fn add_trial(&mut self, trial: Trial) -> anyhow::Result<()> {
         match trial {
-            Trial::Plain | Trial::Prefix(_) => {}
+            Trial::Plain => {}
             Trial::Call(number) => self.calls.push(number)?,
             Trial::OutputWrite(number) => self.output_writes.push(number)?,
             Trial::ErrorWrite(number) => self.error_writes.push(number)?,
@@ -155,23 +152,6 @@ pub struct Outside {
     pub error: CountedSink,
 }
 
-// The files of the store in this row and this trial.
-fn files_of(
-    alloc: Global,
-    pieces: &[&Piece],
-    row: usize,
-    trial: Trial,
-) -> anyhow::Result<List<FilePair>> {
-    let files = crate::content::files(alloc, pieces, row)?;
-    let Trial::Prefix(length) = trial else {
-        return Ok(files);
-    };
-    match prefixes_of(alloc, pieces, row)? {
-        Some(prefixes) => Ok(cut(alloc, files, &prefixes.path, length)?),
-        None => Ok(files),
-    }
-}
-
 /// The store of these files and the sinks of this row and this trial.
 pub fn outside_of(
     alloc: Global,
@@ -188,11 +168,10 @@ pub fn outside_of(
         tries_output_writes: _,
         tries_error_writes: _,
     } = failing;
-    let files = files_of(alloc, pieces, row, trial)?;
     let output_capacity = capacity_of(alloc, pieces, row, "output")?;
     let error_capacity = capacity_of(alloc, pieces, row, "error")?;
     Ok(Outside {
-        files: store(alloc, files, calls)?,
+        files: store(alloc, crate::content::files(alloc, pieces, row)?, calls)?,
         output: sink(alloc, output_capacity, output_writes)?,
         error: sink(alloc, error_capacity, error_writes)?,
     })

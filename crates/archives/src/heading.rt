@@ -22,8 +22,6 @@ pub struct How {
     pub is_file: bool,
     /// The file isn't in the tree.
     pub is_absent: bool,
-    /// What a run gives in place of the content isn't compared.
-    pub is_any: bool,
     pub copies: Copies,
 }
 
@@ -35,7 +33,6 @@ impl How {
             is_by_line: false,
             is_file: false,
             is_absent: false,
-            is_any: false,
             copies: Copies::One,
         }
     }
@@ -72,7 +69,6 @@ fn how_of(words: &str) -> Option<How> {
             "each line" => how.is_by_line = true,
             "file" => how.is_file = true,
             "absent" => how.is_absent = true,
-            "any" => how.is_any = true,
             _ => how.copies = copies_of(word)?,
         }
     }

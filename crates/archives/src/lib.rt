@@ -11,8 +11,6 @@ mod escape;
 pub mod failing;
 mod heading;
 pub mod load;
-mod made;
 pub mod outline;
-pub mod prefixes;
 pub mod wanted;
 pub mod words;

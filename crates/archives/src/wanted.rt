@@ -14,8 +14,6 @@ const WRITE_LINE: &[u8] = b"apigate: write fault\n";
 pub struct Wanted {
     pub status: u8,
     pub output: Vec<u8>,
-    /// The output isn't compared.
-    pub is_any_output: bool,
     pub error: Vec<u8>,
     /// Some of the counts, one in each line.
     pub counts: String,
@@ -47,15 +45,13 @@ fn status(alloc: Global, pieces: &[&Piece], row: usize) -> anyhow::Result<u8> {
 
 /// How a run is to end in this row.
 pub fn wanted_of(alloc: Global, pieces: &[&Piece], row: usize) -> anyhow::Result<Wanted> {
-    let told = section(pieces, "output");
-    let mut output = content(alloc, told, row)?;
+    let mut output = content(alloc, section(pieces, "output"), row)?;
     if let Some(taken) = number_in(alloc, pieces, row, "taken")? {
         output.truncate(taken as usize);
     }
     Ok(Wanted {
         status: status(alloc, pieces, row)?,
         output,
-        is_any_output: told.first().is_some_and(|piece| piece.how.is_any),
         error: content(alloc, section(pieces, "error"), row)?,
         counts: text(alloc, section(pieces, "counts"), row)?,
     })
@@ -66,7 +62,6 @@ pub fn read_fault(alloc: Global) -> anyhow::Result<Wanted> {
     Ok(Wanted {
         status: 4,
         output: Vec::new(alloc),
-        is_any_output: false,
         error: Vec::from_slice(alloc, READ_LINE)?,
         counts: String::new(alloc),
     })
@@ -92,7 +87,6 @@ pub fn output_fault(alloc: Global, plain: &Ending, number: u64) -> anyhow::Resul
     Ok(Wanted {
         status: 5,
         output: front(alloc, &plain.output, &plain.output_pieces, number)?,
-        is_any_output: false,
         error: Vec::from_slice(alloc, WRITE_LINE)?,
         counts: String::new(alloc),
     })
@@ -103,7 +97,6 @@ pub fn error_fault(alloc: Global, plain: &Ending, number: u64) -> anyhow::Result
     Ok(Wanted {
         status: 5,
         output: Vec::from_slice(alloc, &plain.output)?,
-        is_any_output: false,
         error: front(alloc, &plain.error, &plain.error_pieces, number)?,
         counts: String::new(alloc),
     })

@@ -2,13 +2,12 @@
 use crate::gate::run_words;
 use anyhow::bail;
 use archives::archive::Piece;
-use archives::compare::{add_differences, add_faults, add_text};
-use archives::content::{content, files, section, text};
+use archives::compare::{add_differences, add_text};
+use archives::content::{content, section, text};
 use archives::ending::Ending;
 use archives::failing::{Trial, failing_of, outside_of};
 use archives::load::run_load;
 use archives::outline::run_outline;
-use archives::prefixes::{length_of, prefixes_of};
 use archives::wanted::{error_fault, output_fault, read_fault, wanted_of};
 use archives::words::words;
 use std::thread::Threads;
@@ -95,26 +94,6 @@ fn try_error_writes<R: Threads + Sync + AllocGlobal>(
     Ok(())
 }
 
-// Tells what is wrong where a file ends after fewer bytes.
-fn try_prefixes<R: Threads + Sync + AllocGlobal>(
-    rt: &R,
-    found: &mut String,
-    pieces: &[&Piece],
-    row: usize,
-) -> anyhow::Result<()> {
-    let alloc = rt.alloc();
-    let Some(prefixes) = prefixes_of(alloc, pieces, row)? else {
-        return Ok(());
-    };
-    let whole = length_of(&files(alloc, pieces, row)?, &prefixes.path)?;
-    for length in 0..whole {
-        let got = ending(rt, pieces, row, Trial::Prefix(length))?;
-        let label = format!(in alloc; "the first {length} bytes: ")?;
-        add_faults(alloc, found, label.as_str(), &prefixes.statuses, &got)?;
-    }
-    Ok(())
-}
-
 // What differs in a row, a difference in each line.
 fn differences<R: Threads + Sync + AllocGlobal>(
     rt: &R,
@@ -136,7 +115,6 @@ fn differences<R: Threads + Sync + AllocGlobal>(
     if failing.tries_error_writes {
         try_error_writes(rt, &mut found, pieces, row, &plain)?;
     }
-    try_prefixes(rt, &mut found, pieces, row)?;
     Ok(found)
 }
 
