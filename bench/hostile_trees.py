@@ -50,7 +50,7 @@ def doubled(form):
 one_file("open parentheses", "const X = ", lambda n: "(" * 64, statuses=(3,), limit=4_000_000)
 one_file("blank lines", "", lambda n: "\n" * 64)
 one_file("one comment", "/*", lambda n: "*" * 64, lambda last: "/\n")
-one_file("one string", 'const X = "', lambda n: "a" * 64, lambda last: '"\n', (3,))
+one_file("one string", 'const X = "', lambda n: "a" * 64, lambda last: '"\n', (0, 3))
 one_file("one number", "const X = 1", lambda n: "0" * 64, statuses=(3,))
 one_file("one name", "var ", lambda n: "a" * 64, lambda last: " int\n")
 tree("lines before the package")(lambda share: module(filled(FILE // share, "", lambda n: "// a\n", lambda last: "package p\n")))
