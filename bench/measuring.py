@@ -42,13 +42,13 @@ def measure(command, runs, given=None, statuses=(0,)):
     return best.seconds, best.peak, best.output
 
 
-def instructions_of(command, given=None):
+def instructions_of(command, given=None, statuses=(0,)):
     """How many instructions a run takes, as valgrind counts them (the same number each time, however busy the machine
-    is), and its output. GIVEN is the file of its input."""
+    is), and its output. GIVEN is the file of its input. It has to end with one of these statuses."""
     counting = ["valgrind", "--tool=cachegrind", "--cache-sim=no", "--cachegrind-out-file=/dev/null"]
     with open(given or os.devnull, "rb") as source:
         done = subprocess.run(counting + command, stdin=source, capture_output=True, check=False)
     counted = re.search(rb"I\s+refs:\s+([0-9,]+)", done.stderr)
-    if done.returncode or not counted:
+    if done.returncode not in statuses or not counted:
         sys.exit("%s: status %d under valgrind" % (" ".join(command), done.returncode))
     return int(counted.group(1).replace(b",", b"")), done.stdout

@@ -2,7 +2,6 @@
 import lzma
 import os
 import re
-import subprocess
 import urllib.request
 
 import gating
@@ -55,9 +54,16 @@ def unpack(room, name, mirror, package, where):
         with open(path, "wb") as file:
             file.write(fetch(mirror, stand(mirror, where, package)))
     folder = os.path.join(room, name)
-    subprocess.run(["dpkg-deb", "-x", path, folder], check=True)
-    version = subprocess.run(["dpkg-deb", "-f", path, "Version"], check=True, stdout=subprocess.PIPE, text=True).stdout.strip()
-    return os.path.join(folder, SOURCES), version
+    deb("-x", path, folder)
+    return os.path.join(folder, SOURCES), deb("-f", path, "Version").strip()
+
+
+def deb(*words):
+    """What dpkg-deb says."""
+    ran = gating.within(["dpkg-deb", *words], text=True, errors="replace")
+    if ran.returncode:
+        raise gating.Stop(gating.shown((ran.stderr.strip().splitlines() or ["dpkg-deb ended with %d" % ran.returncode])[0]))
+    return ran.stdout
 
 
 def modules(sources):
@@ -76,7 +82,7 @@ def tree(sources, module):
     if not os.path.isdir(folder):
         raise gating.Stop("no folder %s in the package" % module)
     path = os.path.join(folder, "go.mod")
-    if not os.path.exists(path):
+    if not os.path.lexists(path):
         with open(path, "w", encoding="utf-8") as file:
             file.write("module %s\n" % module)
     return folder

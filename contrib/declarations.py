@@ -74,7 +74,7 @@ def built(program, room, known):
     place = os.path.join(kept("tools") or room, program + "-" + digest[:16])
     if not os.access(place, os.X_OK):
         made = os.path.join(room, program)
-        settings = {**os.environ, "GO111MODULE": "on", "GOFLAGS": "", "GOWORK": "off", "GOTOOLCHAIN": "local"}
+        settings = {**os.environ, "GO111MODULE": "on", "GOFLAGS": "", "GOWORK": "off", "GOTOOLCHAIN": "local", "GOTMPDIR": room}
         if subprocess.run(["go", "build", "-o", made, "./tools/" + program], cwd=gating.TOP, env=settings, check=False).returncode:
             raise gating.Stop("tools/%s can't be built" % program)
         places.put(place, modules.content(made), 0o755)
@@ -90,11 +90,18 @@ def stamps(folder):
         return None
 
 
+def fault(ran):
+    """Why the cutter ended: its last line, or what Go's runtime says where that ended it."""
+    lines = ran.stderr.strip().splitlines() or ["it ended with %d" % ran.returncode]
+    fatal = [line for line in lines if line.startswith("fatal error: ")]
+    return gating.Stop("tools/stdcut: " + gating.shown((fatal or lines[-1:])[0].removeprefix("stdcut: ")))
+
+
 def key(program, digest, known, platforms, trees):
     """The digest of what decides which declarations are cut, or None where the cutter can't read a tree."""
-    ran = subprocess.run([program, "--key", *trees], capture_output=True, text=True, check=False)
+    ran = gating.within([program, "--key", *trees], text=True, errors="replace")
     if ran.returncode:
-        raise gating.Stop("tools/stdcut: " + gating.shown(ran.stderr.strip().removeprefix("stdcut: ")))
+        raise fault(ran)
     sums = hashlib.sha256(json.dumps([digest, known, platforms, ran.stdout]).encode())
     for tree in trees:
         work = modules.workspace(tree)
@@ -107,11 +114,11 @@ def key(program, digest, known, platforms, trees):
 def run(program, platforms, folder, trees, settings):
     """Cuts; returns what the cutter said."""
     words = [program, "--platforms", platforms, "--out", os.path.join(folder, "std"), "--read", os.path.join(folder, "read"), *trees]
-    ran = subprocess.run(words, env={**os.environ, **settings}, stderr=subprocess.PIPE, text=True, errors="replace", check=False)
-    lines = ran.stderr.strip().splitlines()
+    # what the commands of go that it runs leave behind where it is ended goes with the folder
+    ran = gating.within(words, env={**os.environ, "GOTMPDIR": folder, **settings}, text=True, errors="replace")
     if ran.returncode == 2 or not os.path.isdir(os.path.join(folder, "std")):
-        raise gating.Stop("tools/stdcut: " + gating.shown(lines[-1].removeprefix("stdcut: ") if lines else "it ended with %d" % ran.returncode))
-    return lines
+        raise fault(ran)
+    return ran.stderr.strip().splitlines()
 
 
 def fresh(place):
@@ -159,6 +166,8 @@ def keep(store, made, place, lines):
 
 def cut(room, platforms, old, new, settings=None):
     """Cuts what both trees need of other packages, or takes what was cut of the same before."""
+    for tree in old, new:
+        gating.check_module(tree)
     settings = settings or {}
     begun, known = time.monotonic(), settings_of_go(settings)
     program, digest = built("stdcut", room, known)

@@ -2,7 +2,6 @@
 import json
 import os
 import re
-import subprocess
 
 import declarations
 import gating
@@ -30,7 +29,12 @@ class Explainer:
         if not self.program:
             self.program = declarations.built("explain", self.room, declarations.settings_of_go({}))[0]
         asked = {"old": self.folders["old"], "new": self.folders["new"], "std": self.cut.folder, "platforms": self.platforms, **more}
-        ran = subprocess.run([self.program, question], input=json.dumps(asked), capture_output=True, text=True, check=False)
+        try:
+            ran = gating.within([self.program, question], input=json.dumps(asked), text=True, errors="replace")
+        except gating.Stop as stop:
+            # what the program said stands
+            gating.say("note: tools/explain: %s" % str(stop).removesuffix("; nothing was judged"))
+            return None
         if ran.returncode:
             gating.say("note: tools/explain: %s" % gating.shown((ran.stderr.strip().splitlines() or ["it ended with %d" % ran.returncode])[0]))
             return None
@@ -84,7 +88,9 @@ class Explainer:
     def of_place(self, side, platform, file, line, what):
         if what.startswith("declaration has no typing"):
             told = self.ask("depends", **{"new": self.folders[side], "platforms": [platform], "file": file, "line": line})
-            reason = told and told["reason"]
+            if told is None:
+                return
+            reason = told["reason"]
             if not reason:
                 yield "Go's checker types it over these declarations; " + PROFILE
                 return
@@ -93,7 +99,7 @@ class Explainer:
         elif what.startswith("import not found"):
             yield from self.of_import(side, file, line)
         else:
-            ran = subprocess.run(["gofmt", "-e", "-l", "--", file], cwd=self.folders[side], capture_output=True, text=True, check=False)
+            ran = gating.within(["gofmt", "-e", "-l", "--", file], cwd=self.folders[side], text=True, errors="replace")
             yield from ["gofmt: " + gating.shown(each) for each in ran.stderr.splitlines()[:1]]
 
     def of_import(self, side, file, line):

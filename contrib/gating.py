@@ -1,7 +1,10 @@
-"""What the recipes have in common: how the program is run, versions, why nothing was judged, and how a run ends."""
+"""What the recipes have in common: how programs are run, and within which limits, versions, why nothing was judged, and how a run ends."""
+import collections
 import os
 import re
+import resource
 import signal
+import stat
 import subprocess
 import sys
 
@@ -12,6 +15,12 @@ RELEASE = re.compile(r"v?%s\.%s\.%s$" % (NUMBER, NUMBER, NUMBER))
 REFUSED = 3
 # the program that runs, once it is known
 found = ""
+# what each program that reads a module may take: of the clock, and of data
+Limits = collections.namedtuple("Limits", "seconds megabytes")
+limits = Limits(600, 4096)
+MOST = 1_000_000
+# what stands behind the name of a program that was built or unpacked
+BUILT = re.compile("-([0-9a-f]{16}|linux-amd64)$")
 
 
 class Stop(Exception):
@@ -38,6 +47,52 @@ def say(text):
     print(text, file=sys.stderr, flush=True)
 
 
+def add_limits(parser):
+    """The words that say what a module of others may take."""
+    whole = dict(type=count, metavar="N")
+    parser.add_argument("--seconds", default=limits.seconds, help="how long each program that reads the module may take; %d where it isn't given" % limits.seconds, **whole)
+    parser.add_argument("--megabytes", default=limits.megabytes, help="how much data it may hold; %d where it isn't given" % limits.megabytes, **whole)
+
+
+def count(text):
+    """A number of seconds or megabytes; what else stands there is a ValueError."""
+    if not 1 <= int(text) <= MOST:
+        raise ValueError(text)
+    return int(text)
+
+
+def limit(seconds, megabytes):
+    """Sets the limits."""
+    global limits
+    limits = Limits(seconds, megabytes)
+
+
+def within(words, **how):
+    """Runs a program within the limits, with nothing to read but what it is given, and keeps what it says. Where it is ended for them, nothing was judged."""
+    name, most = BUILT.sub("", os.path.basename(words[0])), resource.getrlimit(resource.RLIMIT_DATA)[1]
+    data = min(limits.megabytes << 20, sys.maxsize if most == resource.RLIM_INFINITY else most)
+
+    def before():
+        resource.setrlimit(resource.RLIMIT_DATA, (data, data))
+        resource.setrlimit(resource.RLIMIT_CORE, (0, 0))
+
+    given = {} if "input" in how else {"stdin": subprocess.DEVNULL}
+    try:
+        ended = subprocess.run(words, capture_output=True, preexec_fn=before, timeout=limits.seconds, check=False, **given, **how)
+    except subprocess.TimeoutExpired:
+        raise Stop("%s took more than %d seconds, and was ended; nothing was judged" % (name, limits.seconds)) from None
+    if ended.returncode < 0:
+        raise Stop("%s was ended by signal %d; nothing was judged" % (name, -ended.returncode))
+    return ended
+
+
+def check_module(folder):
+    """Refuses a tree whose go.mod is a link, a fifo or a device: it would be read where it leads."""
+    path = os.path.join(folder, "go.mod")
+    if os.path.lexists(path) and not stat.S_ISREG(os.lstat(path).st_mode):
+        raise Stop("%s is no file; nothing was judged" % shown(path))
+
+
 def at_hand():
     """The program itself where it stands ready, so that the launcher needn't look at all sources at each run; else nothing."""
     sys.path += [os.path.join(TOP, ".ci"), os.path.join(TOP, "tools")]
@@ -60,7 +115,8 @@ def ready():
     if not found:
         found = at_hand()
     if not found:
-        tried = subprocess.run([PROGRAM, "make", "--seed", "1", "--size", "1"], stdout=subprocess.DEVNULL, check=False)
+        # without limits: a proof takes hours, and reads no module
+        tried = subprocess.run([PROGRAM, "make", "--seed", "1", "--size", "1"], stdin=subprocess.DEVNULL, stdout=subprocess.DEVNULL, check=False)
         if tried.returncode:
             raise Stop("the program can't be run", tried.returncode)
         found = PROGRAM
@@ -69,7 +125,7 @@ def ready():
 
 def told(words):
     """Runs the program with these words, and returns its status, its report and its line on standard error."""
-    ran = subprocess.run([ready(), *words], stdout=subprocess.PIPE, stderr=subprocess.PIPE, check=False)
+    ran = within([ready(), *words])
     return ran.returncode, ran.stdout.decode(), ran.stderr.decode(errors="replace")
 
 

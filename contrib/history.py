@@ -1,7 +1,6 @@
 """A git repository: its releases, and the files of a commit. Nothing of it is changed."""
 import os
 import re
-import subprocess
 
 import gating
 
@@ -10,11 +9,11 @@ KEPT = {"go.mod", "go.sum", "go.work", "go.work.sum", "modules.txt"}
 MAJOR = re.compile(r"(?:/|\.)v([0-9]+)$")
 
 
-def git(folder, *words, given=None):
+def git(folder, *words, given=b""):
     """Runs git in a folder; where a hook runs this, what it says of its own repository doesn't count."""
     settings = {name: value for name, value in os.environ.items() if not name.startswith("GIT_")}
     try:
-        ran = subprocess.run(["git", "-C", folder, *words], input=given, capture_output=True, env={**settings, "LC_ALL": "C"})
+        ran = gating.within(["git", "-C", folder, *words], input=given, env={**settings, "LC_ALL": "C"})
     except FileNotFoundError as error:
         raise gating.Stop("git isn't installed") from error
     if ran.returncode:
@@ -88,6 +87,10 @@ class Repository:
             path, name = os.fsdecode(path), os.fsdecode(path).split("/")[-1]
             if head.startswith(b"100") and (name in KEPT or name.endswith(".go") and not name.endswith("_test.go")):
                 yield path, head.split()[2]
+
+    def is_other(self, commit, path):
+        """Whether something else than a file stands at a path of a commit, as a link."""
+        return git(self.top, "ls-tree", "-z", commit, "--", path)[:3] not in (b"", b"100")
 
     def text(self, commit, path):
         """A file of a commit, or None."""

@@ -3,7 +3,6 @@ import json
 import os
 import re
 import shutil
-import subprocess
 
 import gating
 
@@ -49,7 +48,7 @@ def renew(folder):
     found = old_form(folder)
     for name in found:
         path = os.path.join(folder, name)
-        ran = subprocess.run(["gofmt", "--", name], cwd=folder, capture_output=True, check=False)
+        ran = gating.within(["gofmt", "--", name], cwd=folder)
         new = NEW_FORM_LINE.search(ran.stdout)
         if new:
             text = OLD_FORM_LINE.sub(lambda _: b"//", OLD_FORM_LINE.sub(lambda _: new[0], content(path), count=1))
@@ -72,6 +71,7 @@ def path_in(text):
 
 def path_of(folder):
     """The path of the module in a folder by its go.mod, or nothing where it has none."""
+    gating.check_module(folder)
     try:
         return path_in(content(os.path.join(folder, "go.mod")).decode(errors="replace"))
     except FileNotFoundError:
@@ -81,7 +81,7 @@ def path_of(folder):
 def go(folder, *words, **settings):
     """What Go's command says in a folder, or nothing where it can't."""
     try:
-        ran = subprocess.run(["go", *words], cwd=folder, env={**os.environ, **settings}, capture_output=True, text=True, check=False)
+        ran = gating.within(["go", *words], cwd=folder, env={**os.environ, **settings}, text=True, errors="replace")
     except FileNotFoundError as error:
         raise gating.Stop("the command go isn't installed: apt-get install golang-go, or https://go.dev/dl") from error
     return ran.stdout.strip() if not ran.returncode else ""

@@ -24,6 +24,7 @@ def parser(about):
     made.add_argument("--update-except", action="store_true", help="add the lost lines to the file of --except")
     made.add_argument("--places", action="store_true", help="tell under the report where each broken object is declared, and each way from it to what is broken")
     made.add_argument("--format", default="text", choices=FORMATS, help="the form of the report; text where it isn't given")
+    gating.add_limits(made)
     made.add_argument("module", nargs="?", default=".", metavar="MODULE", help="the module's folder; the one of the call where it isn't given")
     return made
 
@@ -45,6 +46,8 @@ def of_file(folder):
         return {}
     if len(found) > 1:
         raise gating.Stop("%s has both %s and %s: remove one" % (gating.shown(folder), *NAMES))
+    if os.path.exists(found[0]) and not os.path.isfile(found[0]):
+        raise gating.Stop("%s is no file" % gating.shown(found[0]))
     try:
         with open(found[0], "rb") as file:
             told = tomllib.load(file)
@@ -64,6 +67,7 @@ def of_file(folder):
 def asked(about, words=None):
     """The words, then the file, then what stands for neither."""
     found = vars(parser(about).parse_args(words))
+    gating.limit(found["seconds"], found["megabytes"])
     said = of_file(found["module"])
     for name in ("platforms", "api", "except"):
         found[name] = found[name] or said.get(name, "")

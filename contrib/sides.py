@@ -35,6 +35,8 @@ class Side:
 
     def of_commit(self, where, revision, commit, module):
         """A commit; the whole of the repository where the module needs what stands beside it."""
+        if where.is_other(commit, where.prefix + "go.mod"):
+            raise gating.Stop("%s:%sgo.mod is no file; nothing was judged" % (gating.shown(revision), gating.shown(where.prefix)))
         text = where.text(commit, where.prefix + "go.mod")
         parents = [where.prefix[: at.start()] for at in re.finditer(r"(?<=/)|^", where.prefix)]
         whole = where.prefix and (modules.near_replaces(text or "") or any(where.text(commit, each + "go.work") for each in parents))
