@@ -82,7 +82,7 @@ fn compared(alloc: Global, old: &World, new: &World) -> Result<Found, NoMemory>
 }
 
 // What is found on a platform where there is no old tree.
-fn features_on<G: Gate, L: Copy>(
+fn features_on<G: Gate, L: Copy + Send>(
     alloc: Global,
     trees: &RunTrees<'_>,
     platform: Platform,
@@ -117,7 +117,7 @@ fn features_on<G: Gate, L: Copy>(
 }
 
 // What is found on a platform where there is an old tree.
-fn verdict_on<G: Gate, L: Copy>(
+fn verdict_on<G: Gate, L: Copy + Send>(
     alloc: Global,
     old_tree: &Tree,
     trees: &RunTrees<'_>,
@@ -169,7 +169,7 @@ fn verdict_on<G: Gate, L: Copy>(
 }
 
 /// What is found on a platform: what `find` says, on it alone.
-pub(crate) fn found_on<G: Gate, L: Copy>(
+pub(crate) fn found_on<G: Gate, L: Copy + Send>(
     alloc: Global,
     trees: &RunTrees<'_>,
     platform: Platform,

@@ -26,7 +26,7 @@ impl Jobs<u64> for Numbers {
         self.count as usize
     }
 
-    fn run<L: Copy>(
+    fn run<L: Copy + Send>(
         &self,
         _worker: u32,
         number: usize,
