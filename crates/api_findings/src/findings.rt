@@ -81,7 +81,7 @@ impl Findings {
 
 // Adds what is found on a platform, where the first one that is alike has this number: what was found there already, or what is found
 // now.
-fn add_next<G: Gate, L: Copy + Send>(
+fn add_next<G: Gate, L: Copy>(
     alloc: Global,
     all: &mut Findings,
     first: usize,
@@ -116,7 +116,7 @@ fn add_next<G: Gate, L: Copy + Send>(
 }
 
 // What `find` says, by the numbers of the first platforms that are alike.
-fn find_by<G: Gate, L: Copy + Send>(
+fn find_by<G: Gate, L: Copy>(
     alloc: Global,
     firsts: &[usize],
     trees: &RunTrees<'_>,
@@ -156,7 +156,7 @@ fn find_by<G: Gate, L: Copy + Send>(
 /// What is found on these platforms in the new tree over the standard library's and, where there is an old tree, in both; or `Refused`
 /// with the fault line of the first platform on which a tree is refused, the old one before the new; or `NoMemory`. The counter rises by at
 /// most the number of the packages of both trees on all platforms together.
-pub fn find<G: Gate, L: Copy + Send>(
+pub fn find<G: Gate, L: Copy>(
     alloc: Global,
     trees: &RunTrees<'_>,
     platforms: &[Platform],

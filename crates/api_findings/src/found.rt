@@ -22,10 +22,12 @@ use api_worlds::world::world_on;
 use go_base::list::List;
 use go_base::memory::NoMemory;
 use go_base::steps::Steps;
+use go_exposed::laws::one_world;
 use go_model::files::platform::Platform;
 use go_model::files::tree::Tree;
 use go_model::types::world::World;
 use go_outside::gate::Gate;
+use go_reading::laws::unit_paths;
 use go_std_worlds::laws::same_std_packages;
 use std::alloc::Global;
 
@@ -82,7 +84,7 @@ fn compared(alloc: Global, old: &World, new: &World) -> Result<Found, NoMemory>
 }
 
 // What is found on a platform where there is no old tree.
-fn features_on<G: Gate, L: Copy + Send>(
+fn features_on<G: Gate, L: Copy>(
     alloc: Global,
     trees: &RunTrees<'_>,
     platform: Platform,
@@ -117,7 +119,7 @@ fn features_on<G: Gate, L: Copy + Send>(
 }
 
 // What is found on a platform where there is an old tree.
-fn verdict_on<G: Gate, L: Copy + Send>(
+fn verdict_on<G: Gate, L: Copy>(
     alloc: Global,
     old_tree: &Tree,
     trees: &RunTrees<'_>,
@@ -134,6 +136,8 @@ fn verdict_on<G: Gate, L: Copy + Send>(
     ensures steps { CountsAtMost trees.now.barred.now (Some old_tree.now) trees.now.tree.now trees.now.std_tree.now (platform ∷ []) steps.old steps.new }
 {
     same_std_packages();
+    unit_paths();
+    one_world();
     match world_on(
         alloc,
         Side::Old,
@@ -169,7 +173,7 @@ fn verdict_on<G: Gate, L: Copy + Send>(
 }
 
 /// What is found on a platform: what `find` says, on it alone.
-pub(crate) fn found_on<G: Gate, L: Copy + Send>(
+pub(crate) fn found_on<G: Gate, L: Copy>(
     alloc: Global,
     trees: &RunTrees<'_>,
     platform: Platform,

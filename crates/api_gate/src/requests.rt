@@ -39,7 +39,7 @@ fn modules_of(alloc: Global, inputs: &Inputs) -> Result<List<Text>, NoMemory>
 }
 
 // What is found in the trees of these inputs decides.
-fn on_platforms<G: Gate, L: Copy + Send>(
+fn on_platforms<G: Gate, L: Copy>(
     alloc: Global,
     request: &Request,
     inputs: &Inputs,
@@ -74,7 +74,7 @@ fn on_platforms<G: Gate, L: Copy + Send>(
 }
 
 // What these inputs decide.
-fn on_inputs<G: Gate, L: Copy + Send>(
+fn on_inputs<G: Gate, L: Copy>(
     alloc: Global,
     request: &Request,
     inputs: &Inputs,
@@ -96,7 +96,7 @@ fn on_inputs<G: Gate, L: Copy + Send>(
 }
 
 /// What a request decides over these files.
-pub(crate) fn on_files<F: Files, G: Gate, L: Copy + Send>(
+pub(crate) fn on_files<F: Files, G: Gate, L: Copy>(
     alloc: Global,
     files: &mut F,
     request: &Request,
@@ -116,7 +116,7 @@ pub(crate) fn on_files<F: Files, G: Gate, L: Copy + Send>(
 }
 
 /// What a request decides over the files that the generator makes for it.
-pub(crate) fn on_made<G: Gate, L: Copy + Send>(
+pub(crate) fn on_made<G: Gate, L: Copy>(
     alloc: Global,
     made: MadeTrees,
     request: &Request,

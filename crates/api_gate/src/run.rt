@@ -22,7 +22,7 @@ use std::alloc::Global;
 use std::thread::Threads;
 
 // What a request decides.
-fn on_request<F: Files, G: Gate, L: Copy + Send>(
+fn on_request<F: Files, G: Gate, L: Copy>(
     alloc: Global,
     files: &mut F,
     request: &Request,
@@ -44,7 +44,7 @@ fn on_request<F: Files, G: Gate, L: Copy + Send>(
 }
 
 // What a run is to write.
-fn decide<F: Files, G: Gate, L: Copy + Send>(
+fn decide<F: Files, G: Gate, L: Copy>(
     alloc: Global,
     words: &[String],
     files: &mut F,
@@ -79,7 +79,7 @@ fn decide<F: Files, G: Gate, L: Copy + Send>(
 /// and `NoMemory`, at any time; and in place of all `WriteFault`, only where a sink failed. The hook hears of each check of a
 /// package before it begins, as of worker 0, and the counter rises by one for each. One worker checks all packages, whatever
 /// number the words give.
-pub fn run<R: Threads + Sync, F: Files, S: Sink, E: Sink, G: Gate + Sync, L: Copy + Send>(
+pub fn run<R: Threads + Sync, F: Files, S: Sink, E: Sink, G: Gate + Sync, L: Copy>(
     rt: &R,
     alloc: Global,
     words: &[String],

@@ -16,8 +16,11 @@ use Rattle.go_type_images.specs.declared.pair.TypePair.{TypePair}
 use Rattle.go_type_images.proofs.Through.{only_before, only_behind}
 use Rattle.api_correspond.specs.OwnedPairs.{HoldsOwned}
 use Rattle.api_correspond.specs.Publics.{IsExported, types_of}
-use Rattle.api_correspond.specs.Rules.{Compatible, have_method_sets}
-use Rattle.api_kept_members.specs.KeptFinds.{FindsMethod, end_at}
+use Rattle.api_correspond.specs.Rules.{Compatible, have_method_sets, is_std_sel}
+use Rattle.api_type_images.proofs.Paired as P
+use Rattle.go_type_images.specs.Parts.{function_type}
+use Rattle.api_correspond.specs.Outermost.{pair}
+use Rattle.api_kept_members.specs.KeptFinds.{FindsMethod, FindsStdMethod, end_at}
 use Rattle.api_kept_members.proofs.DefinedPointers.{no_ends, no_item}
 use Rattle.api_kept_members.proofs.Members as M
 use Rattle.api_kept_members.proofs.MethodSets as S
@@ -75,29 +78,44 @@ module _ (old new : Packages) (pairs : List TypePair) (H : HoldsOwned old new pa
   abbrev signature_to : Signature → Signature
   signature_to = M.signature_to old new pairs H C
 
-  module _ (p : TypePair) (k : Has pairs p) (h : have_method_sets old new p ≡ true) (s : Sel) (x : IsExported s) where
+  module _ (p : TypePair) (k : Has pairs p) (h : have_method_sets old new p ≡ true) (s : Sel) (g v : Signature) (Extra : Type 0) (pointer_kept : InSet T (pointer_to p.old) s g → InSet U (pointer_to p.new) s v × Extra) (own_kept : InSet T p.old s g → InSet U p.new s v) where
     reaches_by : (b q k : Bool) (a e : Bool) (z : Bool) → (b || q) ≡ z → (Reaches a q → Reaches e k) → Reaches a z → Reaches e (b || k)
     reaches_by true q l a e z w f r = inr refl
     reaches_by false q l a e z w f r = f (subst (Reaches a) (sym w) r)
 
-    with_starts : (c : is_defined_pointer T p.old ≡ false) (B : BeginsHere T p.old) (D : BeginsHere U p.new) (b q a : Bool) (d : ℕ) (o : Option TypeName) (g : Signature) → IsOnly T s (at_spot b p.old) d (end_at q (method o a g)) → FindsMethod new pairs s b p.new a q g
-    with_starts c B D b q a d o g y =
+    abbrev FindsIt : Bool → Bool → Bool → Type 0
+    FindsIt b a q = (depth : ℕ) × (behind : Bool) × (owner : Option TypeName) × (by_pointer : Bool) × IsOnly U s (at_spot b p.new) depth (end_at behind (method owner by_pointer v)) × (Reaches a q → Reaches by_pointer behind) × Extra
+
+    with_starts : (c : is_defined_pointer T p.old ≡ false) (B : BeginsHere T p.old) (D : BeginsHere U p.new) (b q a : Bool) (d : ℕ) (o : Option TypeName) → IsOnly T s (at_spot b p.old) d (end_at q (method o a g)) → FindsIt b a q
+    with_starts c B D b q a d o y =
         let f = only_before T s b p.old d (end_at q (method o a g)) y in
         let target : (f.0).target ≡ method o a g = ap (λ (z : Ending). z.target) f.2 in
         let through : (b || (f.0).through) ≡ q = ap (λ (z : Ending). z.through) f.2 in
         let only = subst (λ z. IsOnly T s (at_spot false p.old) d (end_at (f.0).through z)) target f.1 in
-        let n = M.pointer_method old new pairs H C p k (S.members old new pairs H C p h) h (S.no_interfaces old new pairs H C p h).0 (S.no_interfaces old new pairs H C p h).1 s g x (in_pointer_set T p.old B s d (f.0).through a o g only) in
-        let v = from_pointer_set U p.new D s (signature_to g) n.0 in
-        let reaches : Reaches a (f.0).through → Reaches v.pointer v.through = λ r. reaches_own U p.new D s (signature_to g) (signature_to g) v (S.method_set old new pairs H C i j p k h s g x (in_own_set T p.old B s d (f.0).through a o g c r only)) in
-        (v.depth, b || v.through, v.owner, v.pointer, only_behind U s b p.new v.depth (end_at v.through (method v.owner v.pointer (signature_to g))) v.only, reaches_by b (f.0).through v.through a v.pointer q through reaches, n.1)
-
-    searched : is_defined_pointer T p.old ≡ false → (b q a : Bool) (d : ℕ) (o : Option TypeName) (g : Signature) → IsOnly T s (at_spot b p.old) d (end_at q (method o a g)) → FindsMethod new pairs s b p.new a q g
-    searched c b q a d o g y = let z = S.begins old new pairs H C i j p k h c in with_starts c z.0 z.1 b q a d o g y
+        let n = pointer_kept (in_pointer_set T p.old B s d (f.0).through a o g only) in
+        let w = from_pointer_set U p.new D s v n.0 in
+        let reaches : Reaches a (f.0).through → Reaches w.pointer w.through = λ r. reaches_own U p.new D s v v w (own_kept (in_own_set T p.old B s d (f.0).through a o g c r only)) in
+        (w.depth, b || w.through, w.owner, w.pointer, only_behind U s b p.new w.depth (end_at w.through (method w.owner w.pointer v)) w.only, reaches_by b (f.0).through w.through a w.pointer q through reaches, n.1)
 
     -- a method is found from the new type, and can be called where it could; from a defined pointer type none is
-    pub found_method : (b q a : Bool) (d : ℕ) (o : Option TypeName) (g : Signature) → IsOnly T s (at_spot b p.old) d (end_at q (method o a g)) → FindsMethod new pairs s b p.new a q g
-    found_method b q a d o g y = by (is_defined_pointer T p.old) refl
+    found_kept : (b q a : Bool) (d : ℕ) (o : Option TypeName) → IsOnly T s (at_spot b p.old) d (end_at q (method o a g)) → FindsIt b a q
+    found_kept b q a d o y = by (is_defined_pointer T p.old) refl
       where
-        by : (c : Bool) → is_defined_pointer T p.old ≡ c → FindsMethod new pairs s b p.new a q g
+        by : (c : Bool) → is_defined_pointer T p.old ≡ c → FindsIt b a q
         by true e = absurd (no_item (ends T s d (at_spot b p.old)) (end_at q (method o a g)) (no_ends old i p.old e s b d) y.only)
-        by false e = searched e b q a d o g y
+        by false e = let z = S.begins old new pairs H C i j p k h e in with_starts e z.0 z.1 b q a d o y
+
+  module _ (p : TypePair) (k : Has pairs p) (h : have_method_sets old new p ≡ true) (s : Sel) where
+    -- an exported method with the image as signature
+    pub found_method : IsExported s → (b q a : Bool) (d : ℕ) (o : Option TypeName) (g : Signature) → IsOnly T s (at_spot b p.old) d (end_at q (method o a g)) → FindsMethod new pairs s b p.new a q g
+    found_method x b q a d o g y = found_kept p k h s g (signature_to g) (Has pairs (pair (function_type g) (function_type (signature_to g))))
+        (λ z. M.pointer_method old new pairs H C p k (S.members old new pairs H C p h) h (S.no_interfaces old new pairs H C p h).0 (S.no_interfaces old new pairs H C p h).1 s g x z)
+        (λ z. S.method_set old new pairs H C i j p k h s g x z) b q a d o y
+
+    -- an unexported one of the standard library with its own
+    pub found_std_method : is_std_sel old s ≡ true → (b q a : Bool) (d : ℕ) (o : Option TypeName) (g : Signature) → IsOnly T s (at_spot b p.old) d (end_at q (method o a g)) → FindsStdMethod new s b p.new a q g
+    found_std_method x b q a d o g y =
+        let f = found_kept p k h s g g (Unit {0})
+        (λ z. let n = (P.keeps old new pairs H C p k).0.pointer_sets s g (record { sets = h; counts = inr x; there = z }) in (subst (λ v. InSet U (pointer_to p.new) s v) (n.2 x) n.1, tt))
+        (λ z. let n = (P.keeps old new pairs H C p k).0.method_sets s g (record { sets = h; counts = inr x; there = z }) in subst (λ v. InSet U p.new s v) (n.2 x) n.1) b q a d o y in
+        (f.0, f.1, f.2, f.3, f.4, f.5)

@@ -30,9 +30,9 @@ use Rattle.go_type_images.proofs.Through.{only_behind}
 use Rattle.api_correspond.specs.Outermost.{pair}
 use Rattle.api_correspond.specs.OwnedPairs.{HoldsOwned, are_of_module, are_structs, have_members, receiver_layer, to_method}
 use Rattle.api_correspond.specs.Publics.{IsExported, is_of_module, types_of}
-use Rattle.api_correspond.specs.Rules.{Compatible, IsOpen, have_interfaces}
+use Rattle.api_correspond.specs.Rules.{Compatible, IsOpen, have_interfaces, is_std_sel}
 use Rattle.api_type_images.proofs.Paired as P
-use Rattle.api_kept_members.specs.KeptFinds.{FindsMethod, end_at}
+use Rattle.api_kept_members.specs.KeptFinds.{FindsMethod, FindsStdMethod, end_at}
 use Rattle.api_kept_members.proofs.DefinedPointers.{no_item}
 use Rattle.api_kept_members.proofs.Kept as K
 use Rattle.api_kept_members.proofs.Members as M
@@ -221,6 +221,21 @@ module _ (old new : Packages) (pairs : List TypePair) (H : HoldsOwned old new pa
         let e : method_sel g.0 ≡ method_sel n = ap method_sel g.2 ∙ ap (λ y. y.sel) (out_image_method (P.renamed old new pairs H C) same_sels m.0) ∙ m.2 in
         (m.0, m.1, one_of after.0 n g.0 new_bare.once (subst (λ l. Has (methods_of l) n) after.1 q) (subst (λ l. Has (methods_of l) g.0) after.1 g.1) (sym e) ∙ g.2)
 
+    -- an unexported method of the standard library stays as it is
+    pub std_method : (m : Method) → Has (methods_of (under T p.old)) m → is_std_sel old (method_sel m) ≡ true → Has (methods_of (under U p.new)) m
+    std_method m q x =
+        let n = (P.keeps old new pairs H C p k).0.interface_methods m (record { interfaces = both; there = q; counts = inr x }) in
+        subst (λ y. Has (methods_of (under U p.new)) y) (n.3 x) n.1
+
+    -- and none is new where the old interface is open
+    pub no_new_std_method : IsOpen old p.old → (n : Method) → Has (methods_of (under U p.new)) n → is_std_sel old (method_sel n) ≡ true → Has (methods_of (under T p.old)) n
+    no_new_std_method s n q x =
+        let f = (P.keeps old new pairs H C p k).0 in
+        let m = f.open_interfaces n (record { interfaces = both; before = s; after = λ z. s ((f.sealing both).not_new z); there = q }) in
+        let g = std_method m.0 m.1 (ap (is_std_sel old) m.2 ∙ x) in
+        let e = one_of after.0 m.0 n new_bare.once (subst (λ l. Has (methods_of l) m.0) after.1 g) (subst (λ l. Has (methods_of l) n) after.1 q) m.2 in
+        subst (λ y. Has (methods_of (under T p.old)) y) e m.1
+
     new_start : start U p.new ≡ at_spot false p.new
     new_start = let n = K.module_name new (out-Term p.new) sides.1 in begins_here U p.new (ap is_pointer_layer n.1) (ap is_pointer_layer after.1)
 
@@ -235,3 +250,11 @@ module _ (old new : Packages) (pairs : List TypePair) (H : HoldsOwned old new pa
         let w : InSet U p.new s (M.signature_to old new pairs H C g) = subst (λ z. InSet U p.new s z) f (subst (λ z. InSet U p.new z (out-Method n.0).signature) e v) in
         let own : Has pairs (pair (function_type g) (function_type (M.signature_to old new pairs H C g))) = subst (λ z. Has pairs (pair (function_type g) (function_type z))) f (subst (λ z. Has pairs (pair (function_type z) (method_type n.0))) m.signed n.3) in
         (w.depth, b || w.through, w.owner, w.pointer, only_behind U s b p.new w.depth (end_at w.through (method w.owner w.pointer (M.signature_to old new pairs H C g))) (subst (λ (z : Spot). IsOnly U s z w.depth (end_at w.through (method w.owner w.pointer (M.signature_to old new pairs H C g)))) new_start w.only), (λ r. reaches_further b w.through w.pointer w.reaches), own)
+
+    pub found_std_method : (s : Sel) → is_std_sel old s ≡ true → (b q c : Bool) (d : ℕ) (o : Option TypeName) (g : Signature) → IsOnly T s (at_spot b p.old) d (end_at q (method o c g)) → FindsStdMethod new s b p.new c q g
+    found_std_method s x b q c d o g y =
+        let m = found_in old i p.old before.0 before.1 old_bare.none s b d q c o g y in
+        let n = std_method m.it (subst (λ l. Has (methods_of l) m.it) (sym before.1) m.stands) (ap (is_std_sel old) m.named ∙ x) in
+        let v = in_set new j p.new after.0 after.1 new_bare m.it (subst (λ l. Has (methods_of l) m.it) after.1 n) in
+        let w : InSet U p.new s g = subst (λ z. InSet U p.new s z) m.signed (subst (λ z. InSet U p.new z (out-Method m.it).signature) m.named v) in
+        (w.depth, b || w.through, w.owner, w.pointer, only_behind U s b p.new w.depth (end_at w.through (method w.owner w.pointer g)) (subst (λ (z : Spot). IsOnly U s z w.depth (end_at w.through (method w.owner w.pointer g))) new_start w.only), (λ r. reaches_further b w.through w.pointer w.reaches))

@@ -30,3 +30,8 @@ abbrev pub FindsMethod : Packages → List TypePair → Sel → Bool → Term �
 FindsMethod new pairs s b t pointer through g =
     (depth : ℕ) × (behind : Bool) × (owner : Option TypeName) × (by_pointer : Bool) × IsOnly (types_of new) s (at_spot b t) depth (end_at behind (method owner by_pointer (image_of_signature (new_name pairs) same_sels g)))
     × (Reaches pointer through → Reaches by_pointer behind) × Has pairs (pair (function_type g) (function_type (image_of_signature (new_name pairs) same_sels g)))
+
+-- so is a method of an unexported selector of the standard library, with its own signature
+abbrev pub FindsStdMethod : Packages → Sel → Bool → Term → Bool → Bool → Signature → Type 0
+FindsStdMethod new s b t pointer through g =
+    (depth : ℕ) × (behind : Bool) × (owner : Option TypeName) × (by_pointer : Bool) × IsOnly (types_of new) s (at_spot b t) depth (end_at behind (method owner by_pointer g)) × (Reaches pointer through → Reaches by_pointer behind)

@@ -1,5 +1,5 @@
 -- Items that are put in the order of their texts, each text once.
-use Rattle.std.proofs.Common.{◌≡◌, ℕ, suc, true, List, [], ◌∷◌, map, refl, sym, ap, subst, inl, inr, arith}
+use Rattle.std.proofs.Common.{◌≡◌, ℕ, suc, true, List, [], ◌∷◌, map, refl, sym, ap, ◌∙◌, subst, inl, inr, arith}
 use Rattle.std.specs.Ordering.{nat_cmp, on}
 use Rattle.std.specs.Prelude.{bytes_eq}
 use Rattle.std.specs.declared.cmp.Ordering.{Ordering}
@@ -14,6 +14,7 @@ use Rattle.std.proofs.lemmas.List.Kept.{Any-dedup, Contains-from_dedup, IsStrict
 use Rattle.std.proofs.lemmas.List.Sorted.{Contains-permutation, IsPermutation-sym}
 use Rattle.go_base.specs.Lists.{Has}
 use Rattle.api_lines.proofs.Growing.{has_at}
+use Rattle.api_lines.specs.OrderedTexts.{IsArranged}
 
 pub has_contains : {A : Type 0} (xs : List A) (x : A) → Has xs x → Contains xs x
 has_contains [] x h = absurd h
@@ -37,12 +38,6 @@ pub map_has : {A B : Type 0} (f : A → B) (xs : List A) (y : B) → Has (map f 
 map_has f [] y h = absurd h
 map_has f (x ∷ xs) y (inl e) = (x, inl refl, e)
 map_has f (x ∷ xs) y (inr h) = let k = map_has f xs y h in (k.0, inr k.1, k.2)
-
--- no item but the old ones, an item of each text, and the texts in order
-pub record IsArranged {P : Type 0} (text_of : P → List ℕ) (old new : List P) : Type 0 where
-  pub sound : (p : P) → Has new p → Has old p
-  pub complete : (p : P) → Has old p → (q : P) × Has new q × (text_of p ≡ text_of q)
-  pub ordered : IsStrictlySortedBy (slice_cmp nat_cmp) (map text_of new)
 
 module _ {P : Type 0} (text_of : P → List ℕ) where
   abbrev order : P → P → Ordering
@@ -70,3 +65,18 @@ module _ {P : Type 0} (text_of : P → List ℕ) where
     arranged new up filtered =
         subst (IsArranged text_of old) (sym (dedup_is (on text_of bytes_eq) sorted new filtered))
         (record { sound = sound; complete = complete; ordered = strict_texts (dedup (on text_of bytes_eq) sorted) (IsStrictlySortedBy-dedup (on_total text_of nat_list_cmp_total) (λ x y. texts_ties (text_of x) (text_of y)) sorted up) })
+
+-- values that were put in order with their texts
+module _ {P A : Type 0} (text : A → List ℕ) (old sorted new : List P) (text_of : P → List ℕ) (value_of : P → A) (shown : (p : P) → text_of p ≡ text (value_of p)) where
+  texts_shown : (ps : List P) → map text_of ps ≡ map text (map value_of ps)
+  texts_shown [] = refl
+  texts_shown (p ∷ ps) = let rest = texts_shown ps in (λ i. shown p i ∷ rest i)
+
+  pub values_arranged : IsPermutation old sorted → IsSorted (λ p q. slice_cmp nat_cmp (text_of p) (text_of q)) sorted → IsFiltered (DiffersFromLast (on text_of bytes_eq)) [] sorted new → IsArranged text (map value_of old) (map value_of new)
+  values_arranged moved up filtered =
+      let a = arranged text_of old sorted moved new up filtered in
+      record {
+        sound = λ x h. let k = map_has value_of new x h in subst (Has (map value_of old)) k.2 (has_map value_of old k.0 (a.sound k.0 k.1));
+        complete = λ x h. let k = map_has value_of old x h in let b = a.complete k.0 k.1 in (value_of b.0, has_map value_of new b.0 b.1, sym (ap text k.2) ∙ sym (shown k.0) ∙ b.2 ∙ shown b.0);
+        ordered = subst (IsStrictlySortedBy (slice_cmp nat_cmp)) (texts_shown new) a.ordered;
+      }

@@ -1,3 +1,4 @@
 pub mod Lines
 pub mod Merging
+pub mod OrderedTexts
 pub mod inner

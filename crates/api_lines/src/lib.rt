@@ -11,6 +11,6 @@ mod ordered;
 mod part;
 mod place;
 pub mod platform_lines;
-mod printed;
+pub mod printed;
 mod split;
 pub mod texts;

@@ -5,6 +5,7 @@ ghost use Rattle.std.specs.Cmp.Lexicographic.{slice_cmp};
 ghost use Rattle.api_lines.specs.Lines.{context_text, in_context, printed};
 
 use crate::order::known_order;
+use crate::printed::Printable;
 use go_base::memory::NoMemory;
 use go_base::text::Text;
 use go_model::files::platform::Platform;
@@ -86,5 +87,13 @@ impl Line {
             context: Some(platform),
             rest,
         }
+    }
+}
+
+impl Printable for Line {
+    ghost text = { printed };
+
+    fn text(&self, alloc: Global) -> Result<Text, NoMemory> {
+        self.printed(alloc)
     }
 }

@@ -1,72 +1,68 @@
-//! Lines that are put in the order of their texts, which are printed.
-ghost use Rattle.std.specs.Prelude.{◌≡◌, map, IfOk, OnOk, Some, refl, bytes_eq};
+//! Values that are put in the order of their texts, which are printed.
+ghost use Rattle.std.specs.Prelude.{◌≡◌, ℕ, List as Items, map, IfOk, Some, refl, bytes_eq};
 ghost use Rattle.std.specs.Ordering.{nat_cmp, on};
 ghost use Rattle.std.specs.Cmp.{partial_equiv_from_equiv, on_equiv, on_po, on_total};
 ghost use Rattle.std.specs.Cmp.Lexicographic.{slice_cmp, nat_list_eq_equiv, nat_list_cmp_total, texts_po, texts_ties};
-ghost use Rattle.go_base.specs.Lists.{Has};
-ghost use Rattle.api_lines.specs.Lines.{printed, IsListing};
+ghost use Rattle.api_lines.specs.OrderedTexts.{IsArranged};
 
-use crate::line::Line;
 use go_base::list::List;
 use go_base::memory::NoMemory;
 use go_base::text::Text;
 use std::alloc::Global;
 use std::cmp::Ordering;
 
-// A line with its text, by which it is ordered.
-struct Printed {
+/// What has a text.
+pub trait Printable {
+    /// The text.
+    ghost text: { Self → Items ℕ };
+
+    /// The text.
+    fn text(&self, alloc: Global) -> Result<Text, NoMemory>
+        ensures { IfOk result (λ printed. printed ≡ text self.now) };
+}
+
+// A value with its text, by which it is ordered.
+#[derive(Drop)]
+struct Printed<T: Printable> {
     text: Text,
-    line: Line,
-    ghost shown: { text ≡ printed line },
+    value: T,
+    ghost shown: { text ≡ T.text value },
 }
 
-impl Drop for Printed {
-    fn drop(self) {
-        let Printed { text: _, line: _ } = self;
-    }
-}
-
-impl Printed {
-    fn new(alloc: Global, line: Line) -> Result<Printed, NoMemory>
-        ensures { IfOk result (λ p. p.line ≡ line) }
+impl<T: Printable> Printed<T> {
+    fn into_value(self) -> T
+        ensures { result ≡ self.value }
     {
-        let text = line.printed(alloc)?;
-        Ok(Printed { text, line })
-    }
-
-    fn into_line(self) -> Line
-        ensures { result ≡ self.line }
-    {
-        let Printed { text: _, line } = self;
-        line
+        let Printed { text: _, value } = self;
+        value
     }
 }
 
-impl PartialEq for Printed {
+impl<T: Printable> PartialEq for Printed<T> {
     ghost eq = { on (λ p. p.text) bytes_eq };
 
     ghost laws = { partial_equiv_from_equiv (on_equiv (λ p. p.text) nat_list_eq_equiv) };
 
-    fn eq(&self, other: &Printed) -> bool {
+    fn eq(&self, other: &Printed<T>) -> bool {
         self.text == other.text
     }
 }
 
-impl Eq for Printed {
+impl<T: Printable> Eq for Printed<T> {
     ghost laws = { on_equiv (λ p. p.text) nat_list_eq_equiv };
 }
 
-impl PartialOrd for Printed {
+impl<T: Printable> PartialOrd for Printed<T> {
     ghost partial_cmp = { λ a b. Some (slice_cmp nat_cmp a.text b.text) };
 
     ghost laws = { on_po (λ p. p.text) texts_po };
 
-    fn partial_cmp(&self, other: &Printed) -> Option<Ordering> {
+    fn partial_cmp(&self, other: &Printed<T>) -> Option<Ordering> {
         Some(self.cmp(other))
     }
 }
 
-impl Ord for Printed {
+impl<T: Printable> Ord for Printed<T> {
     ghost cmp = { λ a b. slice_cmp nat_cmp a.text b.text };
 
     ghost total = { on_total (λ p. p.text) nat_list_cmp_total };
@@ -75,43 +71,59 @@ impl Ord for Printed {
 
     ghost matches_eq = { λ a b. texts_ties a.text b.text };
 
-    fn cmp(&self, other: &Printed) -> Ordering {
+    fn cmp(&self, other: &Printed<T>) -> Ordering {
         self.text.cmp(&other.text)
     }
 }
 
-// The lines with their texts.
-fn with_texts(alloc: Global, lines: Vec<Line>) -> Result<Vec<Printed>, NoMemory>
-    ensures { IfOk result (λ all. map (λ p. p.line) all.items ≡ lines.items) }
+fn with_text<T: Printable + Drop>(alloc: Global, value: T) -> Result<Printed<T>, NoMemory>
+    ensures { IfOk result (λ p. p.value ≡ value) }
 {
-    let mut all = Vec::with_capacity(alloc, lines.len())?;
-    for line in lines {
-        all.push(Printed::new(alloc, line)?)?;
+    let text = value.text(alloc)?;
+    Ok(Printed { text, value })
+}
+
+// The values with their texts.
+fn with_texts<T: Printable + Drop>(
+    alloc: Global,
+    values: Vec<T>,
+) -> Result<Vec<Printed<T>>, NoMemory>
+    ensures { IfOk result (λ all. map (λ p. p.value) all.items ≡ values.items) }
+{
+    let mut all = Vec::with_capacity(alloc, values.len())?;
+    for value in values {
+        all.push(with_text(alloc, value)?)?;
     }
     Ok(all)
 }
 
-// The lines without their texts, in the same order.
-fn without_texts(alloc: Global, all: Vec<Printed>) -> Result<Vec<Line>, NoMemory>
-    ensures { IfOk result (λ lines. lines.items ≡ map (λ p. p.line) all.items) }
+// The values without their texts, in the same order.
+fn without_texts<T: Printable + Drop>(
+    alloc: Global,
+    all: Vec<Printed<T>>,
+) -> Result<Vec<T>, NoMemory>
+    ensures { IfOk result (λ values. values.items ≡ map (λ p. p.value) all.items) }
 {
-    let lines = all.into_iter().map(|p| p.into_line()).collect(alloc)?;
-    Ok(lines)
+    let values = all.into_iter().map(|p| p.into_value()).collect(alloc)?;
+    Ok(values)
 }
 
-fn in_order(alloc: Global, mut all: Vec<Printed>) -> Result<List<Line>, NoMemory>
-    ensures { IfOk result (IsListing (Has (map (λ p. p.line) all.items))) }
+fn in_order<T: Printable + Drop>(
+    alloc: Global,
+    mut all: Vec<Printed<T>>,
+) -> Result<List<T>, NoMemory>
+    ensures { IfOk result (IsArranged T.text (map (λ p. p.value) all.items)) }
 {
     all.sort()?;
     all.dedup();
-    let lines = without_texts(alloc, all)?;
-    Ok(List::from_vec(lines))
+    let values = without_texts(alloc, all)?;
+    Ok(List::from_vec(values))
 }
 
-/// The lines, each text once, in the order of the texts. It takes few comparisons where they came in order.
-pub(crate) fn by_texts(alloc: Global, lines: Vec<Line>) -> Result<List<Line>, NoMemory>
-    ensures { IfOk result (IsListing (Has lines.items)) }
+/// The values, each text once, in the order of the texts. It takes few comparisons where they came in order.
+pub fn by_texts<T: Printable + Drop>(alloc: Global, values: Vec<T>) -> Result<List<T>, NoMemory>
+    ensures { IfOk result (IsArranged T.text values.items) }
 {
-    let all = with_texts(alloc, lines)?;
+    let all = with_texts(alloc, values)?;
     in_order(alloc, all)
 }

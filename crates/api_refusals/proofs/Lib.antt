@@ -1,2 +1,3 @@
 pub mod FileBytes
 pub mod LinesAndColumns
+pub mod SkippedNames

@@ -4,3 +4,4 @@
 mod places;
 pub mod refusals;
 pub mod root;
+pub mod skipped;

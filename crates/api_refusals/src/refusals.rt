@@ -222,7 +222,7 @@ fn file_at(files: &[UnitFile], number: usize) -> Option<&UnitFile>
     files.get(number)
 }
 
-fn unit_place(
+pub(crate) fn unit_place(
     alloc: Global,
     tree: &Tree,
     std_tree: &Tree,

@@ -87,7 +87,7 @@ fn refused_package(
     }
 }
 
-fn world_of<G: Gate, L: Copy + Send>(
+fn world_of<G: Gate, L: Copy>(
     alloc: Global,
     side: Side,
     trees: &PlatformTrees<'_>,
@@ -110,7 +110,7 @@ fn world_of<G: Gate, L: Copy + Send>(
 
 /// The world of a module's tree over the standard library's on a platform, or the fault line of its first refusal: of its packages, and
 /// then of the first package in canonical order that isn't typed. The counter rises by at most the number of the packages.
-pub fn world_on<G: Gate, L: Copy + Send>(
+pub fn world_on<G: Gate, L: Copy>(
     alloc: Global,
     side: Side,
     trees: &PlatformTrees<'_>,

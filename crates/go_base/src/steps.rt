@@ -21,7 +21,7 @@ impl<L> Model for Steps<L> {
     ghost view = { λ s. s.count };
 }
 
-impl<L: Copy + Send> Steps<L> {
+impl<L: Copy> Steps<L> {
     /// A counter at 0 that belongs to `owner`.
     pub fn new(owner: L) -> Steps<L>
         ensures { result ≡ 0 }

@@ -91,7 +91,7 @@ fn check(
 /// The package as which a unit is typed over its imports, where `int`, `uint` and `uintptr` have so many bits, or the first thing for
 /// which it is refused: the place of a name that it declared before, else of a used import that isn't found, else of the first
 /// declaration without a typing. The imports don't have its path. The counter rises by one.
-pub fn check_package<L: Copy + Send>(
+pub fn check_package<L: Copy>(
     alloc: Global,
     unit: &Unit,
     imports: &World,

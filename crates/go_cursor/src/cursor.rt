@@ -2,6 +2,7 @@
 ghost use Rattle.std.specs.Prelude.{◌≡◌, ◌∷◌, [], IfOk, drop, length};
 ghost use Rattle.go_syntax.specs.grammar.Terminals.{terminal, terminals};
 ghost use Rattle.go_syntax.specs.grammar.Symbols as symbols;
+ghost use Rattle.go_syntax.specs.grammar.Statements.{start_of};
 ghost use Rattle.go_cursor.specs.Reading as reading;
 ghost use Rattle.go_cursor.specs.Reads.{Reads};
 ghost use Rattle.go_cursor.specs.Skipping as skipping;
@@ -148,7 +149,7 @@ fn name_of(alloc: Global, token: &Token) -> Result<Option<Name>, NoMemory>
 }
 
 /// The byte offset at which a token starts that is a keyword or an operator, or 0.
-fn start_of(token: &Token) -> u32
+fn sign_start(token: &Token) -> u32
     ensures { result ≡ skipping.start_at (terminal token.now ∷ []) }
 {
     match (token.kind, &token.value) {
@@ -161,6 +162,23 @@ fn start_of(token: &Token) -> u32
             | TokenKind::StrLit,
             _,
         ) => 0,
+        (_, TokenValue::Nothing) => token.start,
+        _ => 0,
+    }
+}
+
+/// The byte offset at which a token starts, or 0 where its kind and value don't fit together.
+fn place_of(token: &Token) -> u32
+    ensures { result ≡ start_of (terminal token.now ∷ []) }
+{
+    match (token.kind, &token.value) {
+        (TokenKind::Ident, TokenValue::Ident(_))
+        | (TokenKind::IntLit, TokenValue::Wide)
+        | (TokenKind::FloatLit | TokenKind::ImagLit, TokenValue::Nothing)
+        | (TokenKind::RuneLit, TokenValue::Rune(_))
+        | (TokenKind::StrLit, TokenValue::Str(_)) => token.start,
+        (TokenKind::IntLit, TokenValue::Number(value)) if *value >= 0 => token.start,
+        (TokenKind::Ident | TokenKind::IntLit | TokenKind::RuneLit | TokenKind::StrLit, _) => 0,
         (_, TokenValue::Nothing) => token.start,
         _ => 0,
     }
@@ -403,13 +421,23 @@ impl<'a> Cursor<'a> {
         }
     }
 
+    /// The byte offset at which the next token starts, or 0 where none is left, or its kind and value don't fit together.
+    pub fn place(&self) -> u32
+        ensures { result ≡ start_of (terminals self.now) }
+    {
+        match self.rest.first() {
+            None => 0,
+            Some(token) => place_of(token),
+        }
+    }
+
     /// The byte offset at which the keyword or the operator that is next starts, or 0.
     pub fn start(&self) -> u32
         ensures { result ≡ skipping.start_at (terminals self.now) }
     {
         match self.rest.first() {
             None => 0,
-            Some(token) => start_of(token),
+            Some(token) => sign_start(token),
         }
     }
 

@@ -2,6 +2,7 @@ pub mod AliasWalks
 pub mod AliasSteps
 pub mod Declared
 pub mod EntryOrder
+pub mod FilledTables
 pub mod Heads
 pub mod NamesInOrder
 pub mod Stands

@@ -3,6 +3,7 @@
 
 pub mod aliases;
 pub mod bases;
+mod filling;
 mod headed;
 pub mod methods;
 pub mod names;

@@ -3,23 +3,17 @@ ghost use Rattle.std.specs.Prelude.{◌≡◌, [], IfOk, OnOk};
 ghost use Rattle.go_declarations.specs.Listings.{declarations_of};
 ghost use Rattle.go_rules.specs.Names.{items_at, with_value};
 ghost use Rattle.go_declared.specs.MethodTables.{AreMethods, method_name, name_by};
-ghost use Rattle.go_declared.specs.AliasEnds.{AreEnds};
 ghost use Rattle.go_declared.specs.NameTables.{AreDeclared};
 ghost use Rattle.go_declarations.specs.Forms.{form_of};
-ghost use Rattle.go_typings.specs.Receivers.{base, is_pointer_form, receiver_form};
-ghost use Rattle.go_declared.specs.inner.AddingMethods.{with_form, with_method, with_row};
+ghost use Rattle.go_declared.specs.inner.AddingMethods.{with_row};
 
-use crate::aliases::alias_ends;
-use crate::bases::base;
+use crate::filling::{MethodTable, fill};
 use crate::names::DeclaredNames;
-use crate::receivers::is_pointer;
 use go_base::list::List;
 use go_base::memory::NoMemory;
 use go_base::text::Text;
 use go_declarations::form::Form;
 use go_declarations::listing::Declaration;
-use go_syntax::name::QualifiedName;
-use go_syntax::types::ParameterDecl;
 use std::alloc::Global;
 use std::collections::BTreeMap;
 use std::marker::Model;
@@ -102,7 +96,7 @@ impl DeclaredMethods {
         Ok(())
     }
 
-    pub(crate) fn push(
+    pub(crate) fn push_row(
         &mut self,
         alloc: Global,
         name: &Text,
@@ -118,53 +112,6 @@ impl DeclaredMethods {
         self.put(alloc, name, rows)
     }
 
-    // Adds a method, where its receiver has a base type.
-    fn add_method(
-        &mut self,
-        alloc: Global,
-        declarations: &[Declaration<'_>],
-        names: &DeclaredNames,
-        ends: &[Option<&QualifiedName>],
-        number: usize,
-        receiver: &ParameterDecl,
-    ) -> Result<(), NoMemory>
-        requires names { AreDeclared (declarations_of declarations.now) names.now }
-        requires ends { AreEnds (declarations_of declarations.now) ends.now }
-        ensures { OnOk result (self.new ≡ with_method (base (declarations_of declarations.now) receiver.now) self.old number (is_pointer_form (receiver_form receiver.now))) }
-    {
-        match base(declarations, names, ends, receiver) {
-            None => Ok(()),
-            Some(type_name) => {
-                let row = MethodRow {
-                    number,
-                    pointer: is_pointer(receiver),
-                };
-                self.push(alloc, type_name, row)
-            }
-        }
-    }
-
-    fn add(
-        &mut self,
-        alloc: Global,
-        declarations: &[Declaration<'_>],
-        names: &DeclaredNames,
-        ends: &[Option<&QualifiedName>],
-        number: usize,
-        form: Form<'_>,
-    ) -> Result<(), NoMemory>
-        requires names { AreDeclared (declarations_of declarations.now) names.now }
-        requires ends { AreEnds (declarations_of declarations.now) ends.now }
-        ensures { OnOk result (self.new ≡ with_form (declarations_of declarations.now) self.old number (form_of form.entry)) }
-    {
-        match form {
-            Form::Method(receiver, _) => {
-                self.add_method(alloc, declarations, names, ends, number, receiver)
-            }
-            _ => Ok(()),
-        }
-    }
-
     /// The methods that these declarations declare, where `names` tells where they declare names.
     pub fn of(
         alloc: Global,
@@ -174,18 +121,22 @@ impl DeclaredMethods {
         requires { AreDeclared (declarations_of declarations.now) names.now }
         ensures { IfOk result (AreMethods (declarations_of declarations.now)) }
     {
-        let ends = alias_ends(alloc, declarations, names)?;
         let mut methods = DeclaredMethods::new(alloc);
-        for number in 0..declarations.len() {
-            methods.add(
-                alloc,
-                declarations,
-                names,
-                &ends,
-                number,
-                declarations[number].form,
-            )?;
-        }
+        fill(&mut methods, alloc, declarations, names)?;
         Ok(methods)
+    }
+}
+
+impl MethodTable for DeclaredMethods {
+    ghost with_method = { λ t type name row. with_row t type row };
+
+    fn push(
+        &mut self,
+        alloc: Global,
+        type_name: &Text,
+        _name: &Text,
+        row: MethodRow,
+    ) -> Result<(), NoMemory> {
+        self.push_row(alloc, type_name, row)
     }
 }

@@ -1,25 +1,17 @@
 //! The methods of defined types by their names.
 ghost use Rattle.std.specs.Prelude.{◌≡◌, [], IfOk, OnOk};
-ghost use Rattle.go_declarations.specs.Forms.{form_of};
 ghost use Rattle.go_declarations.specs.Listings.{declarations_of};
 ghost use Rattle.go_rules.specs.Names.{with_value};
-ghost use Rattle.go_typings.specs.Receivers.{base, is_pointer_form, receiver_form};
-ghost use Rattle.go_declared.specs.AliasEnds.{AreEnds};
 ghost use Rattle.go_declared.specs.NameTables.{AreDeclared};
 ghost use Rattle.go_declared.specs.NamesakeTables.{AreNamesakes, rows_at};
-ghost use Rattle.go_declared.specs.inner.AddingNamesakes.{with_form, with_method, with_row};
+ghost use Rattle.go_declared.specs.inner.AddingMethods.{with_namesake};
 
-use crate::aliases::alias_ends;
-use crate::bases::base;
+use crate::filling::{MethodTable, fill};
 use crate::methods::{DeclaredMethods, MethodRow};
 use crate::names::DeclaredNames;
-use crate::receivers::is_pointer;
 use go_base::memory::NoMemory;
 use go_base::text::Text;
-use go_declarations::form::Form;
 use go_declarations::listing::Declaration;
-use go_syntax::name::QualifiedName;
-use go_syntax::types::ParameterDecl;
 use std::alloc::Global;
 use std::collections::BTreeMap;
 use std::marker::Model;
@@ -83,77 +75,6 @@ impl Namesakes {
         Ok(())
     }
 
-    fn push(
-        &mut self,
-        alloc: Global,
-        type_name: &Text,
-        name: &Text,
-        row: MethodRow,
-    ) -> Result<(), NoMemory>
-        ensures { OnOk result (self.new ≡ with_row self.old type_name.now name.now row) }
-    {
-        if let Some(rows) = self.entries.get_mut(type_name) {
-            return rows.push(alloc, name, row);
-        }
-        let mut rows = DeclaredMethods::new(alloc);
-        rows.push(alloc, name, row)?;
-        self.put(alloc, type_name, rows)
-    }
-
-    // Adds a method, where its receiver has a base type.
-    fn add_method(
-        &mut self,
-        alloc: Global,
-        declarations: &[Declaration<'_>],
-        names: &DeclaredNames,
-        ends: &[Option<&QualifiedName>],
-        number: usize,
-        receiver: &ParameterDecl,
-        name: &Text,
-    ) -> Result<(), NoMemory>
-        requires names { AreDeclared (declarations_of declarations.now) names.now }
-        requires ends { AreEnds (declarations_of declarations.now) ends.now }
-        ensures { OnOk result (self.new ≡ with_method (base (declarations_of declarations.now) receiver.now) self.old number name.now (is_pointer_form (receiver_form receiver.now))) }
-    {
-        match base(declarations, names, ends, receiver) {
-            None => Ok(()),
-            Some(type_name) => {
-                let row = MethodRow {
-                    number,
-                    pointer: is_pointer(receiver),
-                };
-                self.push(alloc, type_name, name, row)
-            }
-        }
-    }
-
-    fn add(
-        &mut self,
-        alloc: Global,
-        declarations: &[Declaration<'_>],
-        names: &DeclaredNames,
-        ends: &[Option<&QualifiedName>],
-        number: usize,
-        form: Form<'_>,
-    ) -> Result<(), NoMemory>
-        requires names { AreDeclared (declarations_of declarations.now) names.now }
-        requires ends { AreEnds (declarations_of declarations.now) ends.now }
-        ensures { OnOk result (self.new ≡ with_form (declarations_of declarations.now) self.old number (form_of form.entry)) }
-    {
-        match form {
-            Form::Method(receiver, func) => self.add_method(
-                alloc,
-                declarations,
-                names,
-                ends,
-                number,
-                receiver,
-                &func.name.text,
-            ),
-            _ => Ok(()),
-        }
-    }
-
     /// The methods that these declarations declare, where `names` tells where they declare names.
     pub fn of(
         alloc: Global,
@@ -163,18 +84,27 @@ impl Namesakes {
         requires { AreDeclared (declarations_of declarations.now) names.now }
         ensures { IfOk result (AreNamesakes (declarations_of declarations.now)) }
     {
-        let ends = alias_ends(alloc, declarations, names)?;
         let mut namesakes = Namesakes::new(alloc);
-        for number in 0..declarations.len() {
-            namesakes.add(
-                alloc,
-                declarations,
-                names,
-                &ends,
-                number,
-                declarations[number].form,
-            )?;
-        }
+        fill(&mut namesakes, alloc, declarations, names)?;
         Ok(namesakes)
+    }
+}
+
+impl MethodTable for Namesakes {
+    ghost with_method = { with_namesake };
+
+    fn push(
+        &mut self,
+        alloc: Global,
+        type_name: &Text,
+        name: &Text,
+        row: MethodRow,
+    ) -> Result<(), NoMemory> {
+        if let Some(rows) = self.entries.get_mut(type_name) {
+            return rows.push_row(alloc, name, row);
+        }
+        let mut rows = DeclaredMethods::new(alloc);
+        rows.push_row(alloc, name, row)?;
+        self.put(alloc, type_name, rows)
     }
 }

@@ -8,3 +8,4 @@ pub mod DefinedTypes
 pub mod Signatures
 pub mod GivenEntries
 pub mod PutEntries
+pub mod RemovedEntries

@@ -7,14 +7,14 @@ use Rattle.go_entries.specs.declared.entry.Entry.{Entry as Had}
 use Rattle.go_entries.specs.HadEntries.{entries_at, given}
 use Rattle.go_package_scopes.specs.KeptScopes.{with_entry}
 
-either : (b : Bool) → (b ≡ true) ⊎ (b ≡ false)
+pub either : (b : Bool) → (b ≡ true) ⊎ (b ≡ false)
 either true = inl refl
 either false = inr refl
 
-same : (m n : ℕ) → nat_eq m n ≡ true → m ≡ n
+pub same : (m n : ℕ) → nat_eq m n ≡ true → m ≡ n
 same m n e = grind (arith, nat_tests, e)
 
-other : (m n : ℕ) → nat_eq m n ≡ false → m ≢ n
+pub other : (m n : ℕ) → nat_eq m n ≡ false → m ≢ n
 other m n e = λ s. absurd (grind (arith, nat_tests, e, s))
 
 module _ (xs : List (Option Had)) (n : ℕ) (x : Had) (within : n < length xs) where

@@ -1,5 +1,5 @@
 //! Entries by the numbers of their declarations.
-ghost use Rattle.std.specs.Prelude.{◌≡◌, ◌<◌, None, length, replicate, IfOk};
+ghost use Rattle.std.specs.Prelude.{◌≡◌, ◌<◌, ℕ, None, length, replicate, IfOk, if◌then◌else◌, nat_eq};
 ghost use Rattle.go_entries.specs.Entries.{entry_of};
 ghost use Rattle.go_entries.specs.HadEntries.{entries_at, found_entry};
 ghost use Rattle.go_package_scopes.specs.KeptScopes.{with_entry};
@@ -70,5 +70,14 @@ impl HadEntries {
         ensures put { entries_at self.new ≡ with_entry (entries_at self.old) number (entry_of entry) }
     {
         self.entries[number] = Some(entry);
+    }
+
+    /// Takes the entry of the declaration of a number away.
+    pub fn remove(&mut self, number: usize)
+        requires { number < length self.old }
+        ensures count { length self.new ≡ length self.old }
+        ensures removed { (n : ℕ) → entries_at self.new n ≡ (if nat_eq n number then None else entries_at self.old n) }
+    {
+        self.entries[number] = None;
     }
 }

@@ -28,6 +28,7 @@ use Rattle.go_soundness.proofs.SetGrowth.{cut_grows}
 use Rattle.go_soundness.proofs.SetRegion.{closed_region, is_kept, region}
 use Rattle.go_soundness.proofs.Unsound.{all_within, lost_unsound}
 use Rattle.go_exposed.specs.BeyondProfile.{HasInexactType, HasInexactValue, HoldsTyped, IsBeyond, beyond_number, beyond_type, beyond_value, beyond_import, beyond_another}
+use Rattle.go_exposed.specs.Causes.{IsInexactConstant, IsToldInexact}
 use Rattle.go_exposed.specs.KeptDeclarations.{entries_of, not_lost}
 use Rattle.go_exposed.specs.ToldBeyond.{DependsOnKept, IsToldBeyond, told_number, told_import, told_type, told_value, told_another}
 use Rattle.go_exposed.proofs.InexactMoves.{type_grows, type_in, value_grows, value_in}
@@ -87,6 +88,12 @@ module _ (s : Setting) (u : PackageSource) (a : Entries) (lost : ℕ → Bool) (
     value_holds : At (declarations u) n (λ d. HasInexactValue (environment s u a d) d.form) → HoldsTyped s u HasInexactValue n
     value_holds k = let d = k.0 in holds HasInexactValue (d, k.1, value_grows (cut R (environment s u a d)) (environment s u (entries_of S a) d) (grows d) d.form (value_in (environment s u a d) R (region_closed d) d.form (refers d k.1) k.2))
 
+  pub told_inexact : (n : ℕ) → IsToldInexact s u a lost n → IsInexactConstant s u n
+  told_inexact n k = elim k.holds.2 [
+    | inl t ↦ inl (type_holds n k.kept (k.holds.0, k.holds.1, t))
+    | inr v ↦ inr (value_holds n k.kept (k.holds.0, k.holds.1, v))
+  ]
+
   pub told_beyond : {n : ℕ} → IsToldBeyond s u a lost n → IsBeyond s u n
   told_beyond (told_number k) = beyond_number k
   told_beyond (told_import k) = beyond_import k
@@ -109,9 +116,19 @@ module _ (s : Setting) (u : PackageSource) (a : Entries) (lost : ℕ → Bool) (
     grown : (d : Declaration) → Grows (environment s u k.entries d) (environment s u a d)
     grown d = environment_more k.entries a (all_within s u a A k.within k.entries k.typing.had) s u d
 
+  type_there : (n : ℕ) (k : HoldsTyped s u HasInexactType n) → At (declarations u) n (λ d. HasInexactType (environment s u a d) d.form)
+  type_there n k = let h = k.holds in (h.0, h.1, type_grows (environment s u k.entries h.0) (environment s u a h.0) (grown HasInexactType n k h.0) h.0.form h.2)
+
+  value_there : (n : ℕ) (k : HoldsTyped s u HasInexactValue n) → At (declarations u) n (λ d. HasInexactValue (environment s u a d) d.form)
+  value_there n k = let h = k.holds in (h.0, h.1, value_grows (environment s u k.entries h.0) (environment s u a h.0) (grown HasInexactValue n k h.0) h.0.form h.2)
+
+  pub inexact_told : (n : ℕ) → IsInexactConstant s u n → IsToldInexact s u a lost n
+  inexact_told n (inl k) = record { kept = needed_kept HasInexactType n k; holds = (let h = type_there n k in (h.0, h.1, inl h.2)) }
+  inexact_told n (inr k) = record { kept = needed_kept HasInexactValue n k; holds = (let h = value_there n k in (h.0, h.1, inr h.2)) }
+
   pub beyond_told : {n : ℕ} → IsBeyond s u n → IsToldBeyond s u a lost n
   beyond_told (beyond_number k) = told_number k
   beyond_told (beyond_import k) = told_import k
-  beyond_told (beyond_type {n = n} k) = told_type (needed_kept HasInexactType n k) (let h = k.holds in (h.0, h.1, type_grows (environment s u k.entries h.0) (environment s u a h.0) (grown HasInexactType n k h.0) h.0.form h.2))
-  beyond_told (beyond_value {n = n} k) = told_value (needed_kept HasInexactValue n k) (let h = k.holds in (h.0, h.1, value_grows (environment s u k.entries h.0) (environment s u a h.0) (grown HasInexactValue n k h.0) h.0.form h.2))
+  beyond_told (beyond_type {n = n} k) = told_type (needed_kept HasInexactType n k) (type_there n k)
+  beyond_told (beyond_value {n = n} k) = told_value (needed_kept HasInexactValue n k) (value_there n k)
   beyond_told (beyond_another n k b) = told_another n k (beyond_told b)

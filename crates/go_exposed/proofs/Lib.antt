@@ -7,9 +7,11 @@ pub mod SoundTogether
 pub mod KeptFromSieve
 pub mod OneWorld
 pub mod WorldOrRefusal
+pub mod MaybeConstants
 pub mod InexactMoves
 pub mod SameImports
 pub mod BeyondSieve
 pub mod KeptNames
 pub mod KeptTypes
 pub mod KeptObjects
+pub mod OneSkipped

@@ -15,7 +15,7 @@ use Rattle.go_exposed.specs.OfferedPackages.{IsOfferedAs}
 use Rattle.go_exposed.specs.Refusals.{IsFirstMissing, missing_here, missing_later, IsFirstWrong, IsRefused, IsWrong}
 use Rattle.go_exposed.proofs.OneKeptSet.{kept_sound}
 
-order : (m n : ℕ) → (m < n) ⊎ ((m ≡ n) ⊎ (n < m))
+pub order : (m n : ℕ) → (m < n) ⊎ ((m ≡ n) ⊎ (n < m))
 order m n = grind (arith)
 
 one_redeclared : (s : Setting) (u : PackageSource) (p q : Place) → IsRedeclared u p → IsRedeclared u q → ◌≡◌ {A = Refusal} (redeclared p) (redeclared q)

@@ -1,15 +1,19 @@
--- Under settings that are the same in all that a package reaches the same is left out of it, where each of its imports is found.
-use Rattle.std.proofs.Common.{ℕ, Bool, refl, ◌⊎◌, inl, inr}
+-- Under settings that are the same in all that a package reaches the same is left out of it.
+use Rattle.std.proofs.Common.{◌≡◌, ℕ, Bool, [], None, refl, sym, ap, ◌∙◌, ◌⊎◌, inl, inr}
+use Rattle.go_base.specs.Keys.{first_with}
 use Rattle.go_model.specs.declared.types.package.Package.{Package}
+use Rattle.go_model.specs.worlds.Worlds.{path_of}
 use Rattle.go_rules.specs.Environments.{Env}
 use Rattle.go_rules.specs.Growth.{Grows}
 use Rattle.go_rules.specs.Regions.{IsClosed, Region, cut}
 use Rattle.go_typings.specs.Declarations.{Form, Declaration}
 use Rattle.go_typings.specs.PackageEnvironments.{Entries, environment}
-use Rattle.go_typings.specs.ReachedPackages.{ReachesSame}
+use Rattle.go_typings.specs.ReachedPackages.{HoldImports, ReachesSame}
 use Rattle.go_typings.specs.Refusals.{Refusal, redeclared, missing_import, unsound}
-use Rattle.go_typings.specs.Sources.{AreFound, PackageSource, Setting}
+use Rattle.go_typings.specs.Sources.{PackageSource, Setting}
 use Rattle.go_typings.specs.Typings.{IsSound, Typing}
+use Rattle.go_typings.proofs.Cells.{either}
+use Rattle.go_typings.proofs.HeldImports.{are_more, is_empty, with_empty}
 use Rattle.go_typings.proofs.LocalRules.{all_refer}
 use Rattle.go_typings.proofs.ReachedRegion.{closed_region, region}
 use Rattle.go_typings.proofs.SameImports.{cut_grows, entries_in}
@@ -22,7 +26,20 @@ use Rattle.go_exposed.specs.KeptDeclarations.{IsLeftOut, LeavesOut}
 use Rattle.go_exposed.specs.OfferedPackages.{IsOfferedAs}
 use Rattle.go_exposed.specs.Refusals.{IsFirstWrong, IsRefused}
 
-module _ (u : PackageSource) (s t : Setting) (m : ReachesSame u s t) (all : AreFound u) where
+-- where no package has the empty path, they are the same in that too
+abbrev pub with_nothing : (u : PackageSource) (s t : Setting) → first_with path_of s.world.packages [] ≡ None → first_with path_of t.world.packages [] ≡ None → ReachesSame u s t → ReachesSame u s t
+with_nothing u s t none nil m = record {
+  reached = with_empty m.reached;
+  are = are_more s.world u m.reached none m.are;
+  same = λ path i. elim (either (m.reached path)) [
+    | inl k ↦ m.same path k
+    | inr k ↦ ap (first_with path_of s.world.packages) (is_empty m.reached path k i) ∙ none ∙ sym nil ∙ ap (first_with path_of t.world.packages) (sym (is_empty m.reached path k i))
+  ];
+  bits = m.bits;
+  profile = m.profile;
+}
+
+module _ (u : PackageSource) (s t : Setting) (m : ReachesSame u s t) (all : HoldImports u m.reached) where
   abbrev R : Region
   R = region u m.reached
 
@@ -65,7 +82,7 @@ module _ (u : PackageSource) (s t : Setting) (m : ReachesSame u s t) (all : AreF
   beyond_same (beyond_import k) = beyond_import k
   beyond_same (beyond_another n k b) = beyond_another n k (beyond_same b)
 
-module _ (u : PackageSource) (s t : Setting) (m : ReachesSame u s t) (all : AreFound u) where
+module _ (u : PackageSource) (s t : Setting) (m : ReachesSame u s t) (all : HoldImports u m.reached) where
   abbrev back : ReachesSame u t s
   back = turned u s t m
 

@@ -85,7 +85,7 @@ module _ (s : Setting) (u : PackageSource) where
       defined = h.defined;
     }
 
-    all_package : (p : Package) → IsPackageOf u a p → IsPackageOfAll u a p
+    pub all_package : (p : Package) → IsPackageOf u a p → IsPackageOfAll u a p
     all_package p h = record {
       path = h.path;
       name = h.name;

@@ -2,7 +2,11 @@ pub mod ImportUses
 pub mod ExposedDeclarations
 pub mod BeyondProfile
 pub mod ToldBeyond
+pub mod Causes
 pub mod KeptDeclarations
 pub mod Refusals
 pub mod OfferedPackages
 pub mod OfferedWorlds
+pub mod SkippedDeclarations
+pub mod SkippedWorlds
+pub mod SkippedValues

@@ -6,7 +6,7 @@ ghost use Rattle.go_model.specs.declared.types.names.TypeName.{TypeName};
 ghost use Rattle.go_model.specs.declared.types.package.Defined.{Defined};
 ghost use Rattle.go_model.specs.declared.types.package.Package.{Package};
 ghost use Rattle.go_model.specs.worlds.PackageTypes.{package_names};
-ghost use Rattle.go_model.specs.worlds.Worlds.{Packages, name_of, object_name, type_object};
+ghost use Rattle.go_model.specs.worlds.Worlds.{Packages, name_of, object_name, path_of, type_object};
 ghost use Rattle.go_rules.specs.Scopes.{entity_of};
 ghost use Rattle.go_syntax.specs.declared.name.Place.{Place};
 ghost use Rattle.go_typings.specs.Assignments.{At, all_of};
@@ -18,17 +18,20 @@ ghost use Rattle.go_typings.specs.ReachedPackages.{ReachesSame};
 ghost use Rattle.go_typings.specs.Redeclarations.{IsRedeclared};
 ghost use Rattle.go_typings.specs.Refusals as whole;
 ghost use Rattle.go_typings.specs.Refusals.{Refusal, missing_import, place_of, redeclared, unsound};
-ghost use Rattle.go_typings.specs.Sources.{AreFound, Import, PackageSource, Setting};
+ghost use Rattle.go_typings.specs.Sources.{Import, PackageSource, Setting};
 ghost use Rattle.go_typings.specs.TypedPackages.{IsTypedAs};
 ghost use Rattle.go_typings.specs.Typings.{IsClosed, IsFirstUnsound, IsSound, IsTyping, Typing};
 ghost use Rattle.go_soundness.specs.Apart.{IsApart};
 ghost use Rattle.go_soundness.specs.Settled.{AreAll, AreSifted};
 ghost use Rattle.go_exposed.specs.BeyondProfile.{IsBeyond};
+ghost use Rattle.go_exposed.specs.Causes.{Cause, HasCause, HasToldCause};
 ghost use Rattle.go_exposed.specs.ExposedDeclarations.{IsExposed};
 ghost use Rattle.go_exposed.specs.ImportUses.{SelectsFrom};
 ghost use Rattle.go_exposed.specs.KeptDeclarations.{LeavesOut, entries_of, not_lost};
 ghost use Rattle.go_exposed.specs.OfferedPackages.{IsOfferedAs, IsPackageOf};
 ghost use Rattle.go_exposed.specs.OfferedWorlds.{Become, IsFirstRefused, IsWorldOf};
+ghost use Rattle.go_exposed.specs.SkippedDeclarations.{IsSkippedOf, Skipped};
+ghost use Rattle.go_exposed.specs.SkippedWorlds.{AreSkipped};
 ghost use Rattle.go_exposed.specs.ToldBeyond.{IsToldBeyond};
 ghost use Rattle.go_exposed.specs.Refusals.{IsMissing, IsRefused, IsSeenIn, import_place};
 
@@ -107,6 +110,20 @@ pub fn beyond_of_sieve()
     ensures told { (s : Setting) (u : PackageSource) (a : Entries) (lost : ℕ → Bool) (n : ℕ) → IsApart s u → AreAll s u a → AreSifted s u a lost → IsBeyond s u n → IsToldBeyond s u a lost n }
 {}
 
+/// So is the cause for which a declaration is beyond the profile.
+pub fn cause_of_sieve()
+    ensures tells { (s : Setting) (u : PackageSource) (a : Entries) (lost : ℕ → Bool) (n : ℕ) (c : Cause) → IsApart s u → AreAll s u a → AreSifted s u a lost → HasToldCause s u a lost n c → HasCause s u n c }
+    ensures told { (s : Setting) (u : PackageSource) (a : Entries) (lost : ℕ → Bool) (n : ℕ) (c : Cause) → IsApart s u → AreAll s u a → AreSifted s u a lost → HasCause s u n c → HasToldCause s u a lost n c }
+{}
+
+/// A declaration is beyond the profile for at most one cause, and there is at most one list of what is left out: of a package, and of
+/// packages in a list.
+pub fn one_skipped()
+    ensures cause { (s : Setting) (u : PackageSource) (n : ℕ) (c d : Cause) → HasCause s u n c → HasCause s u n d → c ≡ d }
+    ensures package { (s : Setting) (u : PackageSource) (S T : ℕ → Bool) (a b : Entries) (xs ys : List Skipped) → LeavesOut s u S a → LeavesOut s u T b → IsSkippedOf s u S xs → IsSkippedOf s u T ys → xs ≡ ys }
+    ensures packages { (bits : ℕ) (us : List PackageSource) (xs ys : List (List Skipped)) → AreSkipped bits us xs → AreSkipped bits us ys → xs ≡ ys }
+{}
+
 /// Where a sieve holds back only what nobody sees and what is beyond the profile, the others are kept, and the package of their entries
 /// is offered; else the package is refused at the place of the first other one that it holds back.
 pub fn offered_or_refused()
@@ -118,12 +135,12 @@ pub fn offered_or_refused()
         → lost n ≡ true → IsExposed u n ⊎ (IsBeyond s u n → ⊥) → ((m : ℕ) → m < n → lost m ≡ true → (IsExposed u m → ⊥) × IsBeyond s u m) → At (declarations u) n (λ d. place_of d ≡ p) → IsRefused s u (unsound p) }
 {}
 
-/// In two settings that are the same in all that a package reaches, and where each of its imports is found, the same declarations are kept
-/// with the same entries, and it is offered as the same packages and refused for the same cause.
+/// In two settings that are the same in all that a package reaches, and in which no package has the empty path, the same declarations are
+/// kept with the same entries, and it is offered as the same packages and refused for the same cause.
 pub fn same_imports()
-    ensures kept { (u : PackageSource) (s t : Setting) (S : ℕ → Bool) (a : Entries) → AreFound u → ReachesSame u s t → LeavesOut s u S a → LeavesOut t u S a }
-    ensures offered { (u : PackageSource) (s t : Setting) (p : Package) → AreFound u → ReachesSame u s t → IsOfferedAs s u p → IsOfferedAs t u p }
-    ensures refused { (u : PackageSource) (s t : Setting) (r : Refusal) → AreFound u → ReachesSame u s t → IsRefused s u r → IsRefused t u r }
+    ensures kept { (u : PackageSource) (s t : Setting) (S : ℕ → Bool) (a : Entries) → first_with path_of s.world.packages [] ≡ None → first_with path_of t.world.packages [] ≡ None → ReachesSame u s t → LeavesOut s u S a → LeavesOut t u S a }
+    ensures offered { (u : PackageSource) (s t : Setting) (p : Package) → first_with path_of s.world.packages [] ≡ None → first_with path_of t.world.packages [] ≡ None → ReachesSame u s t → IsOfferedAs s u p → IsOfferedAs t u p }
+    ensures refused { (u : PackageSource) (s t : Setting) (r : Refusal) → first_with path_of s.world.packages [] ≡ None → first_with path_of t.world.packages [] ≡ None → ReachesSame u s t → IsRefused s u r → IsRefused t u r }
 {}
 
 /// Packages in a list become one thing each: they have at most one world and one first refusal, and not both. Where all of them are typed

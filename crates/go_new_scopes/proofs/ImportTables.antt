@@ -17,7 +17,7 @@ use Rattle.go_base.specs.Keys.{first_with}
 use Rattle.go_rules.specs.Names.{value_at, with_value}
 use Rattle.go_rules.specs.Scopes.{imports_in}
 use Rattle.go_typings.specs.Declarations.{is_init}
-use Rattle.go_typings.specs.PackageEnvironments.{path_in}
+use Rattle.go_typings.specs.PackageEnvironments.{had_path, path_in}
 use Rattle.go_typings.specs.Sources.{Import, SourceFile, import_name, imports_in as imports_of_file}
 use Rattle.go_new_scopes.proofs.Lookups.{none_or, or_none, or_or, put_told, some_or}
 use Rattle.go_new_scopes.specs.inner.FileImports.{Imports, imports_at, is_passed, with_files, with_import, with_imports}
@@ -63,14 +63,14 @@ module _ (q : ℕ) (name : List ℕ) where
   found is = unless_init (is_init name) (first_with import_name is name)
 
   abbrev put : ℕ → Imports → Import → Imports
-  put file t i = insert_entry nat_cmp t file (with_value (imports_at t file) i.name i.path)
+  put file t i = insert_entry nat_cmp t file (with_value (imports_at t file) i.name (had_path i))
 
-  put_at : (file : ℕ) (t : Imports) (i : Import) (c e : Bool) → nat_eq q file ≡ c → bytes_eq i.name name ≡ e → at (put file t i) ≡ (if c then (if e then Some i.path else at t) else at t)
+  put_at : (file : ℕ) (t : Imports) (i : Import) (c e : Bool) → nat_eq q file ≡ c → bytes_eq i.name name ≡ e → at (put file t i) ≡ (if c then (if e then Some (had_path i) else at t) else at t)
   put_at file t i true e h g =
-      ap (λ o. value_at (imports_in o) name) (number_put q file (with_value (imports_at t file) i.name i.path) t ∙ ap (λ b. cond b (Some (with_value (imports_at t file) i.name i.path)) (lookup (nat_eq q) t)) h)
-      ∙ put_told (imports_at t file) i.name i.path name e g
-      ∙ ap (λ (k : ℕ). if e then Some i.path else value_at (imports_at t k) name) (sym (eqb-true q file h))
-  put_at file t i false e h g = ap (λ o. value_at (imports_in o) name) (number_put q file (with_value (imports_at t file) i.name i.path) t ∙ ap (λ b. cond b (Some (with_value (imports_at t file) i.name i.path)) (lookup (nat_eq q) t)) h)
+      ap (λ o. value_at (imports_in o) name) (number_put q file (with_value (imports_at t file) i.name (had_path i)) t ∙ ap (λ b. cond b (Some (with_value (imports_at t file) i.name (had_path i))) (lookup (nat_eq q) t)) h)
+      ∙ put_told (imports_at t file) i.name (had_path i) name e g
+      ∙ ap (λ (k : ℕ). if e then Some (had_path i) else value_at (imports_at t k) name) (sym (eqb-true q file h))
+  put_at file t i false e h g = ap (λ o. value_at (imports_in o) name) (number_put q file (with_value (imports_at t file) i.name (had_path i)) t ∙ ap (λ b. cond b (Some (with_value (imports_at t file) i.name (had_path i))) (lookup (nat_eq q) t)) h)
 
   split_or : (a b : Bool) → (a || b) ≡ false → (a ≡ false) × (b ≡ false)
   split_or true b e = absurd (true≢false e)
@@ -96,11 +96,11 @@ module _ (q : ℕ) (name : List ℕ) where
     import_by true false e n hp hc he hn = or_none (at t)
     import_by true true e true hp hc he hn = or_none (at t)
     import_by true true false false hp hc he hn = or_none (at t)
-    import_by true true true false hp hc he hn = some_or (at t) (Some i.path) (sym (there hc he) ∙ sym (ap (λ b. b || is_there) (same_init he ∙ hn)) ∙ hp)
+    import_by true true true false hp hc he hn = some_or (at t) (Some (had_path i)) (sym (there hc he) ∙ sym (ap (λ b. b || is_there) (same_init he ∙ hn)) ∙ hp)
     import_by false false e n hp hc he hn = put_at file t i false e hc he ∙ or_none (at t)
     import_by false true false n hp hc he hn = put_at file t i true false hc he ∙ or_none (at t) ∙ ap (option_or (at t)) (sym (no_import n))
     import_by false true true true hp hc he hn = absurd (true≢false (sym hn ∙ sym (same_init he) ∙ (split_or (is_init i.name) is_there hp).0))
-    import_by false true true false hp hc he hn = put_at file t i true true hc he ∙ none_or (at t) (Some i.path) (sym (there hc he) ∙ (split_or (is_init i.name) is_there hp).1)
+    import_by false true true false hp hc he hn = put_at file t i true true hc he ∙ none_or (at t) (Some (had_path i)) (sym (there hc he) ∙ (split_or (is_init i.name) is_there hp).1)
 
     pub import_told : at (with_import file t i) ≡ option_or (at t) (if nat_eq q file then found (i ∷ []) else None)
     import_told = import_by (is_passed t file i.name) (nat_eq q file) (bytes_eq i.name name) (is_init name) refl refl refl refl

@@ -1,8 +1,9 @@
 //! The imports of files.
-ghost use Rattle.std.specs.Prelude.{◌≡◌, ◌<◌, length, map, OnOk};
+ghost use Rattle.std.specs.Prelude.{◌≡◌, ◌<◌, length, map, IfOk, OnOk};
 ghost use Rattle.go_new_scopes.specs.inner.FileImports.{with_files, with_import, with_imports};
 ghost use Rattle.go_sources.specs.UnitSources.{file_of, import_of};
 ghost use Rattle.go_typings.specs.Declarations.{is_init};
+ghost use Rattle.go_typings.specs.PackageEnvironments.{had_path};
 
 use go_base::memory::NoMemory;
 use go_base::text::Text;
@@ -14,6 +15,17 @@ fn is_init(name: &Text) -> bool
     ensures { result ≡ is_init name.now }
 {
     name.bytes() == b"init".as_slice()
+}
+
+// The path under which an import is had.
+fn had_path(alloc: Global, import: &UsedImport) -> Result<Text, NoMemory>
+    ensures { IfOk result (λ path. path ≡ had_path (import_of import.now)) }
+{
+    if import.found {
+        Text::of(alloc, import.path.bytes())
+    } else {
+        Text::of(alloc, b"".as_slice())
+    }
 }
 
 // Adds an import to a file, unless it is named `init` or the file has one of its name.
@@ -29,7 +41,7 @@ fn add_import(
         return Ok(());
     }
     let name = Text::of(alloc, import.name.bytes())?;
-    let path = Text::of(alloc, import.path.bytes())?;
+    let path = had_path(alloc, import)?;
     match env.import(file, name, path) {
         Ok(()) => Ok(()),
         Err(DeclareError::Already) => Ok(()),

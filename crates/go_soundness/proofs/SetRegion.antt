@@ -27,7 +27,7 @@ use Rattle.go_rules.specs.declared.seen.Seen.TheVariants as seen
 use Rattle.go_rules.proofs.LocalTerms.{close_in}
 use Rattle.go_syntax.specs.declared.declaration.TypeSpec.{TypeSpec}
 use Rattle.go_typings.specs.Declarations.{Form, constants, variables, alias, definition, function, method, Declaration, Declared, declarations, declared}
-use Rattle.go_typings.specs.PackageEnvironments.{Entries, Entry, objects, underlying, signed, as_object, defined_at, defined_by, entity_by, environment, had, had_of, import_of, meaning_at, object_of, own_defined, own_type, path_in, signature_of, types_of, underlying_of}
+use Rattle.go_typings.specs.PackageEnvironments.{Entries, Entry, objects, underlying, signed, as_object, defined_at, defined_by, entity_by, environment, had, had_of, had_path, import_of, meaning_at, object_of, own_defined, own_type, path_in, signature_of, types_of, underlying_of}
 use Rattle.go_typings.specs.Receivers.{DeclaredMethod, declared_methods, methods}
 use Rattle.go_typings.specs.References.{DependsOn, to_method}
 use Rattle.go_typings.specs.Sources.{Import, PackageSource, Setting}
@@ -117,7 +117,7 @@ module _ (s : Setting) (u : PackageSource) (apart : IsApart s u) (S : ℕ → Bo
 
     meaning_in : (name : List ℕ) (c : Option Import) (m : Seen) → keeps u S name ≡ true → option_or (as_import (path_in c)) (meaning_at u.path b name (declared (declarations u) name)) ≡ Some m → SeenIn R m
     meaning_in name None m i e = meaning_at_in name (declared (declarations u) name) m refl i e
-    meaning_in name (Some j) m i e = subst (SeenIn R) (some_once (seen.Import j.path) m e) refl
+    meaning_in name (Some j) m i e = subst (SeenIn R) (some_once (seen.Import (had_path j)) m e) refl
 
     -- ---- defined types
 

@@ -4,7 +4,8 @@ use Rattle.go_model.specs.declared.types.term.Term.{Term, Term-F}
 use Rattle.go_rules.specs.Environments.{Env}
 use Rattle.go_rules.specs.Nodes.{Node}
 use Rattle.go_rules.specs.declared.operand.Operand.{Operand}
-use Rattle.go_statement_rules.specs.Bodies.{IsTypedBody, no_body, typed_body, OfReceiver, no_receiver, receiver}
+use Rattle.go_statement_rules.specs.Bodies.{AreTypedOutside, IsTypedBody, no_body, typed_body}
+use Rattle.go_statement_rules.specs.Functions.{Enclosing, EntersBody, EntersFunction, OfReceiver, Run, enters_body, enters_function, no_receiver, receiver}
 use Rattle.go_statement_rules.specs.Scopes.{Scopes, within}
 use Rattle.go_statement_rules.specs.Statements.{AreCases, AreDeclared, AreMet, AreSelectCases, AreTypeCases, AreTyped, Begins, LiteralsAreTyped, IsTypedBlock, IsCondition, IsTypedFunction, KindLayer, Leaves, MayStand, IsOperand}
 use Rattle.go_statement_rules.specs.Statements.{begins_alone, begins_with, typed_block, cases_default, cases_none, cases_values, condition, declared_more, declared_none, typed_function, literals_typed, may_be, may_lack, met_more, met_none, no_condition, select_cases_more, select_cases_none, is_operand, type_cases_more, type_cases_none, typed_more, typed_none}
@@ -31,57 +32,60 @@ module _ (E F : Env) (blocks : List LiteralBlock) (m : Grows E F) where
   deep : (s : Scopes) → Grows (within E s) (within F s)
   deep s = within_more E F s m
 
+  enters_more : {r : Enclosing} {s : Scopes} {g : Sig} {c : BodyRange} {w : Run} → EntersFunction E blocks r s g c w → EntersFunction F blocks r s g c w
+  enters_more {s = s} (enters_function i g d h) = enters_function i (signature_f (within E s) (within F s) (deep s) g) d h
+
   mutual
-    more_operand : {s : Scopes} {e : Expr} {o : Operand} → IsOperand E blocks s e o → IsOperand F blocks s e o
+    more_operand : {r : Enclosing} {s : Scopes} {e : Expr} {o : Operand} → IsOperand E blocks r s e o → IsOperand F blocks r s e o
     more_operand {s = s} (is_operand x y) = is_operand (operand_f (within E s) (within F s) (deep s) x) (more_literals y)
 
-    more_literals : {s : Scopes} {n : Node} → LiteralsAreTyped E blocks s n → LiteralsAreTyped F blocks s n
+    more_literals : {r : Enclosing} {s : Scopes} {n : Node} → LiteralsAreTyped E blocks r s n → LiteralsAreTyped F blocks r s n
     more_literals (literals_typed f) = literals_typed (λ x g c st eq. more_function (f x g c st eq))
 
-    more_met : {G H : Env} {s : Scopes} {ns : List Node} (g : Grows G H) → AreMet E blocks G s ns → AreMet F blocks H s ns
+    more_met : {r : Enclosing} {G H : Env} {s : Scopes} {ns : List Node} (g : Grows G H) → AreMet E blocks r G s ns → AreMet F blocks r H s ns
     more_met g met_none = met_none
     more_met {G = G} {H = H} g (met_more x y z) = met_more (meets_f G H g x) (more_literals y) (more_met g z)
 
-    more_function : {s : Scopes} {g : Sig} {c : BodyRange} → IsTypedFunction E blocks s g c → IsTypedFunction F blocks s g c
-    more_function {s = s} (typed_function x y z w) = typed_function (signature_f (within E s) (within F s) (deep s) x) y z (more_typed w)
+    more_function : {r : Enclosing} {s : Scopes} {g : Sig} {c : BodyRange} → IsTypedFunction E blocks r s g c → IsTypedFunction F blocks r s g c
+    more_function (typed_function x y) = typed_function (enters_more x) (more_typed y)
 
-    more_typed : {r : List Term} {s t : Scopes} {ss : List Stmt} → AreTyped E blocks r s ss t → AreTyped F blocks r s ss t
+    more_typed : {r : Enclosing} {s t : Scopes} {ss : List Stmt} → AreTyped E blocks r s ss t → AreTyped F blocks r s ss t
     more_typed typed_none = typed_none
     more_typed (typed_more x y) = typed_more (more_leaves x) (more_typed y)
 
-    more_block : {r : List Term} {s : Scopes} {ss : List Stmt} → IsTypedBlock E blocks r s ss → IsTypedBlock F blocks r s ss
+    more_block : {r : Enclosing} {s : Scopes} {ss : List Stmt} → IsTypedBlock E blocks r s ss → IsTypedBlock F blocks r s ss
     more_block (typed_block x) = typed_block (more_typed x)
 
-    more_begins : {r : List Term} {s t : Scopes} {x : Option Stmt} → Begins E blocks r s x t → Begins F blocks r s x t
+    more_begins : {r : Enclosing} {s t : Scopes} {x : Option Stmt} → Begins E blocks r s x t → Begins F blocks r s x t
     more_begins begins_alone = begins_alone
     more_begins (begins_with x) = begins_with (more_leaves x)
 
-    more_stand : {r : List Term} {s : Scopes} {x : Option Stmt} → MayStand E blocks r s x → MayStand F blocks r s x
+    more_stand : {r : Enclosing} {s : Scopes} {x : Option Stmt} → MayStand E blocks r s x → MayStand F blocks r s x
     more_stand may_lack = may_lack
     more_stand (may_be x) = may_be (more_leaves x)
 
-    more_condition : {s : Scopes} {e : Option Expr} → IsCondition E blocks s e → IsCondition F blocks s e
+    more_condition : {r : Enclosing} {s : Scopes} {e : Option Expr} → IsCondition E blocks r s e → IsCondition F blocks r s e
     more_condition no_condition = no_condition
     more_condition {s = s} (condition x y) = condition (more_operand x) (truth_f (within E s) (within F s) (deep s) y)
 
-    more_declared : {s t : Scopes} {fs : List Form} → AreDeclared E blocks s fs t → AreDeclared F blocks s fs t
+    more_declared : {r : Enclosing} {s t : Scopes} {fs : List Form} → AreDeclared E blocks r s fs t → AreDeclared F blocks r s fs t
     more_declared declared_none = declared_none
     more_declared {s = s} (declared_more {f = f} x y z w v) = let g = form_env_more (within E s) (within F s) f (deep s) in declared_more (gives_more (form_env (within E s) f) (form_env (within F s) f) g x) (fits_f (within E s) (within F s) (deep s) f y) (more_met g z) w (more_declared v)
 
-    more_cases : {r : List Term} {s : Scopes} {t : Term} {cs : List Case} → AreCases E blocks r s t cs → AreCases F blocks r s t cs
+    more_cases : {r : Enclosing} {s : Scopes} {t : Term} {cs : List Case} → AreCases E blocks r s t cs → AreCases F blocks r s t cs
     more_cases cases_none = cases_none
     more_cases (cases_default x y z) = cases_default x (more_block y) (more_cases z)
     more_cases {s = s} {t = t} (cases_values {es = es} x y z w v) = cases_values x (case_f (within E s) (within F s) (deep s) t es y) (more_met (deep s) z) (more_block w) (more_cases v)
 
-    more_type_cases : {r : List Term} {s : Scopes} {n : Option Name} {t : Term} {cs : List TypeCase} → AreTypeCases E blocks r s n t cs → AreTypeCases F blocks r s n t cs
+    more_type_cases : {r : Enclosing} {s : Scopes} {n : Option Name} {t : Term} {cs : List TypeCase} → AreTypeCases E blocks r s n t cs → AreTypeCases F blocks r s n t cs
     more_type_cases type_cases_none = type_cases_none
     more_type_cases {s = s} {t = t} (type_cases_more {c = c} xs x y z w v) = type_cases_more xs (listed_f (within E s) (within F s) (deep s) t (out-TypeCase c).types xs x) (more_met (deep s) y) z (more_typed w) (more_type_cases v)
 
-    more_select_cases : {r : List Term} {s : Scopes} {cs : List SelectCase} → AreSelectCases E blocks r s cs → AreSelectCases F blocks r s cs
+    more_select_cases : {r : Enclosing} {s : Scopes} {cs : List SelectCase} → AreSelectCases E blocks r s cs → AreSelectCases F blocks r s cs
     more_select_cases select_cases_none = select_cases_none
     more_select_cases (select_cases_more x y z) = select_cases_more (more_begins x) (more_typed y) (more_select_cases z)
 
-    more_leaves : {r : List Term} {s t : Scopes} {k : KindLayer} → Leaves E blocks r s k t → Leaves F blocks r s k t
+    more_leaves : {r : Enclosing} {s t : Scopes} {k : KindLayer} → Leaves E blocks r s k t → Leaves F blocks r s k t
     more_leaves leaves_empty = leaves_empty
     more_leaves {s = s} (leaves_call x y) = leaves_call (more_operand x) (call_f (within E s) (within F s) (deep s) y)
     more_leaves (leaves_receive_alone x y) = leaves_receive_alone (more_operand x) y
@@ -111,15 +115,21 @@ module _ (E F : Env) (blocks : List LiteralBlock) (m : Grows E F) where
     more_leaves {s = s} (leaves_range_assigned x y z w v u) = leaves_range_assigned (more_operand x) (ranges_f (within E s) (within F s) (deep s) y) z (assigned_f (within E s) (within F s) (deep s) w) (more_met (deep s) v) (more_block u)
     more_leaves {s = s} (leaves_range_defined x y z w v u) = leaves_range_defined (more_operand x) (ranges_f (within E s) (within F s) (deep s) y) z w v (more_block u)
 
-pub typed_among_more : (E F : Env) (blocks : List LiteralBlock) (r : List Term) (s t : Scopes) (ss : List Stmt) → Grows E F → AreTyped E blocks r s ss t → AreTyped F blocks r s ss t
+pub typed_among_more : (E F : Env) (blocks : List LiteralBlock) (r : Enclosing) (s t : Scopes) (ss : List Stmt) → Grows E F → AreTyped E blocks r s ss t → AreTyped F blocks r s ss t
 typed_among_more E F blocks r s t ss m x = more_typed E F blocks m x
 
 receiver_more : (E F : Env) → Grows E F → {r : Option ParameterDecl} {ts : List Term} → OfReceiver E r ts → OfReceiver F r ts
 receiver_more E F m no_receiver = no_receiver
 receiver_more E F m (receiver a) = receiver (type_f E F m a)
 
+enters_body_more : (E F : Env) (blocks : List LiteralBlock) → Grows E F → {f : Func} {w : Run} → EntersBody E blocks f w → EntersBody F blocks f w
+enters_body_more E F blocks m (enters_body e r g d h) =
+    let w = within_more E F [] m in
+    enters_body e (receiver_more (within E []) (within F []) w r) (signature_f (within E []) (within F []) w g) d h
+
 pub body_among_more : (E F : Env) (blocks : List LiteralBlock) (f : Func) → Grows E F → IsTypedBody E blocks f → IsTypedBody F blocks f
 body_among_more E F blocks f m (no_body e) = no_body e
-body_among_more E F blocks f m (typed_body e a g d h x) =
-    let w = within_more E F [] m in
-    typed_body e (receiver_more (within E []) (within F []) w a) (signature_f (within E []) (within F []) w g) d h (more_typed E F blocks m x)
+body_among_more E F blocks f m (typed_body x y) = typed_body (enters_body_more E F blocks m x) (y.0, more_typed E F blocks m y.1)
+
+pub outside_among_more : (E F : Env) (blocks : List LiteralBlock) (at : Node) → Grows E F → AreTypedOutside E blocks at → AreTypedOutside F blocks at
+outside_among_more E F blocks at m x = more_literals E F blocks m x

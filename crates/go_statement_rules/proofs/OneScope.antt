@@ -12,6 +12,7 @@ use Rattle.go_rules.specs.declared.seen.Seen.{Seen}
 use Rattle.go_rules.specs.declared.seen.Seen.TheVariants as seen
 use Rattle.go_rules.proofs.OneKind.{const_in, typed}
 use Rattle.go_statement_rules.specs.Assignments.{AreDefined, defined_blank, defined_new, defined_none, defined_old}
+use Rattle.go_statement_rules.specs.Functions.{Enclosing}
 use Rattle.go_statement_rules.specs.Scopes.{Scopes, Declares, declares_blank, declares_name, declares_none, declares_nothing, local_of, within}
 use Rattle.go_statement_rules.specs.Statements.{AreDeclared, declared_more, declared_none, AreTyped, typed_more, typed_none, KindLayer, Leaves, form_env, some_names}
 use Rattle.go_statement_rules.specs.Statements.{leaves_assignment, leaves_break, leaves_call, leaves_constants_declared, leaves_continue, leaves_defer, leaves_definition, leaves_empty, leaves_fallthrough, leaves_for, leaves_go, leaves_goto, leaves_if_then, leaves_inner_block, leaves_labeled, leaves_operation, leaves_range, leaves_range_assigned, leaves_range_defined, leaves_receive_alone, leaves_return, leaves_select, leaves_send, leaves_step, leaves_switch, leaves_type_switch, leaves_variables_declared, leaves_while}
@@ -50,7 +51,7 @@ tail_same e = cc
 objects_same : {xs ys : List Entity} → objects xs ≡ objects ys → xs ≡ ys
 objects_same e = cc
 
-declares_once : {s t u : Scopes} {ns : List (Option Name)} {ms : List Seen} → Declares s ns ms t → Declares s ns ms u → t ≡ u
+pub declares_once : {s t u : Scopes} {ns : List (Option Name)} {ms : List Seen} → Declares s ns ms t → Declares s ns ms u → t ≡ u
 declares_once declares_none declares_none = refl
 declares_once (declares_nothing a) (declares_nothing b) = declares_once a b
 declares_once (declares_blank i a) (declares_blank k b) = declares_once a b
@@ -74,14 +75,14 @@ defined_once (defined_new {n = n} {ms = ms} i f t a) (defined_new {t = z} k g u 
     (ap (λ x. Some n ∷ x) r.0, ap (λ x. seen.Local x ∷ ms) v ∙ ap (λ x. seen.Local z ∷ x) r.1)
 
 module _ (E : Env) (blocks : List LiteralBlock) where
-  declared_once : {s t u : Scopes} {fs : List Form} → AreDeclared E blocks s fs t → AreDeclared E blocks s fs u → t ≡ u
+  pub declared_once : {r : Enclosing} {s t u : Scopes} {fs : List Form} → AreDeclared E blocks r s fs t → AreDeclared E blocks r s fs u → t ≡ u
   declared_once declared_none declared_none = refl
-  declared_once {s = s} {u = u} (declared_more {t = t} {f = f} {fs = fs} g h i d r) (declared_more k l m e q) =
+  declared_once {r = r} {s = s} {u = u} (declared_more {t = t} {f = f} {fs = fs} g h i d rest) (declared_more k l m e q) =
       let x = objects_same (gives_once (form_env (within E s) f) g k) in
       let w = declares_once (subst (λ z. Declares s (some_names (names_of f)) (map local_of z) t) x d) e in
-      declared_once r (subst (λ z. AreDeclared E blocks z fs u) (sym w) q)
+      declared_once rest (subst (λ z. AreDeclared E blocks r z fs u) (sym w) q)
 
-  pub leaves_once : {r : List Term} {s t u : Scopes} {k : KindLayer} → Leaves E blocks r s k t → Leaves E blocks r s k u → t ≡ u
+  pub leaves_once : {r : Enclosing} {s t u : Scopes} {k : KindLayer} → Leaves E blocks r s k t → Leaves E blocks r s k u → t ≡ u
   leaves_once leaves_empty leaves_empty = refl
   leaves_once (leaves_call x y) (leaves_call z w) = refl
   leaves_once (leaves_call x y) (leaves_receive_alone z w) = refl
@@ -115,6 +116,6 @@ module _ (E : Env) (blocks : List LiteralBlock) where
       let e = defined_once a2 b2 (initialize_once (within E (scope ∷ outer)) a1 b1) in
       declares_once (subst (λ z. Declares (scope ∷ outer) z ms t) e.0 (subst (λ z. Declares (scope ∷ outer) old z t) e.1 a5)) b5
 
-  pub typed_once : {r : List Term} {s t u : Scopes} {ss : List Stmt} → AreTyped E blocks r s ss t → AreTyped E blocks r s ss u → t ≡ u
+  pub typed_once : {r : Enclosing} {s t u : Scopes} {ss : List Stmt} → AreTyped E blocks r s ss t → AreTyped E blocks r s ss u → t ≡ u
   typed_once typed_none typed_none = refl
   typed_once {r = r} {u = u} (typed_more {xs = xs} a b) (typed_more c d) = typed_once b (subst (λ z. AreTyped E blocks r z xs u) (sym (leaves_once a c)) d)

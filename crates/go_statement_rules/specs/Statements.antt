@@ -11,12 +11,11 @@ use Rattle.go_model.specs.declared.constants.value.Basic.TheVariants as basic
 use Rattle.go_model.specs.declared.types.package.Entity.{Entity}
 use Rattle.go_model.specs.declared.types.term.Direction.{Direction}
 use Rattle.go_model.specs.declared.types.term.Method.{Method}
-use Rattle.go_model.specs.declared.types.term.Signature.{Signature, out-Signature}
 use Rattle.go_model.specs.declared.types.term.Term.{Term, Term-F}
 use Rattle.go_model.specs.types.Underlying.{under}
 use Rattle.go_rules.specs.Asks.{AreDistinctNames, HasOperand, Meets, texts}
 use Rattle.go_rules.specs.Environments.{Env}
-use Rattle.go_rules.specs.Expressions.{OfSignature, is_blank, sends}
+use Rattle.go_rules.specs.Expressions.{is_blank, sends}
 use Rattle.go_rules.specs.Names.{Named}
 use Rattle.go_rules.specs.Nodes.{Node, Stands, expression, type}
 use Rattle.go_rules.specs.Operands.{IsTyped, IsUntyped, plain}
@@ -27,7 +26,8 @@ use Rattle.go_rules.specs.declared.seen.Seen.TheVariants as seen
 use Rattle.go_model.specs.declared.constants.value.Untyped.TheVariants as untyped
 use Rattle.go_statement_rules.specs.Assignments.{AreAssigned, AreDefined, IsAssigned, IsCallAlone, IsReceiveAlone, Operates, Returns, one, step_operator}
 use Rattle.go_statement_rules.specs.Clauses.{IsCase, IsTag, ListsAll, Ranges, bound_type}
-use Rattle.go_statement_rules.specs.Scopes.{Scopes, Declares, at_place, local_of, locals, opened, parameter_slots, result_slots, within}
+use Rattle.go_statement_rules.specs.Functions.{Enclosing, EntersFunction, Run}
+use Rattle.go_statement_rules.specs.Scopes.{Scopes, Declares, at_place, local_of, locals, opened, within}
 use Rattle.go_rules.specs.Expressions.{Computes}
 use Rattle.go_syntax.specs.declared.body.BodyRange.{BodyRange}
 use Rattle.go_syntax.specs.declared.declaration.ConstSpec.{ConstSpec}
@@ -40,9 +40,8 @@ use Rattle.go_syntax.specs.declared.statement.SelectCase.{SelectCase, out-Select
 use Rattle.go_syntax.specs.declared.statement.Stmt.{Stmt, out-Stmt}
 use Rattle.go_syntax.specs.declared.statement.StmtKind.{StmtKind, StmtKind-F, out-StmtKind}
 use Rattle.go_syntax.specs.declared.statement.TypeCase.{TypeCase, out-TypeCase}
-use Rattle.go_syntax.specs.declared.types.Signature.{Signature as Sig, out-Signature as out-Sig}
+use Rattle.go_syntax.specs.declared.types.Signature.{Signature as Sig}
 use Rattle.go_syntax.specs.declared.types.«Type».{«Type» as Typ}
-use Rattle.go_syntax.specs.grammar.ParsedBodies.{HasBlock}
 use Rattle.go_typings.specs.DeclarationAsks.{ValuesFit}
 use Rattle.go_typings.specs.DeclarationNodes.{nodes}
 use Rattle.go_typings.specs.DeclarationRules.{Gives}
@@ -124,106 +123,104 @@ pub data IsNew : List Name → Type 0 where
 module _ (E : Env) (blocks : List LiteralBlock) where
   mutual
     -- an expression is this operand, all that is asked in it is met, and the blocks of the function literals in it are typed
-    pub data IsOperand : Scopes → Expr → Operand → Type 0 where
-      is_operand : {s : Scopes} {e : Expr} {o : Operand} → HasOperand (within E s) e o → LiteralsAreTyped s (expression e) → IsOperand s e o
+    pub data IsOperand : Enclosing → Scopes → Expr → Operand → Type 0 where
+      is_operand : {r : Enclosing} {s : Scopes} {e : Expr} {o : Operand} → HasOperand (within E s) e o → LiteralsAreTyped r s (expression e) → IsOperand r s e o
 
     -- the block of each function literal that stands in the tree is typed, in the scopes in which the tree stands
-    pub data LiteralsAreTyped : Scopes → Node → Type 0 where
-      literals_typed : {s : Scopes} {at : Node} → ((x : Expr) (g : Sig) (b : BodyRange) → Stands at (expression x) → out-Expr x ≡ Expr-F.FuncLit g b → IsTypedFunction s g b) → LiteralsAreTyped s at
+    pub data LiteralsAreTyped : Enclosing → Scopes → Node → Type 0 where
+      literals_typed : {r : Enclosing} {s : Scopes} {at : Node} → ((x : Expr) (g : Sig) (b : BodyRange) → Stands at (expression x) → out-Expr x ≡ Expr-F.FuncLit g b → IsTypedFunction r s g b) → LiteralsAreTyped r s at
 
     -- what is asked in the trees is met, and the blocks of the function literals in them are typed
-    pub data AreMet : Env → Scopes → List Node → Type 0 where
-      met_none : {F : Env} {s : Scopes} → AreMet F s []
-      met_more : {F : Env} {s : Scopes} {n : Node} {ns : List Node} → Meets F n → LiteralsAreTyped s n → AreMet F s ns → AreMet F s (n ∷ ns)
+    pub data AreMet : Enclosing → Env → Scopes → List Node → Type 0 where
+      met_none : {r : Enclosing} {F : Env} {s : Scopes} → AreMet r F s []
+      met_more : {r : Enclosing} {F : Env} {s : Scopes} {n : Node} {ns : List Node} → Meets F n → LiteralsAreTyped r s n → AreMet r F s ns → AreMet r F s (n ∷ ns)
 
-    -- the block of a function with this signature is typed, in a scope with its parameters and the names of its results
-    pub data IsTypedFunction : Scopes → Sig → BodyRange → Type 0 where
-      typed_function : {s inner last : Scopes} {g : Sig} {b : BodyRange} {h : Signature} {ss : List Stmt} → OfSignature (within E s) (out-Sig g).parameters (out-Sig g).result h
-          → Declares (opened s) (parameter_slots (out-Sig g).parameters ++ result_slots (out-Sig g).result) (locals ((out-Signature h).params ++ (out-Signature h).results)) inner
-          → HasBlock blocks b.start ss → AreTyped (out-Signature h).results inner ss last → IsTypedFunction s g b
+    -- the block of a function literal with this signature is typed
+    pub data IsTypedFunction : Enclosing → Scopes → Sig → BodyRange → Type 0 where
+      typed_function : {r : Enclosing} {s last : Scopes} {g : Sig} {b : BodyRange} {w : Run} → EntersFunction E blocks r s g b w → AreTyped w.function w.scopes w.statements last → IsTypedFunction r s g b
 
-    -- the statements one after another, in a function with these results
-    pub data AreTyped : List Term → Scopes → List Stmt → Scopes → Type 0 where
-      typed_none : {r : List Term} {s : Scopes} → AreTyped r s [] s
-      typed_more : {r : List Term} {s t u : Scopes} {x : Stmt} {xs : List Stmt} → Leaves r s (kind_of x) t → AreTyped r t xs u → AreTyped r s (x ∷ xs) u
+    -- the statements one after another, in a function
+    pub data AreTyped : Enclosing → Scopes → List Stmt → Scopes → Type 0 where
+      typed_none : {r : Enclosing} {s : Scopes} → AreTyped r s [] s
+      typed_more : {r : Enclosing} {s t u : Scopes} {x : Stmt} {xs : List Stmt} → Leaves r s (kind_of x) t → AreTyped r t xs u → AreTyped r s (x ∷ xs) u
 
     -- the statements of a block
-    pub data IsTypedBlock : List Term → Scopes → List Stmt → Type 0 where
-      typed_block : {r : List Term} {s t : Scopes} {ss : List Stmt} → AreTyped r (opened s) ss t → IsTypedBlock r s ss
+    pub data IsTypedBlock : Enclosing → Scopes → List Stmt → Type 0 where
+      typed_block : {r : Enclosing} {s t : Scopes} {ss : List Stmt} → AreTyped r (opened s) ss t → IsTypedBlock r s ss
 
     -- the scope of a header, with what its statement declares
-    pub data Begins : List Term → Scopes → Option Stmt → Scopes → Type 0 where
-      begins_alone : {r : List Term} {s : Scopes} → Begins r s None (opened s)
-      begins_with : {r : List Term} {s t : Scopes} {x : Stmt} → Leaves r (opened s) (kind_of x) t → Begins r s (Some x) t
+    pub data Begins : Enclosing → Scopes → Option Stmt → Scopes → Type 0 where
+      begins_alone : {r : Enclosing} {s : Scopes} → Begins r s None (opened s)
+      begins_with : {r : Enclosing} {s t : Scopes} {x : Stmt} → Leaves r (opened s) (kind_of x) t → Begins r s (Some x) t
 
     -- a statement that may be left out. What it declares isn't seen behind it
-    pub data MayStand : List Term → Scopes → Option Stmt → Type 0 where
-      may_lack : {r : List Term} {s : Scopes} → MayStand r s None
-      may_be : {r : List Term} {s t : Scopes} {x : Stmt} → Leaves r s (kind_of x) t → MayStand r s (Some x)
+    pub data MayStand : Enclosing → Scopes → Option Stmt → Type 0 where
+      may_lack : {r : Enclosing} {s : Scopes} → MayStand r s None
+      may_be : {r : Enclosing} {s t : Scopes} {x : Stmt} → Leaves r s (kind_of x) t → MayStand r s (Some x)
 
     -- a condition
-    pub data IsCondition : Scopes → Option Expr → Type 0 where
-      no_condition : {s : Scopes} → IsCondition s None
-      condition : {s : Scopes} {e : Expr} {o : Operand} → IsOperand s e o → IsTruth (within E s) o → IsCondition s (Some e)
+    pub data IsCondition : Enclosing → Scopes → Option Expr → Type 0 where
+      no_condition : {r : Enclosing} {s : Scopes} → IsCondition r s None
+      condition : {r : Enclosing} {s : Scopes} {e : Expr} {o : Operand} → IsOperand r s e o → IsTruth (within E s) o → IsCondition r s (Some e)
 
     -- the specs of a declaration in a function, one after another
-    pub data AreDeclared : Scopes → List Form → Scopes → Type 0 where
-      declared_none : {s : Scopes} → AreDeclared s [] s
-      declared_more : {s t u : Scopes} {f : Form} {fs : List Form} {xs : List Entity} → Gives (form_env (within E s) f) [] f (objects xs) → fits (within E s) f → AreMet (form_env (within E s) f) s (nodes f)
-          → Declares s (some_names (names_of f)) (map local_of xs) t → AreDeclared t fs u → AreDeclared s (f ∷ fs) u
+    pub data AreDeclared : Enclosing → Scopes → List Form → Scopes → Type 0 where
+      declared_none : {r : Enclosing} {s : Scopes} → AreDeclared r s [] s
+      declared_more : {r : Enclosing} {s t u : Scopes} {f : Form} {fs : List Form} {xs : List Entity} → Gives (form_env (within E s) f) [] f (objects xs) → fits (within E s) f → AreMet r (form_env (within E s) f) s (nodes f)
+          → Declares s (some_names (names_of f)) (map local_of xs) t → AreDeclared r t fs u → AreDeclared r s (f ∷ fs) u
 
     -- the clauses of a switch, whose values can be compared with those of the type
-    pub data AreCases : List Term → Scopes → Term → List Case → Type 0 where
-      cases_none : {r : List Term} {s : Scopes} {t : Term} → AreCases r s t []
-      cases_default : {r : List Term} {s : Scopes} {t : Term} {c : Case} {cs : List Case} → (out-Case c).values ≡ None → IsTypedBlock r s (out-Case c).body → AreCases r s t cs → AreCases r s t (c ∷ cs)
-      cases_values : {r : List Term} {s : Scopes} {t : Term} {c : Case} {cs : List Case} {es : List Expr} → (out-Case c).values ≡ Some es → Each (IsCase (within E s) t) es → AreMet (within E s) s (map expression es)
+    pub data AreCases : Enclosing → Scopes → Term → List Case → Type 0 where
+      cases_none : {r : Enclosing} {s : Scopes} {t : Term} → AreCases r s t []
+      cases_default : {r : Enclosing} {s : Scopes} {t : Term} {c : Case} {cs : List Case} → (out-Case c).values ≡ None → IsTypedBlock r s (out-Case c).body → AreCases r s t cs → AreCases r s t (c ∷ cs)
+      cases_values : {r : Enclosing} {s : Scopes} {t : Term} {c : Case} {cs : List Case} {es : List Expr} → (out-Case c).values ≡ Some es → Each (IsCase (within E s) t) es → AreMet r (within E s) s (map expression es)
           → IsTypedBlock r s (out-Case c).body → AreCases r s t cs → AreCases r s t (c ∷ cs)
 
     -- the clauses of a type switch
-    pub data AreTypeCases : List Term → Scopes → Option Name → Term → List TypeCase → Type 0 where
-      type_cases_none : {r : List Term} {s : Scopes} {n : Option Name} {t : Term} → AreTypeCases r s n t []
-      type_cases_more : {r : List Term} {s u last : Scopes} {n : Option Name} {t : Term} {c : TypeCase} {cs : List TypeCase} (xs : List (Option Term)) → AreListed (within E s) t (out-TypeCase c).types xs → AreMet (within E s) s (listed_nodes (out-TypeCase c).types) → bound n (bound_type t xs) s u
+    pub data AreTypeCases : Enclosing → Scopes → Option Name → Term → List TypeCase → Type 0 where
+      type_cases_none : {r : Enclosing} {s : Scopes} {n : Option Name} {t : Term} → AreTypeCases r s n t []
+      type_cases_more : {r : Enclosing} {s u last : Scopes} {n : Option Name} {t : Term} {c : TypeCase} {cs : List TypeCase} (xs : List (Option Term)) → AreListed (within E s) t (out-TypeCase c).types xs → AreMet r (within E s) s (listed_nodes (out-TypeCase c).types) → bound n (bound_type t xs) s u
           → AreTyped r u (out-TypeCase c).body last → AreTypeCases r s n t cs → AreTypeCases r s n t (c ∷ cs)
 
     -- the clauses of a select
-    pub data AreSelectCases : List Term → Scopes → List SelectCase → Type 0 where
-      select_cases_none : {r : List Term} {s : Scopes} → AreSelectCases r s []
-      select_cases_more : {r : List Term} {s t last : Scopes} {c : SelectCase} {cs : List SelectCase} → Begins r s (out-SelectCase c).communication t → AreTyped r t (out-SelectCase c).body last → AreSelectCases r s cs
+    pub data AreSelectCases : Enclosing → Scopes → List SelectCase → Type 0 where
+      select_cases_none : {r : Enclosing} {s : Scopes} → AreSelectCases r s []
+      select_cases_more : {r : Enclosing} {s t last : Scopes} {c : SelectCase} {cs : List SelectCase} → Begins r s (out-SelectCase c).communication t → AreTyped r t (out-SelectCase c).body last → AreSelectCases r s cs
           → AreSelectCases r s (c ∷ cs)
 
     -- a statement of this kind is typed in the first scopes, and leaves the last
-    pub data Leaves : List Term → Scopes → KindLayer → Scopes → Type 0 where
-      leaves_empty : {r : List Term} {s : Scopes} → Leaves r s StmtKind-F.Empty s
-      leaves_call : {r : List Term} {s : Scopes} {e : Expr} {o : Operand} → IsOperand s e o → IsCallAlone (within E s) e → Leaves r s (StmtKind-F.Expr e) s
-      leaves_receive_alone : {r : List Term} {s : Scopes} {e : Expr} {o : Operand} → IsOperand s e o → IsReceiveAlone e → Leaves r s (StmtKind-F.Expr e) s
-      leaves_send : {r : List Term} {s : Scopes} {e x : Expr} {c o : Operand} {t u : Term} {d : Direction} → IsOperand s e c → IsTyped c t → under E.table t ≡ Term-F.Chan d u → sends d ≡ true → IsOperand s x o → UsableAs (within E s) o u
+    pub data Leaves : Enclosing → Scopes → KindLayer → Scopes → Type 0 where
+      leaves_empty : {r : Enclosing} {s : Scopes} → Leaves r s StmtKind-F.Empty s
+      leaves_call : {r : Enclosing} {s : Scopes} {e : Expr} {o : Operand} → IsOperand r s e o → IsCallAlone (within E s) e → Leaves r s (StmtKind-F.Expr e) s
+      leaves_receive_alone : {r : Enclosing} {s : Scopes} {e : Expr} {o : Operand} → IsOperand r s e o → IsReceiveAlone e → Leaves r s (StmtKind-F.Expr e) s
+      leaves_send : {r : Enclosing} {s : Scopes} {e x : Expr} {c o : Operand} {t u : Term} {d : Direction} → IsOperand r s e c → IsTyped c t → under E.table t ≡ Term-F.Chan d u → sends d ≡ true → IsOperand r s x o → UsableAs (within E s) o u
           → Leaves r s (StmtKind-F.Send e x) s
-      leaves_step : {r : List Term} {s : Scopes} {e : Expr} {op : StepOperator} {l o : Operand} {t : Term} → IsOperand s e l → IsAssigned l t → Computes (within E s) (step_operator op) l one o → UsableAs (within E s) o t → Leaves r s (StmtKind-F.Step e op) s
-      leaves_operation : {r : List Term} {s : Scopes} {e x : Expr} {op : AssignOperator} {l o q : Operand} {t : Term} → IsOperand s e l → IsAssigned l t → IsOperand s x o → Operates (within E s) op l o q → UsableAs (within E s) q t → Leaves r s (StmtKind-F.AssignOp e op x) s
-      leaves_assignment : {r : List Term} {s : Scopes} {es xs : List Expr} {os : List Operand} → Initialize (within E s) (length es) xs os → AreAssigned (within E s) es os → AreMet (within E s) s (map expression (es ++ xs)) → Leaves r s (StmtKind-F.Assign es xs) s
-      leaves_definition : {r : List Term} {scope : Named Seen} {outer t : Scopes} {ns : List Name} {xs : List Expr} {os : List Operand} {new : List (Option Name)} {ms : List Seen} → AreDistinctNames (texts ns)
-          → Initialize (within E (scope ∷ outer)) (length ns) xs os → AreDefined (within E (scope ∷ outer)) scope ns os new ms → new ≢ [] → AreMet (within E (scope ∷ outer)) (scope ∷ outer) (map expression xs)
+      leaves_step : {r : Enclosing} {s : Scopes} {e : Expr} {op : StepOperator} {l o : Operand} {t : Term} → IsOperand r s e l → IsAssigned l t → Computes (within E s) (step_operator op) l one o → UsableAs (within E s) o t → Leaves r s (StmtKind-F.Step e op) s
+      leaves_operation : {r : Enclosing} {s : Scopes} {e x : Expr} {op : AssignOperator} {l o q : Operand} {t : Term} → IsOperand r s e l → IsAssigned l t → IsOperand r s x o → Operates (within E s) op l o q → UsableAs (within E s) q t → Leaves r s (StmtKind-F.AssignOp e op x) s
+      leaves_assignment : {r : Enclosing} {s : Scopes} {es xs : List Expr} {os : List Operand} → Initialize (within E s) (length es) xs os → AreAssigned (within E s) es os → AreMet r (within E s) s (map expression (es ++ xs)) → Leaves r s (StmtKind-F.Assign es xs) s
+      leaves_definition : {r : Enclosing} {scope : Named Seen} {outer t : Scopes} {ns : List Name} {xs : List Expr} {os : List Operand} {new : List (Option Name)} {ms : List Seen} → AreDistinctNames (texts ns)
+          → Initialize (within E (scope ∷ outer)) (length ns) xs os → AreDefined (within E (scope ∷ outer)) scope ns os new ms → new ≢ [] → AreMet r (within E (scope ∷ outer)) (scope ∷ outer) (map expression xs)
           → Declares (scope ∷ outer) new ms t → Leaves r (scope ∷ outer) (StmtKind-F.Define ns xs) t
-      leaves_constants_declared : {r : List Term} {s t : Scopes} {specs : List ConstSpec} → AreDeclared s (constants_from no_spec 0 specs) t → Leaves r s (StmtKind-F.Const specs) t
-      leaves_variables_declared : {r : List Term} {s t : Scopes} {specs : List VarSpec} → AreDeclared s (map variables specs) t → Leaves r s (StmtKind-F.Var specs) t
-      leaves_labeled : {r : List Term} {s t : Scopes} {n : Name} {x : Stmt} → Leaves r s (kind_of x) t → Leaves r s (StmtKind-F.Labeled n x) t
-      leaves_go : {r : List Term} {s : Scopes} {e : Expr} {o : Operand} → IsOperand s e o → IsCallAlone (within E s) e → Leaves r s (StmtKind-F.Go e) s
-      leaves_defer : {r : List Term} {s : Scopes} {e : Expr} {o : Operand} → IsOperand s e o → IsCallAlone (within E s) e → Leaves r s (StmtKind-F.Defer e) s
-      leaves_return : {r : List Term} {s : Scopes} {es : List Expr} → Returns (within E s) r es → AreMet (within E s) s (map expression es) → Leaves r s (StmtKind-F.Return es) s
-      leaves_break : {r : List Term} {s : Scopes} {n : Option Name} → Leaves r s (StmtKind-F.Break n) s
-      leaves_continue : {r : List Term} {s : Scopes} {n : Option Name} → Leaves r s (StmtKind-F.Continue n) s
-      leaves_goto : {r : List Term} {s : Scopes} {n : Name} → Leaves r s (StmtKind-F.Goto n) s
-      leaves_fallthrough : {r : List Term} {s : Scopes} → Leaves r s StmtKind-F.Fallthrough s
-      leaves_inner_block : {r : List Term} {s : Scopes} {ss : List Stmt} → IsTypedBlock r s ss → Leaves r s (StmtKind-F.Block ss) s
-      leaves_if_then : {r : List Term} {s t : Scopes} {init : Option Stmt} {e : Expr} {ss : List Stmt} {other : Option Stmt} → Begins r s init t → IsCondition t (Some e) → IsTypedBlock r t ss → MayStand r t other → Leaves r s (StmtKind-F.If init e ss other) s
-      leaves_switch : {r : List Term} {s t : Scopes} {init : Option Stmt} {e : Option Expr} {u : Term} {cs : List Case} → Begins r s init t → IsTag (within E t) e u → AreMet (within E t) t (tag_nodes e) → AreCases r t u cs → Leaves r s (StmtKind-F.Switch init e cs) s
-      leaves_type_switch : {r : List Term} {s t : Scopes} {init : Option Stmt} {n : Option Name} {e : Expr} {o : Operand} {u : Term} {ms : List Method} {cs : List TypeCase} {xs : List (Option Term)} → Begins r s init t → NamesSomething n → IsOperand t e o → IsTyped o u
+      leaves_constants_declared : {r : Enclosing} {s t : Scopes} {specs : List ConstSpec} → AreDeclared r s (constants_from no_spec 0 specs) t → Leaves r s (StmtKind-F.Const specs) t
+      leaves_variables_declared : {r : Enclosing} {s t : Scopes} {specs : List VarSpec} → AreDeclared r s (map variables specs) t → Leaves r s (StmtKind-F.Var specs) t
+      leaves_labeled : {r : Enclosing} {s t : Scopes} {n : Name} {x : Stmt} → Leaves r s (kind_of x) t → Leaves r s (StmtKind-F.Labeled n x) t
+      leaves_go : {r : Enclosing} {s : Scopes} {e : Expr} {o : Operand} → IsOperand r s e o → IsCallAlone (within E s) e → Leaves r s (StmtKind-F.Go e) s
+      leaves_defer : {r : Enclosing} {s : Scopes} {e : Expr} {o : Operand} → IsOperand r s e o → IsCallAlone (within E s) e → Leaves r s (StmtKind-F.Defer e) s
+      leaves_return : {r : Enclosing} {s : Scopes} {es : List Expr} → Returns (within E s) r.results es → AreMet r (within E s) s (map expression es) → Leaves r s (StmtKind-F.Return es) s
+      leaves_break : {r : Enclosing} {s : Scopes} {n : Option Name} → Leaves r s (StmtKind-F.Break n) s
+      leaves_continue : {r : Enclosing} {s : Scopes} {n : Option Name} → Leaves r s (StmtKind-F.Continue n) s
+      leaves_goto : {r : Enclosing} {s : Scopes} {n : Name} → Leaves r s (StmtKind-F.Goto n) s
+      leaves_fallthrough : {r : Enclosing} {s : Scopes} → Leaves r s StmtKind-F.Fallthrough s
+      leaves_inner_block : {r : Enclosing} {s : Scopes} {ss : List Stmt} → IsTypedBlock r s ss → Leaves r s (StmtKind-F.Block ss) s
+      leaves_if_then : {r : Enclosing} {s t : Scopes} {init : Option Stmt} {e : Expr} {ss : List Stmt} {other : Option Stmt} → Begins r s init t → IsCondition r t (Some e) → IsTypedBlock r t ss → MayStand r t other → Leaves r s (StmtKind-F.If init e ss other) s
+      leaves_switch : {r : Enclosing} {s t : Scopes} {init : Option Stmt} {e : Option Expr} {u : Term} {cs : List Case} → Begins r s init t → IsTag (within E t) e u → AreMet r (within E t) t (tag_nodes e) → AreCases r t u cs → Leaves r s (StmtKind-F.Switch init e cs) s
+      leaves_type_switch : {r : Enclosing} {s t : Scopes} {init : Option Stmt} {n : Option Name} {e : Expr} {o : Operand} {u : Term} {ms : List Method} {cs : List TypeCase} {xs : List (Option Term)} → Begins r s init t → NamesSomething n → IsOperand r t e o → IsTyped o u
           → under E.table u ≡ Term-F.Interface ms → ListsClauses (within E t) u cs xs → Once xs → AreTypeCases r t n u cs → Leaves r s (StmtKind-F.TypeSwitch init n e cs) s
-      leaves_select : {r : List Term} {s : Scopes} {cs : List SelectCase} → AreSelectCases r s cs → Leaves r s (StmtKind-F.Select cs) s
-      leaves_for : {r : List Term} {s t : Scopes} {init post : Option Stmt} {e : Option Expr} {ss : List Stmt} → Begins r s init t → IsCondition t e → IsPost post → MayStand r t post → IsTypedBlock r t ss → Leaves r s (StmtKind-F.For init e post ss) s
-      leaves_while : {r : List Term} {s : Scopes} {e : Option Expr} {ss : List Stmt} → IsCondition s e → IsTypedBlock r s ss → Leaves r s (StmtKind-F.While e ss) s
-      leaves_range : {r : List Term} {s : Scopes} {e : Expr} {o : Operand} {ts : List Term} {ss : List Stmt} → IsOperand s e o → Ranges (within E s) o ts → IsTypedBlock r s ss → Leaves r s (StmtKind-F.Range e ss) s
-      leaves_range_assigned : {r : List Term} {s : Scopes} {es : List Expr} {e : Expr} {o : Operand} {ts : List Term} {ss : List Stmt} → IsOperand s e o → Ranges (within E s) o ts → length es ≤ length ts → AreAssigned (within E s) es (map plain (take (length es) ts))
-          → AreMet (within E s) s (map expression es) → IsTypedBlock r s ss → Leaves r s (StmtKind-F.RangeAssign es e ss) s
-      leaves_range_defined : {r : List Term} {s t : Scopes} {ns : List Name} {e : Expr} {o : Operand} {ts : List Term} {ss : List Stmt} → IsOperand s e o → Ranges (within E s) o ts → length ns ≤ length ts → IsNew ns
+      leaves_select : {r : Enclosing} {s : Scopes} {cs : List SelectCase} → AreSelectCases r s cs → Leaves r s (StmtKind-F.Select cs) s
+      leaves_for : {r : Enclosing} {s t : Scopes} {init post : Option Stmt} {e : Option Expr} {ss : List Stmt} → Begins r s init t → IsCondition r t e → IsPost post → MayStand r t post → IsTypedBlock r t ss → Leaves r s (StmtKind-F.For init e post ss) s
+      leaves_while : {r : Enclosing} {s : Scopes} {e : Option Expr} {ss : List Stmt} → IsCondition r s e → IsTypedBlock r s ss → Leaves r s (StmtKind-F.While e ss) s
+      leaves_range : {r : Enclosing} {s : Scopes} {e : Expr} {o : Operand} {ts : List Term} {ss : List Stmt} → IsOperand r s e o → Ranges (within E s) o ts → IsTypedBlock r s ss → Leaves r s (StmtKind-F.Range e ss) s
+      leaves_range_assigned : {r : Enclosing} {s : Scopes} {es : List Expr} {e : Expr} {o : Operand} {ts : List Term} {ss : List Stmt} → IsOperand r s e o → Ranges (within E s) o ts → length es ≤ length ts → AreAssigned (within E s) es (map plain (take (length es) ts))
+          → AreMet r (within E s) s (map expression es) → IsTypedBlock r s ss → Leaves r s (StmtKind-F.RangeAssign es e ss) s
+      leaves_range_defined : {r : Enclosing} {s t : Scopes} {ns : List Name} {e : Expr} {o : Operand} {ts : List Term} {ss : List Stmt} → IsOperand r s e o → Ranges (within E s) o ts → length ns ≤ length ts → IsNew ns
           → Declares (opened s) (some_names ns) (locals (take (length ns) ts)) t → IsTypedBlock r t ss → Leaves r s (StmtKind-F.RangeDefine ns e ss) s

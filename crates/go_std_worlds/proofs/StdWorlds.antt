@@ -1,5 +1,5 @@
 -- What the packages of the standard library keep while packages are typed one after another.
-use Rattle.std.proofs.Common.{◌≡◌, ◌⊎◌, ℕ, Bool, true, false, ◌||◌, List, ◌∷◌, Option, Some, None, map, refl, sym, ap, ◌∙◌, subst, inl, inr}
+use Rattle.std.proofs.Common.{◌≡◌, ◌⊎◌, ℕ, Bool, true, false, ◌||◌, List, [], ◌∷◌, Option, Some, None, map, refl, sym, ap, ◌∙◌, subst, inl, inr}
 use Rattle.std.specs.Str.{bytes_eq}
 use Rattle.std.proofs.lemmas.Slice.Eq.{bytes_eq-Decides}
 use Rattle.go_base.specs.Keys.{first_with}
@@ -13,15 +13,17 @@ use Rattle.go_model.specs.worlds.Worlds.{Packages, path_of, with_package}
 use Rattle.go_rules.proofs.OneKind.{no_truth}
 use Rattle.go_typed_packages.proofs.Lists.{own_placed}
 use Rattle.go_typings.proofs.Cells.{either, maybe, none_some}
+use Rattle.go_typings.proofs.HeldImports.{path_found, path_missing}
 use Rattle.go_typings.proofs.ReachedRegion.{or_second, region, weaker}
-use Rattle.go_typings.proofs.SameTypings.{typed_same}
-use Rattle.go_typings.specs.PackageWorlds.{AreTyped, Become, become_none, become_more, Outcome, typed, refused, blocked, is_public, is_typed, no_packages, over}
-use Rattle.go_typings.specs.ReachedPackages.{AreReached, ReachesSame, is_reached}
+use Rattle.go_typings.specs.PackageWorlds.{AreTyped, Outcome, typed, refused, blocked, is_public, is_typed, no_packages, over}
+use Rattle.go_typings.specs.ReachedPackages.{AreReached, HoldImports, ReachesSame, is_reached}
 use Rattle.go_typings.specs.Sources.{PackageSource}
-use Rattle.go_typings.specs.TypedPackages.{IsTypedAs}
+use Rattle.go_exposed.specs.OfferedPackages.{IsOfferedAs}
+use Rattle.go_exposed.specs.OfferedWorlds.{Become, become_none, become_more}
+use Rattle.go_exposed.proofs.SameImports.{offered_same}
 use Rattle.go_std_worlds.proofs.MoreLists.{found_after, found_still, has_key, key_finds, mapped}
 use Rattle.go_std_worlds.proofs.TypedNames.{typed_names}
-use Rattle.go_std_worlds.specs.StdSources.{KeepStdApart, HaveOwnPaths, source_path}
+use Rattle.go_std_worlds.specs.StdSources.{KeepStdApart, HaveOwnPaths, HavePaths, source_path}
 
 -- ---- the packages of the standard library in a world
 
@@ -29,12 +31,18 @@ abbrev pub is_std : Option Package → Bool
 is_std None = false
 is_std (Some p) = p.from_std
 
--- at this path stands a package of the standard library
+-- at this path stands a package of the standard library, or the path is empty, as that under which an import is had that isn't found
 abbrev pub std_in : Packages → List ℕ → Bool
-std_in w path = is_std (first_with path_of w.packages path)
+std_in w path = is_std (first_with path_of w.packages path) || bytes_eq path []
+
+pub std_either : (w : Packages) (path : List ℕ) → std_in w path ≡ true → (is_std (first_with path_of w.packages path) ≡ true) ⊎ (path ≡ [])
+std_either w path e = elim (either (is_std (first_with path_of w.packages path))) [
+  | inl i ↦ inl i
+  | inr n ↦ inr ((bytes_eq-Decides path []).0 (or_second (is_std (first_with path_of w.packages path)) (bytes_eq path []) n e))
+]
 
 -- the package that stands there
-pub std_found : (w : Packages) (path : List ℕ) → std_in w path ≡ true → (p : Package) × (first_with path_of w.packages path ≡ Some p) × (p.from_std ≡ true)
+pub std_found : (w : Packages) (path : List ℕ) → is_std (first_with path_of w.packages path) ≡ true → (p : Package) × (first_with path_of w.packages path ≡ Some p) × (p.from_std ≡ true)
 std_found w path e = elim (maybe (first_with path_of w.packages path)) [
   | inl q ↦ (q.0, q.1, sym (ap is_std q.1) ∙ e)
   | inr n ↦ absurd (no_truth (sym e ∙ ap is_std n))
@@ -57,12 +65,17 @@ pub record TypedIn (bits : ℕ) (all : List PackageSource) (w : Packages) (path 
   pub among : Has all source
   pub place : source.path ≡ path
   pub imports : AreTyped w source
-  pub typed : IsTypedAs (over bits w) source p
+  pub typed : IsOfferedAs (over bits w) source p
 
 pub record Keeps (bits : ℕ) (all : List PackageSource) (w : Packages) : Type 0 where
+  pub empty : first_with path_of w.packages [] ≡ None
   pub closed : IsStdClosed w
   pub written : (path : List ℕ) (p : Package) → first_with path_of w.packages path ≡ Some p → WrittenAs all path p
   pub typed : (path : List ℕ) (p : Package) → first_with path_of w.packages path ≡ Some p → p.from_std ≡ true → TypedIn bits all w path p
+
+or_left : (a b : Bool) → a ≡ true → (a || b) ≡ true
+or_left true b e = refl
+or_left false b e = absurd (no_truth (sym e))
 
 or_right : (a b : Bool) → b ≡ true → (a || b) ≡ true
 or_right true b e = refl
@@ -72,21 +85,30 @@ or_more : (a b c : Bool) → (b ≡ true → c ≡ true) → (a || b) ≡ true �
 or_more true b c h e = refl
 or_more false b c h e = h e
 
-module _ (bits : ℕ) (all : List PackageSource) (apart : KeepStdApart all) where
+module _ (bits : ℕ) (all : List PackageSource) (apart : KeepStdApart all) (paths : HavePaths all) where
   -- a package of the standard library reaches packages of it alone
   pub std_reached : (w : Packages) (u : PackageSource) → Keeps bits all w → Has all u → u.from_std ≡ true → AreTyped w u → AreReached w u (std_in w)
   std_reached w u k h std t = record {
     imports = λ file i has found. (
         let q = key_finds path_of w.packages i.path (t file i has found) in
         let s = k.written i.path q.0 q.1 in
-        ap is_std q.1 ∙ s.side ∙ apart.std_imports u s.source file i h s.among std has found s.place
+        or_left (is_std (first_with path_of w.packages i.path)) (bytes_eq i.path []) (ap is_std q.1 ∙ s.side ∙ apart.std_imports u s.source file i h s.among std has found s.place)
         );
-    closed = λ path p r e. k.closed path p e (sym (ap is_std e) ∙ r);
+    closed = λ path p r e. elim (std_either w path r) [
+      | inl i ↦ k.closed path p e (sym (ap is_std e) ∙ i)
+      | inr n ↦ none_some (first_with path_of w.packages []) p k.empty (ap (first_with path_of w.packages) (sym n) ∙ e)
+    ];
   }
+
+  pub std_held : (w : Packages) (u : PackageSource) → Keeps bits all w → Has all u → u.from_std ≡ true → AreTyped w u → HoldImports u (std_in w)
+  std_held w u k h std t file i has = elim (either i.is_found) [
+    | inl e ↦ ap (std_in w) (path_found i e) ∙ (std_reached w u k h std t).imports file i has e
+    | inr e ↦ ap (std_in w) (path_missing i e) ∙ or_right (is_std (first_with path_of w.packages [])) (bytes_eq [] []) ((bytes_eq-Decides [] []).1 refl)
+  ]
 
   -- ---- one package more
 
-  module _ (w : Packages) (u : PackageSource) (p : Package) (k : Keeps bits all w) (h : Has all u) (free : Has (map path_of w.packages) u.path → ⊥) (t : AreTyped w u) (y : IsTypedAs (over bits w) u p) where
+  module _ (w : Packages) (u : PackageSource) (p : Package) (k : Keeps bits all w) (h : Has all u) (free : Has (map path_of w.packages) u.path → ⊥) (t : AreTyped w u) (y : IsOfferedAs (over bits w) u p) where
     abbrev x : Packages
     x = with_package w p (is_public u)
 
@@ -100,13 +122,26 @@ module _ (bits : ℕ) (all : List PackageSource) (apart : KeepStdApart all) wher
     after = found_after path_of p w.packages new
 
     std_still : (path : List ℕ) → std_in w path ≡ true → std_in x path ≡ true
-    std_still path e = let q = std_found w path e in ap is_std (still path q.0 q.1) ∙ q.2
+    std_still path e = elim (std_either w path e) [
+      | inl i ↦ (let q = std_found w path i in or_left (is_std (first_with path_of x.packages path)) (bytes_eq path []) (ap is_std (still path q.0 q.1) ∙ q.2))
+      | inr n ↦ or_right (is_std (first_with path_of x.packages path)) (bytes_eq path []) ((bytes_eq-Decides path []).1 n)
+    ]
+
+    -- it isn't at the empty path
+    empty_more : first_with path_of x.packages [] ≡ None
+    empty_more = elim (maybe (first_with path_of x.packages [])) [
+      | inl q ↦ elim (after [] q.0 q.1) [
+        | inl own ↦ absurd (paths u h (sym y.«package».path ∙ own.0))
+        | inr old ↦ none_some (first_with path_of w.packages []) q.0 k.empty old
+      ]
+      | inr n ↦ n
+    ]
 
     own_std : p.from_std ≡ true → (n : TypeName) → (region u (std_in w)).types n ≡ true → is_reached (std_in x) n ≡ true
     own_std std n i = elim (either (bytes_eq u.path n.path)) [
       | inl e ↦ (
           let same : n.path ≡ p.path = sym (y.«package».path ∙ (bytes_eq-Decides u.path n.path).0 e) in
-          or_right (is_error n) (std_in x n.path) (ap is_std (ap (first_with path_of x.packages) same ∙ own_placed path_of p w.packages new) ∙ std)
+          or_right (is_error n) (std_in x n.path) (or_left (is_std (first_with path_of x.packages n.path)) (bytes_eq n.path []) (ap is_std (ap (first_with path_of x.packages) same ∙ own_placed path_of p w.packages new) ∙ std))
           )
       | inr e ↦ or_more (is_error n) (std_in w n.path) (std_in x n.path) (std_still n.path) (or_second (bytes_eq u.path n.path) (is_reached (std_in w) n) e i)
     ]
@@ -115,7 +150,8 @@ module _ (bits : ℕ) (all : List PackageSource) (apart : KeepStdApart all) wher
     closed_more path q e std = elim (after path q e) [
       | inl own ↦ (
           let from_std : p.from_std ≡ true = ap (λ (z : Package). z.from_std) own.1 ∙ std in
-          let names = typed_names (over bits w) u (std_in w) p (std_reached w u k h (sym y.«package».from_std ∙ from_std) t) y in
+          let here : u.from_std ≡ true = sym y.«package».from_std ∙ from_std in
+          let names = typed_names (over bits w) u (std_in w) p (std_reached w u k h here t) (std_held w u k h here t) y in
           subst (λ (z : Package). Passes (is_reached (std_in x)) (package_names z)) own.1 (weaker (region u (std_in w)).types (is_reached (std_in x)) (own_std from_std) (package_names p) names)
           )
       | inr old ↦ weaker (is_reached (std_in w)) (is_reached (std_in x)) (λ n. or_more (is_error n) (std_in w n.path) (std_in x n.path) (std_still n.path)) (package_names q) (k.closed path q old std)
@@ -128,7 +164,10 @@ module _ (bits : ℕ) (all : List PackageSource) (apart : KeepStdApart all) wher
         let same : ReachesSame a.source (over bits w) (over bits x) = record {
           reached = std_in w;
           are = std_reached w a.source k a.among from_std a.imports;
-          same = λ z i. (let f = std_found w z i in f.1 ∙ sym (still z f.0 f.1));
+          same = λ z i. elim (std_either w z i) [
+            | inl j ↦ (let f = std_found w z j in f.1 ∙ sym (still z f.0 f.1))
+            | inr n ↦ ap (first_with path_of w.packages) n ∙ k.empty ∙ sym empty_more ∙ ap (first_with path_of x.packages) (sym n)
+          ];
           bits = refl;
           profile = refl;
         } in record {
@@ -136,18 +175,19 @@ module _ (bits : ℕ) (all : List PackageSource) (apart : KeepStdApart all) wher
           among = a.among;
           place = a.place;
           imports = λ file i has found. keys_kept path_of p w.packages i.path (a.imports file i has found);
-          typed = typed_same a.source (over bits w) (over bits x) same q a.typed;
+          typed = offered_same a.source (over bits w) (over bits x) same (std_held w a.source k a.among from_std a.imports) q a.typed;
         }
 
     pub keeps_more : Keeps bits all x
     keeps_more = record {
+      empty = empty_more;
       closed = closed_more;
       written = λ path q e. elim (after path q e) [
         | inl own ↦ record { source = u; among = h; place = sym y.«package».path ∙ own.0; side = ap (λ (z : Package). z.from_std) (sym own.1) ∙ y.«package».from_std }
         | inr old ↦ k.written path q old
       ];
       typed = λ path q e std. elim (after path q e) [
-        | inl own ↦ typed_more path q std (record { source = u; among = h; place = sym y.«package».path ∙ own.0; imports = t; typed = subst (IsTypedAs (over bits w) u) own.1 y })
+        | inl own ↦ typed_more path q std (record { source = u; among = h; place = sym y.«package».path ∙ own.0; imports = t; typed = subst (IsOfferedAs (over bits w) u) own.1 y })
         | inr old ↦ typed_more path q std (k.typed path q old std)
       ];
     }
@@ -162,7 +202,7 @@ module _ (bits : ℕ) (all : List PackageSource) (apart : KeepStdApart all) wher
   -- ---- all of them
 
   pub keeps_none : Keeps bits all no_packages
-  keeps_none = record { closed = λ path p e. none_some None p refl e; written = λ path p e. none_some None p refl e; typed = λ path p e. none_some None p refl e }
+  keeps_none = record { empty = refl; closed = λ path p e. none_some None p refl e; written = λ path p e. none_some None p refl e; typed = λ path p e. none_some None p refl e }
 
   -- packages that have paths of their own
   pub record AreNew (w : Packages) (us : List PackageSource) : Type 0 where
@@ -170,14 +210,14 @@ module _ (bits : ℕ) (all : List PackageSource) (apart : KeepStdApart all) wher
     pub free : (u : PackageSource) → Has us u → Has (map path_of w.packages) u.path → ⊥
     pub own : HaveOwnPaths us
 
-  pub new_rest : (w : Packages) (u : PackageSource) (us : List PackageSource) (p : Package) → Keeps bits all w → AreNew w (u ∷ us) → AreTyped w u → IsTypedAs (over bits w) u p → AreNew (with_package w p (is_public u)) us
+  pub new_rest : (w : Packages) (u : PackageSource) (us : List PackageSource) (p : Package) → Keeps bits all w → AreNew w (u ∷ us) → AreTyped w u → IsOfferedAs (over bits w) u p → AreNew (with_package w p (is_public u)) us
   new_rest w u us p k n t y = record {
     among = λ v h. n.among v (inr h);
     free = λ v h. free_more w u p k (n.among u (inl refl)) (n.free u (inl refl)) t y v (n.free v (inr h)) (λ e. n.own.0 (subst (Has (map source_path us)) e (mapped source_path us v h)));
     own = n.own.1;
   }
 
-  pub keeps_next : (w : Packages) (u : PackageSource) (us : List PackageSource) (p : Package) → Keeps bits all w → AreNew w (u ∷ us) → AreTyped w u → IsTypedAs (over bits w) u p → Keeps bits all (with_package w p (is_public u))
+  pub keeps_next : (w : Packages) (u : PackageSource) (us : List PackageSource) (p : Package) → Keeps bits all w → AreNew w (u ∷ us) → AreTyped w u → IsOfferedAs (over bits w) u p → Keeps bits all (with_package w p (is_public u))
   keeps_next w u us p k n t y = keeps_more w u p k (n.among u (inl refl)) (n.free u (inl refl)) t y
 
   pub keeps_all : {w v : Packages} {us : List PackageSource} {xs : List Outcome} → Become bits w us xs v → Passes is_typed xs → AreNew w us → Keeps bits all w → Keeps bits all v

@@ -1,5 +1,5 @@
 -- The units of two modules over one tree of the standard library, and their worlds.
-use Rattle.std.proofs.Common.{◌≡◌, ◌<◌, ℕ, zero, suc, Bool, true, false, Some, Ok, List, [], ◌∷◌, map, length, refl, sym, ap, ◌∙◌, subst, inl, inr, arith}
+use Rattle.std.proofs.Common.{◌≡◌, ◌≢◌, ◌<◌, ℕ, zero, suc, Bool, true, false, Some, Ok, List, [], ◌∷◌, map, length, refl, sym, ap, ◌∙◌, subst, inl, inr, arith}
 use Rattle.std.specs.Prelude.{slice_get}
 use Rattle.go_base.specs.Keys.{first_with}
 use Rattle.go_base.specs.Lists.{Has}
@@ -16,7 +16,7 @@ use Rattle.go_reading.specs.FolderReadings.{IsReading}
 use Rattle.go_reading.specs.TreeFolders.{ReadsFolder}
 use Rattle.go_reading.specs.TreeUnits.{AreUnitsOfTrees}
 use Rattle.go_sources.specs.UnitSources.{file_of, import_of, source_of}
-use Rattle.go_typings.specs.PackageWorlds.{IsWorldOf}
+use Rattle.go_exposed.specs.OfferedWorlds.{IsWorldOf}
 use Rattle.go_typings.specs.Sources.{Import, PackageSource, imports_in}
 use Rattle.go_units.proofs.FolderLookups.{at_once}
 use Rattle.go_units.proofs.Giving.{given_by}
@@ -33,7 +33,7 @@ use Rattle.go_std_worlds.proofs.OwnPaths.{own_paths}
 use Rattle.go_std_worlds.proofs.SameFolders.{named_std}
 use Rattle.go_std_worlds.proofs.SameStdWorlds.{same_std, written_side}
 use Rattle.go_std_worlds.proofs.SameUnits.{Run, source_same}
-use Rattle.go_std_worlds.specs.StdSources.{KeepStdApart, HaveSameStd}
+use Rattle.go_std_worlds.specs.StdSources.{KeepStdApart, HavePaths, HaveSameStd}
 use Rattle.go_std_worlds.specs.TwoModules.{AreOfTwoModules, sources_of}
 
 -- an import of a unit as it is written is one of a file of it
@@ -99,6 +99,10 @@ module _ (p : Platform) (barred : List (List ℕ)) (std_tree tree : Tree) (units
         );
   }
 
+-- the paths of units as they are written
+pub have_paths : (units : Units) → ((u : PackageUnit) → Has units.packages u → u.path ≢ []) → HavePaths (sources_of units)
+have_paths units f u h e = let q = mapped_from source_of units.packages u h in f q.0 q.1 (ap (λ (z : PackageSource). z.path) q.2 ∙ e)
+
 -- ---- the units of both
 
 module _ (p : Platform) (barred : List (List ℕ)) (std_tree ta tb : Tree) (old new : Units) (k : AreOfTwoModules p barred std_tree ta tb old new) where
@@ -112,10 +116,10 @@ module _ (p : Platform) (barred : List (List ℕ)) (std_tree ta tb : Tree) (old 
   pub one_side : (u v : PackageUnit) → Has old.packages u → Has new.packages v → u.path ≡ v.path → u.from_std ≡ v.from_std
   one_side u v h l path = side_by u v u.from_std v.from_std h l path refl refl
 
-  pub sides_same : (bits : ℕ) (w v : Packages) → IsWorldOf bits (sources_of old) w → IsWorldOf bits (sources_of new) v → (path : List ℕ) (a b : Package) → first_with path_of w.packages path ≡ Some a → first_with path_of v.packages path ≡ Some b → a.from_std ≡ b.from_std
-  sides_same bits w v x y path a b e f =
-      let q = written_side bits (sources_of old) w (apart p barred std_tree ta old k.old_units) x path a e in
-      let r = written_side bits (sources_of new) v (apart p barred std_tree tb new k.new_units) y path b f in
+  pub sides_same : (x : HavePaths (sources_of old)) (y : HavePaths (sources_of new)) (bits : ℕ) (w v : Packages) → IsWorldOf bits (sources_of old) w → IsWorldOf bits (sources_of new) v → (path : List ℕ) (a b : Package) → first_with path_of w.packages path ≡ Some a → first_with path_of v.packages path ≡ Some b → a.from_std ≡ b.from_std
+  sides_same o n bits w v x y path a b e f =
+      let q = written_side bits (sources_of old) w (apart p barred std_tree ta old k.old_units) o x path a e in
+      let r = written_side bits (sources_of new) v (apart p barred std_tree tb new k.new_units) n y path b f in
       let s = mapped_from source_of old.packages q.0 q.1 in
       let t = mapped_from source_of new.packages r.0 r.1 in
       let paths : s.0.path ≡ t.0.path = ap (λ (z : PackageSource). z.path) s.2 ∙ q.2 ∙ sym (ap (λ (z : PackageSource). z.path) t.2 ∙ r.2) in
@@ -135,5 +139,5 @@ module _ (p : Platform) (barred : List (List ℕ)) (std_tree ta tb : Tree) (old 
         let paths : a.0.path ≡ b.0.path = ap (λ (z : PackageSource). z.path) a.2 ∙ path ∙ sym (ap (λ (z : PackageSource). z.path) b.2) in
         sym a.2 ∙ one_source a.0 b.0 a.1 b.1 paths (ap (λ (z : PackageSource). z.from_std) a.2 ∙ std) ∙ b.2
 
-    pub packages_same : (bits : ℕ) (w v : Packages) → IsWorldOf bits (sources_of old) w → IsWorldOf bits (sources_of new) v → (path : List ℕ) (a b : Package) → first_with path_of w.packages path ≡ Some a → first_with path_of v.packages path ≡ Some b → a.from_std ≡ true → a ≡ b
-    packages_same bits w v = same_std bits (sources_of old) (sources_of new) w v (apart p barred std_tree ta old k.old_units) (apart p barred std_tree tb new k.new_units) have_same
+    pub packages_same : HavePaths (sources_of old) → HavePaths (sources_of new) → (bits : ℕ) (w v : Packages) → IsWorldOf bits (sources_of old) w → IsWorldOf bits (sources_of new) v → (path : List ℕ) (a b : Package) → first_with path_of w.packages path ≡ Some a → first_with path_of v.packages path ≡ Some b → a.from_std ≡ true → a ≡ b
+    packages_same o n bits w v = same_std bits (sources_of old) (sources_of new) w v (apart p barred std_tree ta old k.old_units) (apart p barred std_tree tb new k.new_units) o n have_same

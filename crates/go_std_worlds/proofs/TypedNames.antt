@@ -1,4 +1,4 @@
--- The names in the types of a typed package are its own, or of packages that it reaches.
+-- The names in the types of a package that is offered are its own, or of packages that it reaches.
 use Rattle.std.proofs.Common.{◌≡◌, ℕ, zero, suc, Bool, true, false, ◌||◌, List, [], ◌∷◌, Option, Some, None, refl, sym, ap, ◌∙◌, subst}
 use Rattle.std.specs.Prelude.{slice_get}
 use Rattle.go_base.specs.Gathered.{gather}
@@ -18,21 +18,19 @@ use Rattle.go_rules.proofs.LocalTerms.{close_in, each_passes, passes_both}
 use Rattle.go_rules.proofs.LocalTypes.{each_made}
 use Rattle.go_rules.specs.Regions.{EntityIn, Region, SignatureIn, TermIn}
 use Rattle.go_rules.specs.Scopes.{entity_of}
-use Rattle.go_typed_packages.proofs.OwnDeclarations.{had_as, own_type_of}
+use Rattle.go_exposed.specs.OfferedPackages.{IsOfferedAs, IsPackageOf}
+use Rattle.go_typed_packages.proofs.OwnDeclarations.{had_as, kept_denotes, own_type_of}
 use Rattle.go_typed_packages.proofs.Shapes.{type_of}
 use Rattle.go_typings.proofs.Cells.{none_some, some_once}
-use Rattle.go_typings.proofs.FoundImports.{are_found}
 use Rattle.go_typings.proofs.GrowEnvironments.{object_back}
 use Rattle.go_typings.proofs.OnePackage.{found, in_order}
 use Rattle.go_typings.proofs.ReachedRegion.{EntriesIn, own_path, region}
 use Rattle.go_typings.proofs.SameImports.{entries_in}
-use Rattle.go_typings.specs.Assignments.{all_of}
 use Rattle.go_typings.specs.Declarations.{Form, constants, variables, alias, definition, function, method, Declared, declarations, declared}
 use Rattle.go_typings.specs.PackageEnvironments.{Entries, objects, underlying, signed, entity_at, entity_by, had, object_of, own_type}
-use Rattle.go_typings.specs.ReachedPackages.{AreReached, is_reached}
+use Rattle.go_typings.specs.ReachedPackages.{AreReached, HoldImports, is_reached}
 use Rattle.go_typings.specs.Receivers.{methods}
 use Rattle.go_typings.specs.Sources.{PackageSource, Setting}
-use Rattle.go_typings.specs.TypedPackages.{IsPackageOf, IsTypedAs}
 
 or_left : (a b : Bool) → a ≡ true → (a || b) ≡ true
 or_left true b e = refl
@@ -78,7 +76,7 @@ module _ (u : PackageSource) (reached : List ℕ → Bool) where
       object_in : (o : Object) → Has p.objects o → Passes R.types (object_names o)
       object_in o k =
           let e = sym (x.objects o.name) ∙ ap entity_of (found object_name p.objects o (in_order object_name p.objects x.objects_ordered) k) in
-          entity_names o.entity (entity_at_in (declared (declarations u) o.name) o.entity e)
+          entity_names o.entity (entity_at_in (declared (declarations u) o.name) o.entity (kept_denotes u.path b (declared (declarations u) o.name) o.entity e))
 
       method_in : (name : List ℕ) (m : MethodOf) → Has (had b (methods u name)) m → SignatureIn R m.signature
       method_in name m k = let q = had_as b (methods u name) m k in h q.declares.number (signed m.signature) q.entry
@@ -94,8 +92,8 @@ module _ (u : PackageSource) (reached : List ℕ → Bool) where
       names_in : Passes R.types (package_names p)
       names_in = passes_both R.types (gather object_names p.objects) (gather defined_names p.defined) (each_passes R.types object_names p.objects (each_made p.objects object_in)) (each_passes R.types defined_names p.defined (each_made p.defined defined_in))
 
--- a name in the types of a typed package is one of its own types, or of what it reaches
-pub typed_names : (s : Setting) (u : PackageSource) (reached : List ℕ → Bool) (p : Package) → AreReached s.world u reached → IsTypedAs s u p → Passes (region u reached).types (package_names p)
-typed_names s u reached p r t =
-    let inside = entries_in u s s (record { reached = reached; are = r; same = λ path i. refl; bits = refl; profile = refl }) (are_found u t.found) (all_of (declarations u)) t.entries t.typing.had in
+-- a name in the types of a package that is offered is one of its own types, or of what it reaches
+pub typed_names : (s : Setting) (u : PackageSource) (reached : List ℕ → Bool) (p : Package) → AreReached s.world u reached → HoldImports u reached → IsOfferedAs s u p → Passes (region u reached).types (package_names p)
+typed_names s u reached p r all t =
+    let inside = entries_in u s s (record { reached = reached; are = r; same = λ path i. refl; bits = refl; profile = refl }) all t.within t.entries t.kept.typing.had in
     names_in u reached t.entries inside p t.«package»

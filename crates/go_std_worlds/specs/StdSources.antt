@@ -1,6 +1,6 @@
 -- The packages of the standard library among others, as they are written.
 -- Public source: Go specification, "Import declarations". Own: a package of the standard library seeks its imports there alone.
-use Rattle.std.specs.Prelude.{◌≡◌, ℕ, true, List, map}
+use Rattle.std.specs.Prelude.{◌≡◌, ◌≢◌, ℕ, true, List, [], map}
 use Rattle.go_base.specs.Lists.{Has, Once}
 use Rattle.go_typings.specs.Sources.{Import, PackageSource, imports_of}
 
@@ -10,6 +10,10 @@ source_path u = u.path
 -- no path stands twice
 abbrev pub HaveOwnPaths : List PackageSource → Type 0
 HaveOwnPaths us = Once (map source_path us)
+
+-- no path is empty
+abbrev pub HavePaths : List PackageSource → Type 0
+HavePaths us = (u : PackageSource) → Has us u → u.path ≢ []
 
 -- where an import of a package of the standard library is found, what is there is of the standard library too
 abbrev pub StdImportsStd : List PackageSource → Type 0

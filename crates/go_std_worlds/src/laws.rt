@@ -1,8 +1,10 @@
 //! Laws of the definitions.
-ghost use Rattle.std.specs.Prelude.{◌≡◌, ◌||◌, ℕ, Bool, true, false, List, Some, Ok};
+ghost use Rattle.std.specs.Prelude.{◌≡◌, ◌≢◌, ◌||◌, ℕ, Bool, true, false, List, [], Some, Ok};
 ghost use Rattle.std.specs.Str.{bytes_eq};
 ghost use Rattle.go_base.specs.Keys.{first_with};
 ghost use Rattle.go_base.specs.Lists.{Has, Passes};
+ghost use Rattle.go_exposed.specs.OfferedPackages.{IsOfferedAs};
+ghost use Rattle.go_exposed.specs.OfferedWorlds.{IsWorldOf};
 ghost use Rattle.go_imports.specs.ImportPaths.{IsUnder};
 ghost use Rattle.go_model.specs.declared.files.platform.Platform.{Platform};
 ghost use Rattle.go_model.specs.declared.files.tree.Tree.{Tree};
@@ -12,27 +14,25 @@ ghost use Rattle.go_model.specs.worlds.PackageTypes.{package_names};
 ghost use Rattle.go_model.specs.worlds.Worlds.{Packages, path_of};
 ghost use Rattle.go_reading.specs.TreeUnits.{AreUnitsOfTrees};
 ghost use Rattle.go_sources.specs.UnitSources.{source_of};
-ghost use Rattle.go_std_worlds.specs.StdSources.{KeepStdApart, HaveSameStd};
+ghost use Rattle.go_std_worlds.specs.StdSources.{KeepStdApart, HavePaths, HaveSameStd};
 ghost use Rattle.go_std_worlds.specs.TwoModules.{AreOfTwoModules, sources_of};
-ghost use Rattle.go_typings.specs.PackageWorlds.{IsWorldOf};
-ghost use Rattle.go_typings.specs.ReachedPackages.{AreReached, is_reached};
+ghost use Rattle.go_typings.specs.ReachedPackages.{AreReached, HoldImports, is_reached};
 ghost use Rattle.go_typings.specs.Sources.{PackageSource, Setting};
-ghost use Rattle.go_typings.specs.TypedPackages.{IsTypedAs};
 ghost use Rattle.go_units.specs.declared.unit.«Unit».{«Unit» as PackageUnit};
 ghost use Rattle.go_units.specs.declared.unit_list.Units.{Units};
 
 use go_reading::laws::one_reading;
 
-/// Each name in the types of a typed package is of a type of its own, or of what it reaches.
+/// Each name in the types of a package that is offered is of a type of its own, or of what it reaches.
 pub fn typed_names()
-    ensures { (s : Setting) (u : PackageSource) (reached : List ℕ → Bool) (p : Package) → AreReached s.world u reached → IsTypedAs s u p
+    ensures { (s : Setting) (u : PackageSource) (reached : List ℕ → Bool) (p : Package) → AreReached s.world u reached → HoldImports u reached → IsOfferedAs s u p
         → Passes (λ (n : TypeName). bytes_eq u.path n.path || is_reached reached n) (package_names p) }
 {}
 
 /// In the worlds of two lists of packages those of the standard library that stand in both are the same, where all that have
 /// their paths in both lists are written the same.
 pub fn shared_std()
-    ensures { (bits : ℕ) (us vs : List PackageSource) (w v : Packages) → KeepStdApart us → KeepStdApart vs → HaveSameStd us vs
+    ensures { (bits : ℕ) (us vs : List PackageSource) (w v : Packages) → KeepStdApart us → KeepStdApart vs → HavePaths us → HavePaths vs → HaveSameStd us vs
         → IsWorldOf bits us w → IsWorldOf bits vs v → (path : List ℕ) (p q : Package) → first_with path_of w.packages path ≡ Some p
         → first_with path_of v.packages path ≡ Some q → p.from_std ≡ true → p ≡ q }
 {}
@@ -66,11 +66,13 @@ pub fn same_std_units()
 /// they are the same.
 pub fn same_std_packages()
     ensures sides { (p : Platform) (barred : List (List ℕ)) (std_tree old_tree new_tree : Tree) (old new : Units) (bits : ℕ)
-        (w v : Packages) → AreOfTwoModules p barred std_tree old_tree new_tree old new → IsWorldOf bits (sources_of old) w
+        (w v : Packages) → AreOfTwoModules p barred std_tree old_tree new_tree old new
+        → ((u : PackageUnit) → Has old.packages u → u.path ≢ []) → ((u : PackageUnit) → Has new.packages u → u.path ≢ []) → IsWorldOf bits (sources_of old) w
         → IsWorldOf bits (sources_of new) v → (path : List ℕ) (a b : Package) → first_with path_of w.packages path ≡ Some a
         → first_with path_of v.packages path ≡ Some b → a.from_std ≡ b.from_std }
     ensures same { (p : Platform) (barred : List (List ℕ)) (std_tree old_tree new_tree : Tree) (old new : Units) (bits : ℕ)
-        (w v : Packages) → AreOfTwoModules p barred std_tree old_tree new_tree old new → IsWorldOf bits (sources_of old) w
+        (w v : Packages) → AreOfTwoModules p barred std_tree old_tree new_tree old new
+        → ((u : PackageUnit) → Has old.packages u → u.path ≢ []) → ((u : PackageUnit) → Has new.packages u → u.path ≢ []) → IsWorldOf bits (sources_of old) w
         → IsWorldOf bits (sources_of new) v → (path : List ℕ) (a b : Package) → first_with path_of w.packages path ≡ Some a
         → first_with path_of v.packages path ≡ Some b → a.from_std ≡ true → a ≡ b }
 {

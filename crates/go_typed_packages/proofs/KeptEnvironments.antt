@@ -1,6 +1,6 @@
 -- The environments of a package's declarations are kept, where what it is typed over and its entries are; so its entries are, and
 -- the package.
-use Rattle.std.proofs.Common.{◌≡◌, ℕ, zero, suc, ◌<◌, false, List, [], ◌∷◌, Option, Some, None, refl, sym, ap, ◌∙◌, subst, inl, inr, arith}
+use Rattle.std.proofs.Common.{◌≡◌, ℕ, zero, suc, ◌<◌, Bool, false, List, [], ◌∷◌, Option, Some, None, refl, sym, ap, ◌∙◌, subst, inl, inr, arith}
 use Rattle.std.specs.Prelude.{codes, slice_get}
 use Rattle.std.specs.List.Sorted.{IsStrictlySortedBy}
 use Rattle.std.specs.Option.{option_or}
@@ -35,23 +35,21 @@ use Rattle.go_rules.specs.declared.predeclared.Predeclared.{Predeclared}
 use Rattle.go_rules.specs.declared.seen.Seen.{Seen}
 use Rattle.go_rules.specs.declared.seen.Seen.TheVariants as seen
 use Rattle.go_syntax.specs.declared.declaration.TypeSpec.{TypeSpec}
-use Rattle.go_typings.proofs.Agree.{held}
 use Rattle.go_typings.proofs.Cells.{before_has, either, if_false, if_true, none_some, some_once}
 use Rattle.go_typings.proofs.GrowEnvironments.{object_back}
 use Rattle.go_typings.proofs.OnePackage.{found, in_order}
-use Rattle.go_typings.proofs.OneTyping.{grows, one}
-use Rattle.go_typings.specs.Assignments.{all_of, before}
+use Rattle.go_typings.specs.Assignments.{before}
 use Rattle.go_typings.specs.Declarations.{Form, constants, variables, alias, definition, function, method, Declaration, Declared, declarations, declared}
 use Rattle.go_typings.specs.PackageEnvironments.{Entries, Entry, objects, underlying, signed, as_object, entity_at, entity_by, environment, had, import_of, meaning_at, object_of, own_defined, own_type, path_in, types_of}
 use Rattle.go_typings.specs.Receivers.{methods}
 use Rattle.go_typings.specs.Sources.{PackageSource, Setting}
-use Rattle.go_typings.specs.TypedPackages.{IsPackageOf}
-use Rattle.go_typings.specs.Typings.{IsTyping, given}
+use Rattle.go_typings.specs.Typings.{Typing}
+use Rattle.go_exposed.specs.OfferedPackages.{IsPackageOf}
 use Rattle.go_typed_packages.proofs.KeptDeclarations.{gives_kept}
 use Rattle.go_typed_packages.proofs.KeptResults.{basic_kept, signature_kept}
 use Rattle.go_typed_packages.proofs.KeptTerms.{close_term}
 use Rattle.go_typed_packages.proofs.NamedParts.{all_named}
-use Rattle.go_typed_packages.proofs.OwnDeclarations.{asked_at, had_as, method_at, own_type_of}
+use Rattle.go_typed_packages.proofs.OwnDeclarations.{asked_at, had_as, had_within, kept_denotes, method_at, own_type_of}
 use Rattle.go_typed_packages.proofs.Shapes.{type_of}
 use Rattle.go_typed_packages.specs.inner.KeptTypes.{DeclaredKept, DefinedKept, EntityKept, EntriesKept, EntryKept, EnvKept, PackageKept, SeenKept, SignatureKept, SourceKept, TermKept, error_sel}
 
@@ -171,16 +169,17 @@ module _ (N : TypeName → Type 0) (S : Sel → Type 0) where
 
     -- ---- entries
 
-    module _ (a : Entries) (t : IsTyping s u a) where
+    module _ (W : ℕ → Bool) (a : Entries) (t : Typing s u W a) where
       abbrev part : ℕ → Entries
       part n = before t.had.order (t.had.order n) a
 
       entry_kept_by : (k n : ℕ) → t.had.order n < k → (x : Entry) → a n ≡ Some x → EntryKept N S x
       entry_kept_by zero n l x e = absurd (omega (arith, l))
       entry_kept_by (suc k) n l x e =
-          let g = t.had.below n (held (given s u) (grows s u) (one s u) (declarations u) (all_of (declarations u)) a t.had n x e) in
+          let w = had_within s u W a t n x e in
+          let g = t.had.below n w in
           let h : EntriesKept N S (part n) = λ j y f. (let p = before_has t.had.order (t.had.order n) a j y f in let o = p.0 in entry_kept_by k j (omega (arith, o, l)) y p.1) in
-          let named = all_named (environment s u a g.0) _ (asked_at s u a t n g.0 g.1).meets in
+          let named = all_named (environment s u a g.0) _ (asked_at s u W a t n g.0 w g.1).meets in
           subst (EntryKept N S) (some_once g.2.0 x (sym g.2.1 ∙ e)) (gives_kept N S (environment s u (part n) g.0) (environment_kept (part n) h g.0) named g.2.2)
 
       entries_kept : EntriesKept N S a
@@ -190,7 +189,8 @@ module _ (N : TypeName → Type 0) (S : Sel → Type 0) where
 
       module _ (p : Package) (x : IsPackageOf u a p) where
         own_object : (o : Object) → Has p.objects o → EntityKept N S o.entity
-        own_object o h = entity_at_kept a entries_kept o.name (declared (declarations u) o.name) o.entity refl (sym (x.objects o.name) ∙ ap entity_of (found object_name p.objects o (in_order object_name p.objects x.objects_ordered) h))
+        own_object o h = entity_at_kept a entries_kept o.name (declared (declarations u) o.name) o.entity refl
+            (kept_denotes u.path a (declared (declarations u) o.name) o.entity (sym (x.objects o.name) ∙ ap entity_of (found object_name p.objects o (in_order object_name p.objects x.objects_ordered) h)))
 
         own_defined_type : (d : Defined) → Has p.defined d → DefinedKept N S d
         own_defined_type d h =

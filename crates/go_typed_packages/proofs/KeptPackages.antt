@@ -75,7 +75,7 @@ module _ (N : TypeName → Type 0) (S : Sel → Type 0) where
     open_types ds (kept_behind N S (defined_names d) (gather defined_names ds) (defined_selectors d) (gather defined_selectors ds) (defined_members d) (gather defined_members ds) h),
   )
 
-  open_package : (p : Package) → Kept N S (package_names p) (package_selectors p) (package_members p) → PackageKept N S p
+  pub open_package : (p : Package) → Kept N S (package_names p) (package_selectors p) (package_members p) → PackageKept N S p
   open_package p h =
       let ns = gather object_names p.objects in let ss = gather object_selectors p.objects in let ms = gather object_members p.objects in
       let os = gather defined_names p.defined in let ts = gather defined_selectors p.defined in let xs = gather defined_members p.defined in record {

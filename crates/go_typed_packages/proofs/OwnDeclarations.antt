@@ -1,11 +1,11 @@
 -- Where a package declares a defined type and its methods, and what of them is had.
 use Rattle.std.proofs.Common.{◌≡◌, ℕ, suc, ◌+◌, Bool, true, false, List, [], ◌∷◌, Option, Some, None, refl, sym, ap, ◌∙◌, subst, inl, inr, arith}
 use Rattle.std.specs.Prelude.{if◌then◌else◌, not, filter, slice_get}
-use Rattle.std.proofs.lemmas.Option.{slice_get_within}
 use Rattle.std.proofs.lemmas.Slice.Eq.{bytes_eq-Decides}
 use Rattle.go_base.proofs.Members.{gather_of, has_split}
 use Rattle.go_base.specs.Lists.{Has}
 use Rattle.go_model.specs.declared.types.package.Defined.{Defined}
+use Rattle.go_model.specs.declared.types.package.Entity.{Entity}
 use Rattle.go_model.specs.declared.types.package.MethodOf.{MethodOf}
 use Rattle.go_model.specs.declared.types.term.Signature.{Signature}
 use Rattle.go_model.specs.declared.types.term.Term.{Term}
@@ -15,17 +15,17 @@ use Rattle.go_soundness.proofs.DeclaredForms.{method_declared}
 use Rattle.go_syntax.specs.declared.declaration.Func.{Func}
 use Rattle.go_syntax.specs.declared.declaration.TypeSpec.{TypeSpec}
 use Rattle.go_syntax.specs.declared.types.ParameterDecl.{ParameterDecl}
+use Rattle.go_typings.proofs.Agree.{held}
 use Rattle.go_typings.proofs.Cells.{none_some, some_once}
 use Rattle.go_typings.proofs.GrowEnvironments.{signature_back, underlying_back, with_back}
-use Rattle.go_typings.proofs.OneTyping.{all_hold}
-use Rattle.go_typings.proofs.SoundDeclarations.{within}
-use Rattle.go_typings.specs.Assignments.{all_of}
+use Rattle.go_typings.proofs.OneTyping.{all_hold, grows, one}
 use Rattle.go_typings.specs.DeclarationAsks.{Asks}
 use Rattle.go_typings.specs.Declarations.{Form, constants, variables, alias, definition, function, method, Declaration, Declared, declarations, declared}
-use Rattle.go_typings.specs.PackageEnvironments.{Entries, Entry, underlying, signed, defined_at, defined_by, environment, had, had_of, own_defined, signature_of, underlying_of}
+use Rattle.go_typings.specs.PackageEnvironments.{Entries, Entry, underlying, signed, defined_at, defined_by, entity_at, entity_by, environment, had, had_of, own_defined, signature_of, underlying_of}
 use Rattle.go_typings.specs.Receivers.{DeclaredMethod, base, declared_methods, is_named, is_pointer_form, is_selectable, method_by, methods, methods_from, receiver_form, selector}
 use Rattle.go_typings.specs.Sources.{PackageSource, Setting}
-use Rattle.go_typings.specs.Typings.{IsTyping, given}
+use Rattle.go_typings.specs.Typings.{Typing, given}
+use Rattle.go_exposed.specs.OfferedPackages.{entered, kept_at}
 
 -- ---- defined types
 
@@ -183,17 +183,29 @@ had_as a ms m h = let q = gather_of (λ d. had_of d (signature_of (a d.number)))
     }
     of_cell d k (Some g) e (inr j) = absurd j
 
--- ---- what a typing says of each declaration
+-- ---- objects
 
-module _ (s : Setting) (u : PackageSource) (a : Entries) (t : IsTyping s u a) where
-  in_all : (n : ℕ) (d : Declaration) → slice_get (declarations u) n ≡ Some d → all_of (declarations u) n ≡ true
-  in_all n d e = within n _ (slice_get_within (declarations u) n d e)
+-- what a name has as its object it denotes
+pub kept_denotes : (path : List ℕ) (a : Entries) (w : Option Declared) (y : Entity) → kept_at path a w ≡ Some y → entity_at path a w ≡ Some y
+kept_denotes path a None y e = e
+kept_denotes path a (Some d) y e = by (a d.number) (entity_by path a d.number d.place d.form) e
+  where
+    by : (c : Option Entry) (o : Option Entity) → entered c o ≡ Some y → o ≡ Some y
+    by None o f = none_some {A = Entity} None y refl f
+    by (Some z) o f = f
+
+-- ---- what a typing of some declarations says of each of them
+
+module _ (s : Setting) (u : PackageSource) (S : ℕ → Bool) (a : Entries) (t : Typing s u S a) where
+  -- what has an entry is one of them
+  pub had_within : (n : ℕ) (x : Entry) → a n ≡ Some x → S n ≡ true
+  had_within n x e = held (given s u) (grows s u) (one s u) (declarations u) S a t.had n x e
 
   -- its entry, given where all are had
-  pub given_at : (n : ℕ) (d : Declaration) → slice_get (declarations u) n ≡ Some d → (x : Entry) × (a n ≡ Some x) × given s u a d x
-  given_at n d e =
-      let g = all_hold s u (all_of (declarations u)) a n t (in_all n d e) in
+  pub given_at : (n : ℕ) (d : Declaration) → S n ≡ true → slice_get (declarations u) n ≡ Some d → (x : Entry) × (a n ≡ Some x) × given s u a d x
+  given_at n d i e =
+      let g = all_hold s u S a n t i in
       (g.2.0, g.2.1, subst (λ z. given s u a z g.2.0) (some_once g.0 d (sym g.1 ∙ e)) g.2.2)
 
-  pub asked_at : (n : ℕ) (d : Declaration) → slice_get (declarations u) n ≡ Some d → Asks (environment s u a d) u n d.form
-  asked_at n d e = let g = t.asks n (in_all n d e) in subst (λ (z : Declaration). Asks (environment s u a z) u n z.form) (some_once g.0 d (sym g.1 ∙ e)) g.2
+  pub asked_at : (n : ℕ) (d : Declaration) → S n ≡ true → slice_get (declarations u) n ≡ Some d → Asks (environment s u a d) u n d.form
+  asked_at n d i e = let g = t.asks n i in subst (λ (z : Declaration). Asks (environment s u a z) u n z.form) (some_once g.0 d (sym g.1 ∙ e)) g.2

@@ -1,40 +1,37 @@
--- A typed package has the shape that a world asks.
-use Rattle.std.proofs.Common.{◌≡◌, ◌≢◌, ℕ, false, List, [], ◌∷◌, Option, Some, None, map, refl, sym, ap, ◌∙◌, subst, inl, inr}
+-- A package that is offered has the shape that a world asks.
+use Rattle.std.proofs.Common.{◌≡◌, ◌≢◌, ℕ, Bool, false, List, [], ◌∷◌, Option, Some, None, map, refl, sym, ap, ◌∙◌, subst, inl, inr}
 use Rattle.std.specs.Str.{bytes_eq}
 use Rattle.std.proofs.lemmas.Slice.Eq.{bytes_eq-Decides}
-use Rattle.go_base.proofs.Ordered.{first_key}
-use Rattle.go_base.specs.Keys.{first_with}
 use Rattle.go_base.specs.Lists.{Each, Has}
 use Rattle.go_model.specs.declared.types.names.Sel.{Sel}
 use Rattle.go_model.specs.declared.types.names.TypeName.{TypeName}
 use Rattle.go_model.specs.declared.types.package.Defined.{Defined}
-use Rattle.go_model.specs.declared.types.package.Entity.{Entity}
 use Rattle.go_model.specs.declared.types.package.Entity.TheVariants as entity
 use Rattle.go_model.specs.declared.types.package.MethodOf.{MethodOf}
-use Rattle.go_model.specs.declared.types.package.Object.{Object}
 use Rattle.go_model.specs.declared.types.package.Package.{Package}
 use Rattle.go_model.specs.declared.types.term.Term.{Term-F, out-Term, out-roll-Term}
 use Rattle.go_model.specs.types.Terms.{IsBlank, blank}
-use Rattle.go_model.specs.worlds.Worlds.{bars_methods, declared_sel, name_of, object_name, table_of, type_object}
+use Rattle.go_model.specs.worlds.Worlds.{bars_methods, declared_sel, name_of, table_of}
 use Rattle.go_rules.proofs.LocalTypes.{each_made}
 use Rattle.go_rules.proofs.OneKind.{no_truth}
 use Rattle.go_rules.specs.Environments.{Env}
 use Rattle.go_rules.specs.Expressions.{is_blank}
-use Rattle.go_rules.specs.Scopes.{entity_of}
-use Rattle.go_soundness.proofs.DeclaredForms.{is_at, own_name}
-use Rattle.go_typings.proofs.Cells.{if_true, none_some, some_once}
+use Rattle.go_soundness.proofs.DeclaredForms.{is_at}
+use Rattle.go_typings.proofs.Cells.{if_true, some_once}
 use Rattle.go_typings.proofs.OnePackage.{found, in_order}
 use Rattle.go_typings.proofs.ReachedRegion.{own_path}
 use Rattle.go_typings.specs.DeclarationAsks.{FormAsks, IsApart, IsMethod}
 use Rattle.go_typings.specs.DeclarationRules.{Gives, gives_constants, gives_typed_variables, gives_variables, gives_alias, gives_definition, gives_function, gives_method, is_name}
 use Rattle.go_typings.specs.Declarations.{Declaration, Form, declarations}
-use Rattle.go_typings.specs.PackageEnvironments.{Entries, Entry, objects, underlying, signed, entity_at, entity_by, environment, had, own_defined, own_type}
+use Rattle.go_typings.specs.PackageEnvironments.{Entries, Entry, objects, underlying, signed, environment, had, own_defined}
 use Rattle.go_typings.specs.Receivers.{methods}
 use Rattle.go_typings.specs.Sources.{PackageSource, Setting}
-use Rattle.go_typings.specs.TypedPackages.{AreOrdered as AreOrderedAs, IsOrdered, IsPackageOf, IsTypedAs}
-use Rattle.go_typings.specs.Typings.{IsTyping}
+use Rattle.go_typings.specs.TypedPackages.{AreOrdered as AreOrderedAs, IsOrdered}
+use Rattle.go_typings.specs.Typings.{Typing}
+use Rattle.go_exposed.specs.OfferedPackages.{IsOfferedAs, IsPackageOf}
+use Rattle.go_exposed.proofs.KeptObjects.{object_declared}
 use Rattle.go_typed_packages.specs.PackageShapes.{HasShape, IsShaped}
-use Rattle.go_typed_packages.proofs.OwnDeclarations.{OwnType, asked_at, given_at, had_as, is_named_method, method_at, own_type_of}
+use Rattle.go_typed_packages.proofs.OwnDeclarations.{OwnType, asked_at, given_at, had_as, had_within, is_named_method, method_at, own_type_of}
 
 -- ---- what is underneath
 
@@ -69,11 +66,6 @@ type_of u a p x d h =
     had_of_type u a d (own_defined u a d.name) refl
     (subst (λ c. AreOrderedAs c (own_defined u a d.name)) (found name_of p.defined d (in_order name_of p.defined x.defined_ordered) h) (x.defined d.name))
 
--- the object of a name, by what it denotes
-pub named_object : (c : Option Object) (name : List ℕ) (x : Entity) → ((o : Object) → c ≡ Some o → o.name ≡ name) → entity_of c ≡ Some x → c ≡ Some (record { name = name; entity = x })
-named_object None name x h e = none_some (entity_of None) x refl e
-named_object (Some o) name x h e = let n = h o refl in let y = some_once o.entity x e in λ i. Some (record { name = n i; entity = y i })
-
 no_methods : (ms : List MethodOf) → ((m : MethodOf) → Has ms m → ⊥) → ms ≡ []
 no_methods [] h = refl
 no_methods (m ∷ ms) h = absurd (h m (inl refl))
@@ -82,11 +74,11 @@ each_sel : (P : Sel → Type 0) (ms : List MethodOf) → ((m : MethodOf) → Has
 each_sel P [] h = tt
 each_sel P (m ∷ ms) h = (h m (inl refl), each_sel P ms (λ n k. h n (inr k)))
 
-module _ (s : Setting) (u : PackageSource) (a : Entries) (t : IsTyping s u a) where
+module _ (s : Setting) (u : PackageSource) (S : ℕ → Bool) (a : Entries) (t : Typing s u S a) where
   structured : (name : List ℕ) (d : Defined) → OwnType u a name d → (n : TypeName) → out-Term d.underlying ≢ Term-F.Named n
   structured name d o =
       let w = is_at (declarations u) name o.at o.is in
-      let g = given_at s u a t o.at.number w.declaration w.is in
+      let g = given_at s u S a t o.at.number w.declaration (had_within s u S a t o.at.number (underlying o.beneath) o.entry) w.is in
       subst (λ (z : Defined). (n : TypeName) → out-Term z.underlying ≢ Term-F.Named n) (sym o.made)
       (subst IsStructured (some_once g.0 (underlying o.beneath) (sym g.1 ∙ o.entry)) (gives_structured g.2))
 
@@ -100,7 +92,7 @@ module _ (s : Setting) (u : PackageSource) (a : Entries) (t : IsTyping s u a) wh
   is_asked name d e m h =
       let k = had_as a (methods u name) m h in
       let w = method_at u name k.declares k.has in
-      let q : IsMethod (environment s u a w.declaration) u k.declares.number w.receiver w.func = subst (FormAsks (environment s u a w.declaration) u k.declares.number) w.form (asked_at s u a t k.declares.number w.declaration w.is).form in
+      let q : IsMethod (environment s u a w.declaration) u k.declares.number w.receiver w.func = subst (FormAsks (environment s u a w.declaration) u k.declares.number) w.form (asked_at s u S a t k.declares.number w.declaration (had_within s u S a t k.declares.number (signed m.signature) k.entry) w.is).form in
       let n : q.type ≡ name = some_once q.type name (sym q.of ∙ w.of) in
       let own : own_defined u a name ≡ Some q.defined = ap (own_defined u a) (sym n) ∙ sym (if_true (bytes_eq u.path u.path) (own_defined u a q.type) (table_of s.world.packages (record { path = u.path; name = q.type })) (own_path u.path)) ∙ q.entry in
       let z : q.defined ≡ d = some_once q.defined d (sym own ∙ e) in
@@ -125,25 +117,13 @@ module _ (s : Setting) (u : PackageSource) (a : Entries) (t : IsTyping s u a) wh
           apart = λ m f j i. subst (λ z. IsApart (out-Term z) m.sel.name) (sym k.same.underlying) (asked m j).apart f i;
         }
 
-    object_declared : (d : Defined) → Has p.defined d → first_with object_name p.objects d.name ≡ Some (type_object p.path d.name)
-    object_declared d h =
-        let k = type_of u a p x d h in
-        let o = own_type_of u a d.name k.had_type k.is in
-        let own : entity_of (first_with object_name p.objects d.name) ≡ Some (entity.TypeOf (own_type u.path d.name)) =
-        x.objects d.name
-        ∙ ap (entity_at u.path a) o.is
-        ∙ ap (entity_by u.path a o.at.number o.at.place) o.form
-        ∙ ap (λ z. Some (entity.TypeOf (own_type u.path z))) (own_name (declarations u) d.name o.at o.spec o.is o.form) in
-        named_object (first_with object_name p.objects d.name) d.name (entity.TypeOf (own_type u.path d.name)) (λ y f. first_key object_name p.objects d.name y (sym f)) own
-        ∙ ap (λ z. Some (type_object z d.name)) (sym x.path)
-
     has_shape : HasShape p
     has_shape = record {
       objects = x.objects_ordered;
       defined = x.defined_ordered;
       types = each_made p.defined shaped;
-      declared = each_made p.defined object_declared;
+      declared = each_made p.defined (object_declared u a p x);
     }
 
-pub package_shaped : (s : Setting) (u : PackageSource) (p : Package) → IsTypedAs s u p → HasShape p
-package_shaped s u p t = has_shape s u t.entries t.typing p t.«package»
+pub package_shaped : (s : Setting) (u : PackageSource) (p : Package) → IsOfferedAs s u p → HasShape p
+package_shaped s u p t = has_shape s u t.within t.entries t.kept.typing p t.«package»

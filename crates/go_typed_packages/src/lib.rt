@@ -1,4 +1,5 @@
-//! A package that is typed over the packages of a world may join them.
+//! A package that is typed or offered over the packages of a world may join them.
 #![tactic(auto)]
 
 pub mod laws;
+pub mod offered;

@@ -7,6 +7,7 @@ pub mod OneTyping
 pub mod KeptEntries
 pub mod ConstantKinds
 pub mod ReachedRegion
+pub mod HeldImports
 pub mod LocalRules
 pub mod SameImports
 pub mod SameReferences

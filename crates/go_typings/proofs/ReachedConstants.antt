@@ -22,8 +22,8 @@ use Rattle.go_typings.specs.ConstantKinds.{EntriesKept, ReachedKept}
 use Rattle.go_typings.specs.DeclarationNodes.{nodes}
 use Rattle.go_typings.specs.Declarations.{Declaration, declarations, declared}
 use Rattle.go_typings.specs.PackageEnvironments.{Entries, Entry, objects, environment, import_of, path_in}
-use Rattle.go_typings.specs.ReachedPackages.{AreReached, ReachesSame}
-use Rattle.go_typings.specs.Sources.{AreFound, PackageSource, Setting}
+use Rattle.go_typings.specs.ReachedPackages.{AreReached, HoldImports, ReachesSame}
+use Rattle.go_typings.specs.Sources.{PackageSource, Setting}
 use Rattle.go_typings.specs.Typings.{given}
 use Rattle.go_typings.proofs.Agree.{held}
 use Rattle.go_typings.proofs.Cells.{before_has, before_within, either, if_false, if_true, none_some, some_once}
@@ -40,7 +40,7 @@ at_each P [] n x e k = none_some (slice_get [] n) x refl e
 at_each P (y ∷ ys) zero x e k = subst P (some_once y x e) k.0
 at_each P (y ∷ ys) (suc n) x e k = at_each P ys n x e k.1
 
-module _ (s : Setting) (u : PackageSource) (absent : first_with path_of s.world.packages u.path ≡ None) (all : AreFound u) (reached : List ℕ → Bool) (r : AreReached s.world u reached) (kept : ReachedKept s reached)
+module _ (s : Setting) (u : PackageSource) (absent : first_with path_of s.world.packages u.path ≡ None) (reached : List ℕ → Bool) (r : AreReached s.world u reached) (all : HoldImports u reached) (kept : ReachedKept s reached)
     (S : ℕ → Bool) (a : Entries) (T : Below (given s u) (declarations u) S a) where
   abbrev R : Region
   R = region u reached

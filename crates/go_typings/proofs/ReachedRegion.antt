@@ -33,10 +33,10 @@ use Rattle.go_rules.specs.declared.seen.Seen.TheVariants as seen
 use Rattle.go_rules.proofs.LocalTerms.{close_in, close_signature, each_passes, passes_left, passes_right}
 use Rattle.go_rules.proofs.LocalRelations.{basic_in}
 use Rattle.go_typings.specs.Declarations.{Form, constants, variables, alias, definition, function, method, Declaration, Declared, declarations, declared, is_init}
-use Rattle.go_typings.specs.PackageEnvironments.{Entries, Entry, objects, underlying, signed, as_object, defined_at, defined_by, entity_by, environment, had, had_of, import_of, meaning_at, object_of, own_defined, own_type, path_in, signature_of, types_of, underlying_of}
-use Rattle.go_typings.specs.ReachedPackages.{AreReached, is_reached}
+use Rattle.go_typings.specs.PackageEnvironments.{Entries, Entry, objects, underlying, signed, as_object, defined_at, defined_by, entity_by, environment, had, had_of, had_path, import_of, meaning_at, object_of, own_defined, own_type, path_in, signature_of, types_of, underlying_of}
+use Rattle.go_typings.specs.ReachedPackages.{AreReached, HoldImports, is_reached}
 use Rattle.go_typings.specs.Receivers.{DeclaredMethod, methods}
-use Rattle.go_typings.specs.Sources.{AreFound, Import, PackageSource, Setting, import_name, imports_of}
+use Rattle.go_typings.specs.Sources.{Import, PackageSource, Setting, import_name, imports_of}
 use Rattle.go_typings.proofs.Cells.{either, if_false, if_true, none_some, some_once}
 use Rattle.go_typings.proofs.GrowEnvironments.{object_back, signature_back, underlying_back, with_back}
 
@@ -143,7 +143,7 @@ error_in R = record {
   methods_in = λ m h. absurd h;
 }
 
-module _ (s : Setting) (u : PackageSource) (reached : List ℕ → Bool) (r : AreReached s.world u reached) (all : AreFound u) where
+module _ (s : Setting) (u : PackageSource) (reached : List ℕ → Bool) (r : AreReached s.world u reached) (all : HoldImports u reached) where
   abbrev R : Region
   R = region u reached
 
@@ -182,9 +182,9 @@ module _ (s : Setting) (u : PackageSource) (reached : List ℕ → Bool) (r : Ar
     meaning_at_in name None m e = universe_in (predeclared name) m e
     meaning_at_in name (Some d) m e = object_seen_in (entity_by u.path b d.number d.place d.form) m (entity_by_in d.number d.place d.form) e
 
-    meaning_in : (name : List ℕ) (c : Option Import) (w : Option Declared) (m : Seen) → ((i : Import) → c ≡ Some i → reached i.path ≡ true) → option_or (as_import (path_in c)) (meaning_at u.path b name w) ≡ Some m → SeenIn R m
+    meaning_in : (name : List ℕ) (c : Option Import) (w : Option Declared) (m : Seen) → ((i : Import) → c ≡ Some i → reached (had_path i) ≡ true) → option_or (as_import (path_in c)) (meaning_at u.path b name w) ≡ Some m → SeenIn R m
     meaning_in name None w m k e = meaning_at_in name w m e
-    meaning_in name (Some i) w m k e = subst (SeenIn R) (some_once (seen.Import i.path) m e) (k i refl)
+    meaning_in name (Some i) w m k e = subst (SeenIn R) (some_once (seen.Import (had_path i)) m e) (k i refl)
 
     -- ---- defined types
 
@@ -226,7 +226,7 @@ module _ (s : Setting) (u : PackageSource) (reached : List ℕ → Bool) (r : Ar
 
     pub closed_region : (d : Declaration) → IsClosed (environment s u b d) R
     closed_region d = record {
-      meaning = λ name m i e. meaning_in name (import_of u d.file name) (declared (declarations u) name) m (λ j f. r.imports d.file j (import_has u d.file name j f) (all d.file j (import_has u d.file name j f))) e;
+      meaning = λ name m i e. meaning_in name (import_of u d.file name) (declared (declarations u) name) m (λ j f. all d.file j (import_has u d.file name j f)) e;
       object = λ path name x i e. found_object R (first_with path_of s.world.packages path) name x (package_in path i) e;
       underlying = λ n d i e. (type_in n d i e).underlying_in;
       methods = λ n d m i e k. (type_in n d i e).methods_in m k;

@@ -15,8 +15,8 @@ use Rattle.go_typings.specs.Assignments.{Below, before}
 use Rattle.go_typings.specs.DeclarationNodes.{nodes}
 use Rattle.go_typings.specs.Declarations.{Declaration, declarations}
 use Rattle.go_typings.specs.PackageEnvironments.{Entries, Entry, environment, own_defined, types_of}
-use Rattle.go_typings.specs.ReachedPackages.{ReachesSame, is_reached}
-use Rattle.go_typings.specs.Sources.{AreFound, PackageSource, Setting}
+use Rattle.go_typings.specs.ReachedPackages.{HoldImports, ReachesSame, is_reached}
+use Rattle.go_typings.specs.Sources.{PackageSource, Setting}
 use Rattle.go_typings.specs.Typings.{given}
 use Rattle.go_typings.proofs.Agree.{held}
 use Rattle.go_typings.proofs.Cells.{before_has, either, if_false, if_true, none_some, some_once}
@@ -25,7 +25,7 @@ use Rattle.go_typings.proofs.LocalRules.{all_refer, gives_local}
 use Rattle.go_typings.proofs.OneTyping.{grows, one}
 use Rattle.go_typings.proofs.ReachedRegion.{EntriesIn, EntryIn, closed_region, or_second, region}
 
-module _ (u : PackageSource) (s t : Setting) (m : ReachesSame u s t) (all : AreFound u) where
+module _ (u : PackageSource) (s t : Setting) (m : ReachesSame u s t) (all : HoldImports u m.reached) where
   module _ (b : Entries) (d : Declaration) where
     abbrev E : Env
     E = environment s u b d

@@ -39,6 +39,18 @@ either_true : (b : Bool) → (if b then true else true) ≡ true
 either_true true = refl
 either_true false = refl
 
+module _ (E : Env) (R : Region) (w : IsClosed E R) where
+  -- an operand with some of what follows it, in the region
+  pub chain_local : (x : Expr) (ps : List Post) (o : Operand) → RefersIn R (expression x) → Each (RefersIn R) (map post ps) → HasForm E (chain x ps) o → ShapeWithin o.shape → HasForm (cut R E) (chain x ps) o × OperandIn R o
+  chain_local x [] o n k h s = let f = has_local E R w (has_operand h s) n in (form_of f.0, f.1)
+    where
+      form_of : Typed (cut R E) x o → HasForm (cut R E) (out-Expr x) o
+      form_of (has_operand g r) = g
+  chain_local x (p ∷ ps) o n k (has_primary a c) s = let f = has_local E R w a n in let g = posts_local E R w c f.1 k in (has_primary f.0 g.0, g.1)
+  chain_local x (p ∷ ps) o n k (has_imported {q = q} e f d i c) s =
+      let h = subst (λ l. Each (NameIn R) (expression_name l)) e (names_here R (expression x) n) in
+      let g = imported_local E R w h.0 d in let j = posts_local E R w c g.1 k.1 in (has_imported e f g.0 i j.0, j.1)
+
 module _ (E F : Env) (R : Region) (w : IsClosed E R) (m : Grows (cut R E) F) where
   abbrev C : Env
   C = cut R E
@@ -105,16 +117,6 @@ module _ (E F : Env) (R : Region) (w : IsClosed E R) (m : Grows (cut R E) F) whe
 
   -- ---- methods that are found
 
-  chain_local : (x : Expr) (ps : List Post) (o : Operand) → RefersIn R (expression x) → Each (RefersIn R) (map post ps) → HasForm E (chain x ps) o → ShapeWithin o.shape → HasForm C (chain x ps) o × OperandIn R o
-  chain_local x [] o n k h s = let f = has_local E R w (has_operand h s) n in (form_of f.0, f.1)
-    where
-      form_of : Typed C x o → HasForm C (out-Expr x) o
-      form_of (has_operand g r) = g
-  chain_local x (p ∷ ps) o n k (has_primary a c) s = let f = has_local E R w a n in let g = posts_local E R w c f.1 k in (has_primary f.0 g.0, g.1)
-  chain_local x (p ∷ ps) o n k (has_imported {q = q} e f d i c) s =
-      let h = subst (λ l. Each (NameIn R) (expression_name l)) e (names_here R (expression x) n) in
-      let g = imported_local E R w h.0 d in let j = posts_local E R w c g.1 k.1 in (has_imported e f g.0 i j.0, j.1)
-
   found_same : {s : Sel} {t : Term} {e : Ending} → TermIn R t → Found E s t e → Found F s t e
   found_same {s = s} {t = t} {e = e} i f = subst (λ z. Found z s t e) (joined_is C F m) (found_more C F m (found_local E R w i f))
 
@@ -133,7 +135,7 @@ module _ (E F : Env) (R : Region) (w : IsClosed E R) (m : Grows (cut R E) F) whe
   selects_same : {at : Node} {o : Operand} {name : Name} → RefersIn R at → Selects E at o name → Selects F at o name × OperandIn R o
   selects_same {o = o} n s =
       let p = layer_parts (Expr-F.Primary s.operand (s.before ++ s.post ∷ s.after)) n s.stands s.is in
-      let f = chain_local s.operand s.before o p.0 (map_left (RefersIn R) post s.before (s.post ∷ s.after) p.1) s.has s.within in (
+      let f = chain_local E R w s.operand s.before o p.0 (map_left (RefersIn R) post s.before (s.post ∷ s.after) p.1) s.has s.within in (
         record {
           whole = s.whole;
           operand = s.operand;

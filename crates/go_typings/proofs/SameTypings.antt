@@ -11,14 +11,15 @@ use Rattle.go_typings.specs.DeclarationAsks.{Asks}
 use Rattle.go_typings.specs.DeclarationNodes.{length_references, nodes, references, strong_references}
 use Rattle.go_typings.specs.Declarations.{Form, constants, variables, alias, definition, function, method, Declaration, declarations}
 use Rattle.go_typings.specs.PackageEnvironments.{Entries, environment, own_defined}
-use Rattle.go_typings.specs.ReachedPackages.{ReachesSame}
+use Rattle.go_typings.specs.ReachedPackages.{HoldImports, ReachesSame}
 use Rattle.go_typings.specs.References.{LeadsTo, leads_here, leads_by_name, leads_by_method, NamesDeclaration}
 use Rattle.go_typings.specs.Refusals.{IsRefused, Refusal, redeclared, missing_import, unsound}
-use Rattle.go_typings.specs.Sources.{AreFound, PackageSource, Setting}
+use Rattle.go_typings.specs.Sources.{PackageSource, Setting}
 use Rattle.go_typings.specs.TypedPackages.{IsTypedAs}
 use Rattle.go_typings.specs.Typings.{IsFirstUnsound, IsSound, Typing}
 use Rattle.go_typings.proofs.Cells.{if_true}
 use Rattle.go_typings.proofs.FoundImports.{are_found}
+use Rattle.go_typings.proofs.HeldImports.{found_held}
 use Rattle.go_typings.proofs.LocalRules.{all_refer}
 use Rattle.go_typings.proofs.ReachedRegion.{EntriesIn, closed_region, own_path, region}
 use Rattle.go_typings.proofs.SameImports.{cut_grows, entries_in, had_same}
@@ -35,7 +36,7 @@ turned u s t m = record {
   profile = sym m.profile;
 }
 
-module _ (u : PackageSource) (s t : Setting) (m : ReachesSame u s t) (found : AreFound u) (a : Entries) (h : EntriesIn (region u m.reached) a) where
+module _ (u : PackageSource) (s t : Setting) (m : ReachesSame u s t) (found : HoldImports u m.reached) (a : Entries) (h : EntriesIn (region u m.reached) a) where
   module _ (d : Declaration) where
     abbrev E : Env
     E = environment s u a d
@@ -77,7 +78,7 @@ module _ (u : PackageSource) (s t : Setting) (m : ReachesSame u s t) (found : Ar
     refers_same f rs n k = refers_back E F R closed (cut_grows u s t m found a d) u f rs n (all f) k
 
 -- a typing under the one setting is one under the other
-module _ (u : PackageSource) (s t : Setting) (m : ReachesSame u s t) (all : AreFound u) where
+module _ (u : PackageSource) (s t : Setting) (m : ReachesSame u s t) (all : HoldImports u m.reached) where
   at_of : {P Q : Declaration → Type 0} (ds : List Declaration) (n : ℕ) → ((d : Declaration) → P d → Q d) → At ds n P → At ds n Q
   at_of ds n f k = (k.0, k.1, f k.0 k.2)
 
@@ -105,13 +106,13 @@ module _ (u : PackageSource) (s t : Setting) (m : ReachesSame u s t) (all : AreF
   sound_same n k = record { within = k.within; entries = k.entries; holds = k.holds; closed = k.closed; typing = typing_same k.within k.entries k.typing }
 
 module _ (u : PackageSource) (s t : Setting) (m : ReachesSame u s t) where
-  unsound_same : AreFound u → (n : ℕ) → IsFirstUnsound s u n → IsFirstUnsound t u n
+  unsound_same : HoldImports u m.reached → (n : ℕ) → IsFirstUnsound s u n → IsFirstUnsound t u n
   unsound_same all n k = record { is = k.is; unsound = λ j. k.unsound (sound_same u t s (turned u s t m) all n j); first = λ j l. sound_same u s t m all j (k.first j l) }
 
   pub refused_same : (r : Refusal) → IsRefused s u r → IsRefused t u r
   refused_same (redeclared p) k = k
   refused_same (missing_import p) k = k
-  refused_same (unsound p) k = (k.0, k.1, (k.2.0, unsound_same (are_found u k.1) k.2.0 k.2.1, k.2.2))
+  refused_same (unsound p) k = (k.0, k.1, (k.2.0, unsound_same (found_held s.world u m.reached (are_found u k.1) m.are) k.2.0 k.2.1, k.2.2))
 
   pub typed_same : (p : Package) → IsTypedAs s u p → IsTypedAs t u p
-  typed_same p k = record { once = k.once; found = k.found; entries = k.entries; typing = typing_same u s t m (are_found u k.found) _ k.entries k.typing; «package» = k.«package» }
+  typed_same p k = record { once = k.once; found = k.found; entries = k.entries; typing = typing_same u s t m (found_held s.world u m.reached (are_found u k.found) m.are) _ k.entries k.typing; «package» = k.«package» }

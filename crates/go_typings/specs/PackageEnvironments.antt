@@ -78,9 +78,13 @@ abbrev pub meaning_at : List ℕ → Entries → List ℕ → Option Declared �
 meaning_at path a name None = of_universe (predeclared name)
 meaning_at path a name (Some d) = as_object (entity_by path a d.number d.place d.form)
 
+-- the path under which the import is had: one that isn't found has the empty one, which is no package's, so that nothing is had of it
+abbrev pub had_path : Import → List ℕ
+had_path i = if i.is_found then i.path else []
+
 abbrev pub path_in : Option Import → Option (List ℕ)
 path_in None = None
-path_in (Some i) = Some i.path
+path_in (Some i) = Some (had_path i)
 
 -- the import that a name means in a file: `init` means none
 abbrev pub import_of : PackageSource → ℕ → List ℕ → Option Import

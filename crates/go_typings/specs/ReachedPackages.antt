@@ -8,6 +8,7 @@ use Rattle.go_model.specs.declared.types.package.Package.{Package}
 use Rattle.go_model.specs.types.Terms.{is_error}
 use Rattle.go_model.specs.worlds.PackageTypes.{package_names}
 use Rattle.go_model.specs.worlds.Worlds.{Packages, path_of}
+use Rattle.go_typings.specs.PackageEnvironments.{had_path}
 use Rattle.go_typings.specs.Sources.{Import, PackageSource, Setting, imports_of}
 
 -- a name of a type of one of the packages with these paths, or of the predeclared `error`
@@ -18,6 +19,10 @@ is_reached reached n = is_error n || reached n.path
 pub record AreReached (w : Packages) (u : PackageSource) (reached : List ℕ → Bool) : Type 0 where
   pub imports : (file : ℕ) (i : Import) → Has (imports_of u file) i → i.is_found ≡ true → reached i.path ≡ true
   pub closed : (path : List ℕ) (p : Package) → reached path ≡ true → first_with path_of w.packages path ≡ Some p → Passes (is_reached reached) (package_names p)
+
+-- among these paths is that under which each import of the package is had
+abbrev pub HoldImports : PackageSource → (List ℕ → Bool) → Type 0
+HoldImports u reached = (file : ℕ) (i : Import) → Has (imports_of u file) i → reached (had_path i) ≡ true
 
 -- two settings are the same in all that the package reaches
 pub record ReachesSame (u : PackageSource) (s t : Setting) : Type 0 where

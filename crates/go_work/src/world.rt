@@ -29,7 +29,7 @@ fn error_at(number: u32, unit: Unit, error: CheckError) -> WorkError
 }
 
 // Checks the package of a number over those before it, adds it to them, and gives up its syntax.
-fn add_next<G: Gate, L: Copy + Send>(
+fn add_next<G: Gate, L: Copy>(
     alloc: Global,
     unit: Unit,
     number: u32,
@@ -61,7 +61,7 @@ fn add_next<G: Gate, L: Copy + Send>(
 /// The world of a tree's packages: each is typed over those before it, in canonical order, and its syntax given up right then.
 /// `Refused` comes exactly where one of them is refused, with the first and its cause. The gate hears of each package, as of
 /// worker 0, right before it is checked, and the counter rises by at most the number of the packages.
-pub fn world<G: Gate, L: Copy + Send>(
+pub fn world<G: Gate, L: Copy>(
     alloc: Global,
     units: Units,
     bits: u32,

@@ -3,9 +3,10 @@ use Rattle.std.proofs.Common.{◌≡◌, ◌⊎◌, ℕ, List, [], ◌∷◌, �
 use Rattle.go_base.specs.Lists.{Has}
 use Rattle.go_existence.specs.Existence.{NotNone}
 use Rattle.go_existence.proofs.DoubleNegation.{sure, bind}
+use Rattle.go_exposed.proofs.WholePackages.{typed_offered}
 use Rattle.go_model.specs.worlds.Worlds.{IsWorld, Packages, with_package}
 use Rattle.go_sources.specs.UnitSources.{source_of}
-use Rattle.go_typed_packages.proofs.JoinedWorlds.{joins}
+use Rattle.go_typed_packages.proofs.JoinedWorlds.{offered_joins}
 use Rattle.go_typings.specs.PackageWorlds.{IsFirstRefused, IsWorldOf, become_none, is_public, no_packages, over}
 use Rattle.go_typings.specs.Refusals.{Refusal}
 use Rattle.go_typings.specs.Sources.{PackageSource}
@@ -42,7 +43,7 @@ module _ (bits : ℕ) (us : List PackageUnit) (ordered : ∥ AreInOrder us ∥�
       bind (typed_or_refused (over bits w) (source_of u) world path.pathed absent) (λ k. elim k [
         | inl p ↦ ends_from (front ++ u ∷ []) rest (with_package w p.0 (is_public (source_of u))) (e ∙ sym (append_assoc front (u ∷ []) rest))
             (subst (λ (xs : List PackageSource). IsWorldOf bits xs (with_package w p.0 (is_public (source_of u)))) (sym (joined front (u ∷ []))) (typed_more bits (sources front) w (source_of u) p.0 is (typed, p.1)))
-            (joins (over bits w) (source_of u) p.0 world p.1 absent path.pathed path.foreign (is_public (source_of u)))
+            (offered_joins (over bits w) (source_of u) p.0 world (typed_offered (over bits w) (source_of u) p.0 p.1) absent path.pathed path.foreign (is_public (source_of u)))
         | inr r ↦ sure (inr (
           length (sources front),
           r.0,

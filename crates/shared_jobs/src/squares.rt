@@ -26,7 +26,7 @@ impl Jobs<u64> for Numbers {
         self.count as usize
     }
 
-    fn run<L: Copy + Send>(
+    fn run<L: Copy>(
         &self,
         _worker: u32,
         number: usize,

@@ -141,7 +141,7 @@ impl<T: Drop, J: Jobs<T>> ResultTable<T, J> {
 
     /// Claims the row where no worker claims it, does its job, and puts the result there. `false` means that it was claimed already.
     /// After `NoMemory` the row stays claimed, and empty.
-    pub fn take_on<L: Copy + Send>(
+    pub fn take_on<L: Copy>(
         &self,
         jobs: &J,
         worker: &mut Worker<T>,
@@ -176,7 +176,7 @@ impl<T: Drop, J: Jobs<T>> ResultTable<T, J> {
     }
 
     /// Goes once through all rows, from this one on, and takes on each that nobody claims.
-    pub fn work<L: Copy + Send>(
+    pub fn work<L: Copy>(
         &self,
         jobs: &J,
         worker: &mut Worker<T>,

@@ -7,9 +7,10 @@ use Rattle.std.specs.Ordering.{nat_cmp}
 use Rattle.go_rules.specs.Names.{Named, value_at, with_value}
 use Rattle.go_rules.specs.Scopes.{imports_in}
 use Rattle.go_typings.specs.Declarations.{is_init}
+use Rattle.go_typings.specs.PackageEnvironments.{had_path}
 use Rattle.go_typings.specs.Sources.{Import, SourceFile}
 
--- the paths that each file imports under a name
+-- the paths under which each file has imports, by their names
 abbrev pub Imports : Type 0
 Imports = List (ℕ × Named (List ℕ))
 
@@ -21,7 +22,7 @@ abbrev pub is_passed : Imports → ℕ → List ℕ → Bool
 is_passed t file name = is_init name || is_some (value_at (imports_at t file) name)
 
 abbrev pub with_import : ℕ → Imports → Import → Imports
-with_import file t i = if is_passed t file i.name then t else insert_entry nat_cmp t file (with_value (imports_at t file) i.name i.path)
+with_import file t i = if is_passed t file i.name then t else insert_entry nat_cmp t file (with_value (imports_at t file) i.name (had_path i))
 
 abbrev pub with_imports : ℕ → Imports → List Import → Imports
 with_imports file t [] = t

@@ -6,7 +6,7 @@ pub loop-at-init : goal.loop-at-init
 loop-at-init g c = taken_none c.args.trees.now.barred.now (option_copied c.args.trees.now.old_tree) c.args.trees.now.tree.now c.args.trees.now.std_tree.now c.args.platforms.now c.new-features.result c.new-verdicts.result c.args.steps.now c.new-features.ensures c.new-verdicts.ensures
 
 pub add_next-requires-clause-alike : goal.add_next-requires-clause-alike
-add_next-requires-clause-alike g c = λ κs lives.
+add_next-requires-clause-alike g c =
     alike_earlier c.args.trees.now.barred.now (option_copied c.args.trees.now.old_tree) c.args.trees.now.tree.now c.args.trees.now.std_tree.now c.args.platforms.now c.args.firsts.now c.requires.firsts c.loop-at.at c.loop-at.all.features c.loop-at.all.verdicts c.args.steps.now c.loop-at.steps c.loop-at-test.true c.loop-at.invariant
 
 pub returns-in-Err-clause-answer : goal.returns-in-Err-clause-answer

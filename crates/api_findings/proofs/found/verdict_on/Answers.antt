@@ -1,5 +1,8 @@
+use Rattle.std.proofs.Common.{◌≢◌, []}
+use Rattle.go_base.specs.Lists.{Has}
 use Rattle.go_model.specs.files.Platforms.{bits_of}
-use Rattle.go_std_worlds.specs.TwoModules.{AreOfTwoModules}
+use Rattle.go_std_worlds.specs.TwoModules.{AreOfTwoModules, sources_of}
+use Rattle.go_units.specs.declared.unit.«Unit».{«Unit» as PackageUnit}
 use Rattle.api_findings.proofs.FoundOn.{both_count, both_found, new_error, old_count, old_error}
 use Rattle.api_findings.proofs.found.verdict_on.Goals as goal
 
@@ -22,9 +25,13 @@ compared-requires g c =
     let old = c.in-Ok.ensures.answer in
     let new = c.in-Ok-world_on.ensures.answer in
     let two : AreOfTwoModules c.args.platform c.args.trees.now.barred.now c.args.trees.now.std_tree.now c.args.old_tree.now c.args.trees.now.tree.now old.0 new.0 = record { old_barred = c.requires.old.2; new_barred = c.requires.barred; old_units = old.1; new_units = new.1 } in
+    let old_paths : (u : PackageUnit) → Has old.0.packages u → u.path ≢ [] = λ u h. (c.unit_paths.ensures c.args.platform c.args.trees.now.barred.now c.args.old_tree.now c.args.trees.now.std_tree.now old.0 c.requires.old.0 c.requires.std c.requires.old.1 old.1 u h).0 in
+    let new_paths : (u : PackageUnit) → Has new.0.packages u → u.path ≢ [] = λ u h. (c.unit_paths.ensures c.args.platform c.args.trees.now.barred.now c.args.trees.now.tree.now c.args.trees.now.std_tree.now new.0 c.requires.tree c.requires.std c.requires.named new.1 u h).0 in
+    let old_world = c.one_world.ensures.whole (bits_of c.args.platform) (sources_of old.0) c.in-Ok.old old.2 in
+    let new_world = c.one_world.ensures.whole (bits_of c.args.platform) (sources_of new.0) c.in-Ok-world_on.new new.2 in
     record {
-      sides = c.same_std_packages.ensures.sides c.args.platform c.args.trees.now.barred.now c.args.trees.now.std_tree.now c.args.old_tree.now c.args.trees.now.tree.now old.0 new.0 (bits_of c.args.platform) c.in-Ok.old c.in-Ok-world_on.new two old.2 new.2;
-      same = c.same_std_packages.ensures.same c.args.platform c.args.trees.now.barred.now c.args.trees.now.std_tree.now c.args.old_tree.now c.args.trees.now.tree.now old.0 new.0 (bits_of c.args.platform) c.in-Ok.old c.in-Ok-world_on.new two old.2 new.2;
+      sides = c.same_std_packages.ensures.sides c.args.platform c.args.trees.now.barred.now c.args.trees.now.std_tree.now c.args.old_tree.now c.args.trees.now.tree.now old.0 new.0 (bits_of c.args.platform) c.in-Ok.old c.in-Ok-world_on.new two old_paths new_paths old_world new_world;
+      same = c.same_std_packages.ensures.same c.args.platform c.args.trees.now.barred.now c.args.trees.now.std_tree.now c.args.old_tree.now c.args.trees.now.tree.now old.0 new.0 (bits_of c.args.platform) c.in-Ok.old c.in-Ok-world_on.new two old_paths new_paths old_world new_world;
     }
 
 pub returns-in-Ok-compared-clause-answer : goal.returns-in-Ok-compared-clause-answer

@@ -1,4 +1,4 @@
-use Rattle.api_kept_members.proofs.InterfaceMethods.{interface_method, no_new_method}
+use Rattle.api_kept_members.proofs.InterfaceMethods.{interface_method, no_new_method, no_new_std_method, std_method}
 use Rattle.api_kept_members.proofs.Kept.{beneath, field_kept}
 use Rattle.api_kept_members.proofs.MethodSets.{method_set, pointer_set}
 use Rattle.api_kept_members.proofs.SharedStd.{foreign_pair}
@@ -24,3 +24,9 @@ returns-clause-no_new_methods c = λ old new pairs H C i j p k a h s n q x. no_n
 
 pub returns-clause-foreign : goal.returns-clause-foreign
 returns-clause-foreign c = λ old new pairs H C i j S p k n e m. foreign_pair old new pairs H C i j S p k n e m
+
+pub returns-clause-std_interface_methods : goal.returns-clause-std_interface_methods
+returns-clause-std_interface_methods c = λ old new pairs H C i j p k a h m q x. std_method old new pairs H C i j p k a h m q x
+
+pub returns-clause-no_new_std_methods : goal.returns-clause-no_new_std_methods
+returns-clause-no_new_std_methods c = λ old new pairs H C i j p k a h s n q x. no_new_std_method old new pairs H C i j p k a h s n q x

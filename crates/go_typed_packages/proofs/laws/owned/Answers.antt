@@ -1,5 +1,6 @@
+use Rattle.go_exposed.proofs.WholePackages.{typed_offered}
 use Rattle.go_typed_packages.proofs.JoinedWorlds.{all_owned}
 use Rattle.go_typed_packages.proofs.laws.owned.Goals as goal
 
 pub returns : goal.returns
-returns c s u p w t = all_owned s u p w t
+returns c s u p w t = all_owned s u p w (typed_offered s u p t)

@@ -1,8 +1,9 @@
+use Rattle.go_typings.proofs.HeldImports.{found_held}
 use Rattle.go_typings.proofs.SameTypings.{refused_same, turned, typed_same, typing_same}
 use Rattle.go_typings.proofs.laws.same_imports.Goals as goal
 
 pub returns-clause-typing : goal.returns-clause-typing
-returns-clause-typing c = λ u s t S a f m k. typing_same u s t m f S a k
+returns-clause-typing c = λ u s t S a f m k. typing_same u s t m (found_held s.world u m.reached f m.are) S a k
 
 pub returns-clause-typed : goal.returns-clause-typed
 returns-clause-typed c = λ u s t p m k. typed_same u s t m p k

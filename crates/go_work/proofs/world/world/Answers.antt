@@ -15,7 +15,7 @@ loop-unit-init g c = record {
 }
 
 pub add_next-requires-clause-path : goal.add_next-requires-clause-path
-add_next-requires-clause-path g c κs within =
+add_next-requires-clause-path g c =
     let u = c.in-Some.«unit» in
     let front = c.loop-unit.yielded in
     let rest = into_iter_items c.next.new.self in
@@ -23,7 +23,7 @@ add_next-requires-clause-path g c κs within =
     c.requires.paths u (subst (λ us. Has us u) (sym parts) (has_at front rest u))
 
 pub add_next-requires-clause-absent : goal.add_next-requires-clause-absent
-add_next-requires-clause-absent g c κs within =
+add_next-requires-clause-absent g c =
     let u = c.in-Some.«unit» in
     let front = c.loop-unit.yielded in
     let rest = into_iter_items c.next.new.self in

@@ -1,12 +1,6 @@
-use Rattle.std.proofs.Common.{ap, arith, get_or}
 use Rattle.go_declarations.specs.Listings.{declarations_of}
-use Rattle.go_declared.proofs.ToldNamesakes.{forms_next, forms_whole}
+use Rattle.go_declared.proofs.ToldNamesakes.{table_namesakes}
 use Rattle.go_declared.proofs.namesakes.Namesakes.of.Goals as goal
 
-pub loop-number-preserved : goal.loop-number-preserved
-loop-number-preserved c =
-    forms_next (declarations_of c.args.declarations.now) c.loop-number.namesakes c.add.new.self c.loop-number.number (get_or c.args.declarations.now c.loop-number.number c.index-declarations-number.result) c.args.declarations.now c.loop-number-test.true (ap (get_or c.args.declarations.now c.loop-number.number) c.index-declarations-number.is)
-    c.loop-number.invariant c.in_ok-add.ensures
-
 pub returns : goal.returns
-returns c = forms_whole c.loop-number.namesakes c.loop-number.number c.args.declarations.now (let h = c.loop-number-test.false in omega (arith, h)) c.loop-number.invariant
+returns c = table_namesakes (declarations_of c.args.declarations.now) c.new-namesakes.result c.fill.new.table c.new-namesakes.ensures c.in_ok-fill.ensures

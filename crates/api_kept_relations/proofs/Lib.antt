@@ -1,0 +1,11 @@
+mod Carried
+mod Keeping
+mod Labels
+mod Names
+mod Objects
+mod PairFinds
+mod PairLabels
+mod Pairs
+mod Preserving
+mod StdEntries
+mod StdShared

@@ -1,0 +1,3 @@
+pub mod ClientScopes
+pub mod ClientWorlds
+pub mod StdTypes

@@ -1,0 +1,94 @@
+//! How reports tell a declaration that is left out.
+ghost use Rattle.std.specs.Prelude.{◌≡◌, ◌∷◌, ◌++◌, OnOk, IfOk, codes, map};
+ghost use Rattle.api_refusals.specs.SkippedTexts.{listed_names, skipped_text, skipped_texts, why};
+ghost use Rattle.api_refusals.specs.inner.Skipped.{names_behind};
+ghost use Rattle.go_exposed.specs.SkippedValues.{all_skipped, cause_of, skipped_of};
+
+use crate::refusals::unit_place;
+use go_base::list::List;
+use go_base::memory::NoMemory;
+use go_base::text::Text;
+use go_exposed::skipped::{Cause, Skipped};
+use go_model::files::tree::Tree;
+use go_units::unit::Unit;
+use std::alloc::Global;
+
+fn add_why(text: &mut Vec<u8>, cause: &Cause) -> Result<(), NoMemory>
+    ensures { OnOk result (text.new.items ≡ text.old.items ++ why (cause_of cause.now)) }
+{
+    match cause {
+        Cause::Number => text.extend_from_slice(b"number")?,
+        Cause::ConstantType => text.extend_from_slice(b"constant type")?,
+        Cause::ImportNotFound => text.extend_from_slice(b"import not found")?,
+        Cause::By(name) => {
+            text.extend_from_slice(b"by ")?;
+            text.extend_from_slice(name.bytes())?;
+        }
+    }
+    Ok(())
+}
+
+// Names behind another one.
+fn add_behind(text: &mut Vec<u8>, names: &[Text]) -> Result<(), NoMemory>
+    ensures { OnOk result (text.new.items ≡ text.old.items ++ names_behind names.now) }
+{
+    for name in names {
+        text.extend_from_slice(b", ")?;
+        text.extend_from_slice(name.bytes())?;
+    }
+    Ok(())
+}
+
+// A name, and more behind it.
+#[tactic(auto, using(crate::proofs::SkippedNames::listed_after))]
+fn add_more(text: &mut Vec<u8>, name: &Text, more: &[Text]) -> Result<(), NoMemory>
+    ensures { OnOk result (text.new.items ≡ text.old.items ++ listed_names (name.now ∷ more.now)) }
+{
+    text.extend_from_slice(name.bytes())?;
+    add_behind(text, more)
+}
+
+fn add_names(text: &mut Vec<u8>, names: &[Text]) -> Result<(), NoMemory>
+    ensures { OnOk result (text.new.items ≡ text.old.items ++ listed_names names.now) }
+{
+    match names.split_first() {
+        None => Ok(()),
+        Some((first, rest)) => add_more(text, first, rest),
+    }
+}
+
+// `FILE:LINE:COLUMN NAME: CAUSE`.
+fn skipped_text(
+    alloc: Global,
+    tree: &Tree,
+    std_tree: &Tree,
+    unit: &Unit,
+    skipped: &Skipped,
+) -> Result<Text, NoMemory>
+    ensures { IfOk result (λ text. text ≡ skipped_text tree.now std_tree.now unit.now (skipped_of skipped.now)) }
+{
+    let mut text = unit_place(alloc, tree, std_tree, &[], unit, skipped.place)?;
+    text.extend_from_slice(b" ")?;
+    add_names(&mut text, skipped.names.items())?;
+    text.extend_from_slice(b": ")?;
+    add_why(&mut text, &skipped.cause)?;
+    Ok(Text::from_vec(text))
+}
+
+/// What is left out of a package of two trees: for each declaration `FILE:LINE:COLUMN NAME: CAUSE`.
+pub fn skipped_texts(
+    alloc: Global,
+    tree: &Tree,
+    std_tree: &Tree,
+    unit: &Unit,
+    skipped: &[Skipped],
+) -> Result<List<Text>, NoMemory>
+    ensures { IfOk result (λ texts. texts ≡ skipped_texts tree.now std_tree.now unit.now (all_skipped skipped.now)) }
+{
+    let mut texts = List::new(alloc);
+    for declaration in skipped {
+        let text = skipped_text(alloc, tree, std_tree, unit, declaration)?;
+        texts.push(text)?;
+    }
+    Ok(texts)
+}

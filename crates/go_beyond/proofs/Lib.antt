@@ -1,0 +1,2 @@
+pub mod DecidedFlags
+pub mod NumbersInParts

@@ -1,7 +1,0 @@
-use Rattle.std.proofs.Common.{◌≡◌, take, []}
-use Rattle.go_declarations.specs.Listings.{declarations_of}
-use Rattle.go_declared.specs.inner.AddingMethods.{with_forms}
-use Rattle.go_declared.proofs.methods.DeclaredMethods.of.Given as goal
-
-abbrev pub invariant-loop-number : goal.invariant-loop-number
-invariant-loop-number l = l.methods ≡ with_forms (declarations_of l.declarations) [] 0 (declarations_of (take l.number l.declarations))

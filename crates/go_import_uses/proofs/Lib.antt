@@ -1,0 +1,6 @@
+pub mod NamedImports
+pub mod OneOf
+pub mod Selected
+pub mod Declarations
+pub mod SeenImports
+pub mod NeededImports

@@ -1,0 +1,7 @@
+//! Which declarations of a package select from imports that aren't found.
+#![tactic(auto)]
+
+mod imports;
+pub mod missing;
+pub mod needed;
+mod references;

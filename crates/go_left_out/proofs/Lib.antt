@@ -1,0 +1,3 @@
+pub mod ToldFlags
+pub mod ToldCauses
+pub mod SkippedSoFar

@@ -1,0 +1,8 @@
+//! Which declarations of a package are left out, and why.
+#![tactic(auto)]
+
+mod causes;
+pub mod places;
+pub mod skipped;
+pub mod told;
+pub mod wrong;

@@ -1,0 +1,4 @@
+pub mod FlaggedNumbers
+pub mod JoinedFlags
+pub mod LeastOthers
+pub mod Searching

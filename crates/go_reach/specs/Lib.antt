@@ -1,0 +1,5 @@
+pub mod AnyFlags
+pub mod LeastOthers
+pub mod Numbers
+pub mod Reached
+pub mod inner

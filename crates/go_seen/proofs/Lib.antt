@@ -1,0 +1,2 @@
+pub mod OfferedFlags
+pub mod SeenFlags
