@@ -99,10 +99,11 @@ def at_hand():
     try:
         import building
         import delivered
+        import remembered
         import repository
     except ImportError:
         return ""
-    sums = repository.digests(repository.needed(["apigate"]))
+    sums = remembered.digests(repository.needed(["apigate"]))
     try:
         return building.current(repository.digest_of(sums)) or delivered.program(sums, lambda text: say("apigate: " + text))
     except (delivered.Unfit, OSError):

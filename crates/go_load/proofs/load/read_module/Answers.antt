@@ -2,8 +2,8 @@ use Rattle.go_load.proofs.StoreSteps.{told_same}
 use Rattle.go_load.proofs.Loading.{parsed_told, refused_told, unfound_told}
 use Rattle.go_load.proofs.load.read_module.Goals as goal
 
-pub returns-in-Err-find_module-clause-told : goal.returns-in-Err-find_module-clause-told
-returns-in-Err-find_module-clause-told g c = unfound_told (g.F.Files.told c.args.files.now) c.args.root.now c.in-Err-find_module.error c.in-Err-find_module.ensures.told
+pub returns-in-Err-clause-told : goal.returns-in-Err-clause-told
+returns-in-Err-clause-told g c = unfound_told (g.F.Files.told c.args.files.now) c.args.root.now c.in-Err.error c.in-Err.ensures.told
 
 pub returns-in-Ok-clause-told : goal.returns-in-Ok-clause-told
 returns-in-Ok-clause-told g c = parsed_told (g.F.Files.told c.args.files.now) c.args.root.now c.in-Ok.bytes c.bytes.result.now c.parse.result c.bytes.ensures (told_same _ c.find_module.ensures.same c.in-Ok.ensures.told) c.parse.ensures

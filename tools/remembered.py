@@ -1,0 +1,52 @@
+"""The sums of the sources of crates, remembered in the user's cache while no file of theirs changes. As for git, a file is as it was while its
+size, its times and its number are; sums that are taken within a moment of a change aren't remembered."""
+import hashlib
+import json
+import os
+import time
+
+import places
+import repository
+
+# how long a file may have been still, in nanoseconds, and yet have changed within one tick of its system's clock
+MOMENT = 2_000_000_000
+NAME = "sums.json"
+
+
+def seen(names):
+    """Returns what tells these crates' files apart from others without reading them, and when the last of them changed."""
+    total, last = hashlib.sha256(), 0
+    for path in [os.path.join(repository.TOP, "crates.txt"), *(path for name in names for path in repository.sources(name))]:
+        told = os.stat(path)
+        total.update(repr((path, told.st_size, told.st_mtime_ns, told.st_ctime_ns, told.st_ino)).encode())
+        last = max(last, told.st_ctime_ns)
+    return total.hexdigest(), last
+
+
+def before(place, names, now):
+    """Returns the sums that were remembered of the same files, or None."""
+    try:
+        with open(place, encoding="utf-8") as file:
+            kept = json.load(file)
+        sums = kept["sums"]
+        return sums if kept["seen"] == now and list(sums) == names and all(isinstance(it, str) for it in sums.values()) else None
+    except (OSError, ValueError, KeyError, TypeError, AttributeError):
+        return None
+
+
+def digests(names):
+    """Returns what repository.digests does."""
+    folders = places.cache(hashlib.sha256(repository.TOP.encode()).hexdigest())
+    now, last = seen(names)
+    for folder in folders:
+        sums = before(os.path.join(folder, NAME), names, now)
+        if sums:
+            return sums
+    begun = time.time_ns()
+    sums = repository.digests(names)
+    if folders and begun - last > MOMENT and seen(names) == (now, last):
+        try:
+            places.first(folders, lambda folder: places.put(os.path.join(folder, NAME), json.dumps({"seen": now, "sums": sums}).encode()))
+        except places.Closed:
+            pass
+    return sums
