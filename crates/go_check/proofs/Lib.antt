@@ -2,3 +2,4 @@ pub mod FilesInOrder
 pub mod ListedDeclarations
 pub mod MovedScopes
 pub mod SameSettings
+pub mod LeftEntries

@@ -1,0 +1,13 @@
+use Rattle.std.proofs.Common.{◌+◌, ◌∙◌, None, ap, arith, nat_eq}
+use Rattle.std.specs.Prelude.{◌&&◌, if◌then◌else◌}
+use Rattle.go_graphs.specs.Flags.{is_flagged}
+use Rattle.go_check.proofs.LeftEntries.{left_next}
+use Rattle.go_check.proofs.kept.leave_only.Goals as goal
+
+pub loop-number-preserved : goal.loop-number-preserved
+loop-number-preserved c = record {
+  count = c.leave.ensures.count ∙ c.loop-number.invariant.count;
+  kept = λ n.
+      c.leave.ensures.kept n ∙ ap (λ x. if nat_eq n c.loop-number.number && is_flagged c.args.lost.now c.loop-number.number then None else x) (c.loop-number.invariant.kept n)
+      ∙ left_next c.args.lost.now n c.loop-number.number _;
+}
