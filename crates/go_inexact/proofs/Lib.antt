@@ -1,2 +1,7 @@
+pub mod Adding
 pub mod Answered
+pub mod Arguments
 pub mod Chained
+pub mod Following
+pub mod Told
+pub mod ValuesDecided

@@ -14,11 +14,11 @@ use go_base::memory::NoMemory;
 use go_expr::typing::type_expr;
 use go_model::types::term::Term;
 use go_operators::levels::basic_under;
+use go_operators::values::is_usable;
 use go_rules::operand::{Mode, Operand, Shape};
 use go_syntax::expression::Expr;
 use go_type_terms::error::ExprError;
 use go_usability::context::Context;
-use go_usability::usable::usable;
 use std::alloc::Global;
 
 /// Whether a type is inexact underneath: a floating-point or complex one.
@@ -44,7 +44,7 @@ fn is_value_of(
         Err(ExprError::Untyped) => Ok(false),
         Err(ExprError::NoMemory) => Err(NoMemory),
         Ok(operand) => {
-            let fits = usable(context, alloc, &operand, term)?;
+            let fits = is_usable(context, alloc, &operand, term)?;
             if !fits {
                 return Ok(false);
             }
