@@ -29,7 +29,7 @@ use go_base::memory::NoMemory;
 use go_declaration_graph::graph::graph;
 use go_declared::package::PackageTables;
 use go_entries::had::HadEntries;
-use go_exposed::laws::{beyond_of_sieve, cause_of_sieve, offered_or_refused, sieve_of_kept};
+use go_exposed::laws::{beyond_of_sieve, offered_or_refused, sieve_of_kept, whole_package};
 use go_inexact::constants::inexact_constants;
 use go_left_out::places::place_of;
 use go_left_out::skipped::skipped;
@@ -39,6 +39,7 @@ use go_packages::package::package;
 use go_rules::env::Env;
 use go_seen::seen::seen;
 use go_sifting::first::first_flagged;
+use go_soundness::laws::typed_or_first_unsound;
 use go_units::unit::Unit;
 use std::alloc::Global;
 
@@ -52,7 +53,6 @@ fn complete(
 ) -> Result<CheckedPackage, CheckError>
     requires listed { declarations_of tables.now.declarations.now ≡ all_declarations (source_of unit.now) }
     requires tables { AreTables tables.now }
-    requires count { length had.now ≡ length (all_declarations (source_of unit.now)) }
     requires once { (q : Spot) → IsRedeclared (source_of unit.now) q → ⊥ }
     requires found { (q : Spot) → IsMissing (source_of unit.now) q → ⊥ }
     requires none { (n : ℕ) → is_flagged lost.now n ≡ false }
@@ -61,13 +61,11 @@ fn complete(
     ensures skipped { (s : Setting) → IsApart s (source_of unit.now) → AreAll s (source_of unit.now) (entries_at had.now)
         → AreSifted s (source_of unit.now) (entries_at had.now) (is_flagged lost.now) → IfOk result (λ c. IsSkipped s (source_of unit.now) (all_skipped c.skipped)) }
 {
-    offered_or_refused();
-    sieve_of_kept();
+    typed_or_first_unsound();
+    whole_package();
+    let skipped = List::new(alloc);
     match package(alloc, unit, tables, had) {
-        Ok(package) => Ok(CheckedPackage {
-            package,
-            skipped: List::new(alloc),
-        }),
+        Ok(package) => Ok(CheckedPackage { package, skipped }),
         Err(NoMemory) => Err(CheckError::NoMemory),
     }
 }
@@ -96,7 +94,6 @@ fn incomplete(
 {
     offered_or_refused();
     sieve_of_kept();
-    cause_of_sieve();
     leave_only(&mut had, lost);
     let package = package(alloc, unit, tables, &had)?;
     let skipped = skipped(alloc, tables.declarations, depends, lost, told)?;

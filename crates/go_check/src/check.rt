@@ -106,9 +106,8 @@ fn offer_declarations(
         names: &names,
         methods: &methods,
     };
-    let Settled { mut env, had, lost } = settled(
-        alloc, unit, imports, bits, profile, &tables, &hints,
-    )?;
+    let settled = settled(alloc, unit, imports, bits, profile, &tables, &hints)?;
+    let Settled { mut env, had, lost } = settled;
     answer(alloc, &mut env, unit, &tables, had, &lost)
 }
 
@@ -144,24 +143,34 @@ fn type_declarations(
 }
 
 // The first import that isn't found and from which a declaration that is seen selects.
-fn needed_import(alloc: Global, unit: &Unit) -> Result<Option<Place>, NoMemory>
+fn needed_of_all(alloc: Global, unit: &Unit) -> Result<Option<Place>, NoMemory>
     ensures some { IfOk result (λ found. IfSome found (offered.IsMissing (source_of unit.now))) }
     ensures none { IfOk result (λ found. IfNone found ((q : Spot) → offered.IsMissing (source_of unit.now) q → ⊥)) }
 {
-    if missing_import(unit).is_none() {
-        return Ok(None);
-    }
     let declarations = declarations_in(alloc, unit)?;
-    let names = DeclaredNames::of(alloc, declarations.items())?;
-    let methods = DeclaredMethods::of(alloc, declarations.items(), &names)?;
+    let listed = declarations.items();
+    let names = DeclaredNames::of(alloc, listed)?;
+    let methods = DeclaredMethods::of(alloc, listed, &names)?;
     let tables = PackageTables {
-        declarations: declarations.items(),
+        declarations: listed,
         names: &names,
         methods: &methods,
     };
     let depends = dependencies(alloc, &tables)?;
-    let seen = seen(alloc, unit, declarations.items(), depends.items())?;
-    first_needed(alloc, unit, declarations.items(), &seen)
+    let rows = depends.items();
+    let seen = seen(alloc, unit, listed, rows)?;
+    first_needed(alloc, unit, listed, &seen)
+}
+
+// The same, told without the declarations where each import is found.
+fn needed_import(alloc: Global, unit: &Unit) -> Result<Option<Place>, NoMemory>
+    ensures some { IfOk result (λ found. IfSome found (offered.IsMissing (source_of unit.now))) }
+    ensures none { IfOk result (λ found. IfNone found ((q : Spot) → offered.IsMissing (source_of unit.now) q → ⊥)) }
+{
+    match missing_import(unit) {
+        None => Ok(None),
+        Some(_) => needed_of_all(alloc, unit),
+    }
 }
 
 // The package as which a unit is offered, with what is left out, or the first thing for which it is refused.

@@ -12,9 +12,11 @@ fn leave(had: &mut HadEntries, lost: &[bool], number: usize)
     ensures count { length had.new ≡ length had.old }
     ensures kept { (n : ℕ) → entries_at had.new n ≡ (if nat_eq n number && is_flagged lost.now number then None else entries_at had.old n) }
 {
-    if flag(lost, number) {
-        had.remove(number);
+    let is_lost = flag(lost, number);
+    if !is_lost {
+        return;
     }
+    had.remove(number);
 }
 
 /// Takes the entries away of the declarations that are lost.

@@ -52,10 +52,7 @@ fn rows_of(
 
 /// For each declaration of a package, by number, those on which it depends, told from the names in it alone: the ones of these names and,
 /// for a defined type, those of its methods. For numbers past 32 bits there is no memory.
-pub fn dependencies(
-    alloc: Global,
-    tables: &PackageTables<'_>,
-) -> Result<List<List<u32>>, NoMemory>
+pub fn dependencies(alloc: Global, tables: &PackageTables<'_>) -> Result<List<List<u32>>, NoMemory>
     requires { AreTables tables.now }
     ensures { (s : Setting) (u : PackageSource) (a : Entries) → declarations_in u ≡ declarations_of tables.now.declarations.now → IfOk result (AreRows s u a (Depends s u a)) }
 {

@@ -18,5 +18,5 @@ returns c s u a same =
     let ds = declarations_of c.args.tables.now.declarations.now in
     IfOk-weaker c.rows_of.result (HasDependencies names methods ds) (AreRows s u a (Depends s u a))
     (λ rows is. subst (AreRows s u a (Depends s u a)) (sym (is ∙ ap (λ (es : List Declaration). map (λ d. dependencies names methods d.form) es) (sym same)))
-        (dependency_rows names methods u (subst (λ (es : List Declaration). AreDeclared es names) (sym same) c.requires.names) (subst (λ (es : List Declaration). AreMethods es methods) (sym same) c.requires.methods) s a))
+    (dependency_rows names methods u (subst (λ (es : List Declaration). AreDeclared es names) (sym same) c.requires.names) (subst (λ (es : List Declaration). AreMethods es methods) (sym same) c.requires.methods) s a))
     c.rows_of.ensures
