@@ -1,12 +1,13 @@
 -- What Go may take as a constant is so among more entries too, and in a closed region to which it refers alone.
-use Rattle.std.proofs.Common.{◌≡◌, Bool, true, false, List, [], ◌∷◌, ◌++◌, map, refl, sym, ap, subst, inl, inr}
+use Rattle.std.proofs.Common.{◌≡◌, Bool, true, false, List, [], ◌∷◌, ◌++◌, map, refl, sym, ap, ◌∙◌, subst, inl, inr}
 use Rattle.std.specs.Prelude.{if◌then◌else◌, is_some}
 use Rattle.go_base.specs.Lists.{Each, Has}
+use Rattle.go_model.specs.declared.constants.value.Basic.{Basic}
 use Rattle.go_model.specs.declared.types.term.Term.{Term-F}
 use Rattle.go_rules.specs.Environments.{Env}
 use Rattle.go_rules.specs.Expressions.{HasForm, Has as HasOperand, chain, unary_operator}
 use Rattle.go_rules.specs.Growth.{Grows}
-use Rattle.go_rules.specs.Nodes.{ExprLayer, Node, expression, expression_parts, post}
+use Rattle.go_rules.specs.Nodes.{ExprLayer, Node, expression, expression_parts, post, post_parts}
 use Rattle.go_rules.specs.Operands.{constant_of, type_name}
 use Rattle.go_rules.specs.Regions.{IsClosed, RefersIn, Region, cut}
 use Rattle.go_rules.proofs.GrowOperand.{has_form_more, has_more}

@@ -1,15 +1,15 @@
 -- A declaration that is left out has one cause, and packages have one list of what is left out.
-use Rattle.std.proofs.Common.{◌≡◌, ℕ, Bool, List, ◌∷◌, refl, sym, ap, ◌∙◌, subst, inl, inr}
+use Rattle.std.proofs.Common.{◌≡◌, ℕ, suc, ◌<◌, ◌⊎◌, Bool, true, false, List, [], ◌∷◌, refl, sym, ap, ◌∙◌, subst, inl, inr}
 use Rattle.std.specs.Prelude.{slice_get}
 use Rattle.go_model.specs.worlds.Worlds.{Packages}
 use Rattle.go_rules.proofs.OneKind.{no_truth}
 use Rattle.go_typings.specs.Assignments.{At}
 use Rattle.go_typings.specs.Declarations.{Declaration, declarations}
-use Rattle.go_typings.specs.PackageWorlds.{Outcome, typed, refused, blocked, over, with_outcome}
+use Rattle.go_typings.specs.PackageWorlds.{Outcome, typed, refused, blocked, no_packages, over, with_outcome}
 use Rattle.go_typings.specs.Sources.{PackageSource, Setting}
 use Rattle.go_typings.proofs.Cells.{some_once}
 use Rattle.go_exposed.specs.BeyondProfile.{IsBeyond}
-use Rattle.go_exposed.specs.Causes.{Cause, by_another, HasCause, HasCauseBy, of_number, of_constant_type, of_import, of_another, IsFirstThrough, IsInexactConstant, first_name, shown_names}
+use Rattle.go_exposed.specs.Causes.{Cause, number, constant_type, import_not_found, by_another, HasCause, HasCauseBy, of_number, of_constant_type, of_import, of_another, IsFirstThrough, IsInexactConstant, IsThrough, first_name, shown_names}
 use Rattle.go_exposed.specs.OfferedWorlds.{Becomes}
 use Rattle.go_exposed.specs.SkippedDeclarations.{AreSkippedFrom, skipped_none, skipped_kept, skipped_more, IsSkippedOf, Skipped, skipped_as}
 use Rattle.go_exposed.specs.SkippedWorlds.{AreSkipped, IsSkipped, IsSkippedAs, Skip, skip_none, skip_more}

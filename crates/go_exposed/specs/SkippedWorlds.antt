@@ -3,7 +3,7 @@
 use Rattle.std.specs.Prelude.{◌≡◌, ℕ, Bool, List, [], ◌∷◌}
 use Rattle.go_model.specs.worlds.Worlds.{Packages}
 use Rattle.go_typings.specs.PackageEnvironments.{Entries}
-use Rattle.go_typings.specs.PackageWorlds.{Outcome, typed, no_packages, over, with_outcome}
+use Rattle.go_typings.specs.PackageWorlds.{Outcome, typed, refused, blocked, no_packages, over, with_outcome}
 use Rattle.go_typings.specs.Sources.{PackageSource, Setting}
 use Rattle.go_exposed.specs.KeptDeclarations.{LeavesOut}
 use Rattle.go_exposed.specs.OfferedWorlds.{Becomes}
