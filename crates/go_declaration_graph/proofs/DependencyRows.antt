@@ -1,5 +1,5 @@
 -- Rows of dependencies, declaration by declaration.
-use Rattle.std.proofs.Common.{◌≡◌, ◌<◌, ◌+◌, ℕ, zero, suc, List, [], ◌∷◌, ◌++◌, Some, add-one, arith, get_or, length, map, take, refl, sym, ap, ◌∙◌, subst}
+use Rattle.std.proofs.Common.{◌≡◌, ◌<◌, ◌+◌, ℕ, zero, suc, List, [], ◌∷◌, ◌++◌, None, Some, add-one, arith, get_or, length, map, take, refl, sym, ap, ◌∙◌, subst}
 use Rattle.std.specs.Prelude.{slice_get}
 use Rattle.go_base.specs.Lists.{Has}
 use Rattle.go_declaration_graph.specs.inner.DependencyRows.{HasDependencies}
@@ -15,7 +15,6 @@ use Rattle.go_graphs.specs.Walks.{row_of}
 use Rattle.go_rules.specs.Names.{Named}
 use Rattle.go_sifting.specs.Graphs.{AreRows}
 use Rattle.go_soundness.specs.LostDeclarations.{Depends}
-use Rattle.go_typings.specs.Assignments.{At}
 use Rattle.go_typings.specs.Declarations.{Declaration, declarations}
 use Rattle.go_typings.specs.PackageEnvironments.{Entries}
 use Rattle.go_typings.specs.Sources.{PackageSource, Setting}

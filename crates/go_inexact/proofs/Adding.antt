@@ -1,20 +1,23 @@
 -- What a conversion adds to trees: its argument.
-use Rattle.std.proofs.Common.{◌≡◌, ◌+◌, ℕ, Bool, true, false, List, [], ◌∷◌, ◌++◌, length, get_or, take, Option, Some, None, refl, sym, ap, ◌∙◌, subst}
-use denote.Ref.{Bor}
+use Rattle.std.proofs.lemmas.Bool.{eqb-true}
+use Rattle.std.proofs.Common.{◌≡◌, ◌+◌, ◌==◌, ℕ, Bool, true, false, List, [], ◌∷◌, ◌++◌, arith, length, get_or, take, sym, ap, ◌∙◌, subst}
 use Rattle.go_inexact.proofs.Arguments.{last_of, last_same, not_empty}
-use Rattle.go_inexact.specs.Chains.{Converts, HasArgument, IsTypeForm, NamesBasic}
+use Rattle.go_inexact.specs.Chains.{IsTypeForm, NamesBasic}
 use Rattle.go_inexact.specs.inner.Added.{AddsArgument, AddsConverted, ConvertsLast}
 use Rattle.go_rules.specs.Environments.{Env}
 use Rattle.go_rules.specs.Expressions.{IsCall}
 use Rattle.go_rules.specs.Nodes.{ExprLayer, Node, expression}
 use Rattle.go_selectors.specs.Answers.{Decides}
-use Rattle.go_syntax.specs.declared.expression.Expr.{Expr, Expr-F, out-Expr}
+use Rattle.go_syntax.specs.declared.expression.Expr.{Expr, Expr-F, out-Expr, roll-Expr, roll-out-Expr}
+use Rattle.go_syntax.specs.declared.expression.Expr.TheVariants as expr
+use Rattle.go_syntax.specs.declared.expression.Expr.TheVariants.{outs-Primary}
 use Rattle.go_syntax.specs.declared.expression.Post.{Post, out-Post}
 
 module _ (E : Env) (e : Expr) where
   -- no post converts
-  pub adds_none : (ps : List Post) (old new : List Node) → ps ≡ [] → AddsArgument E e ps old new false
-  adds_none ps old new q = λ x k. absurd (not_empty k.before k.call (sym q ∙ k.is))
+  pub adds_none : (ps : List Post) (old new : List Node) → (length ps == 0) ≡ true → AddsArgument E e ps old new false
+  adds_none [] old new q = λ x k. absurd (not_empty k.before k.call k.is)
+  adds_none (p ∷ ps) old new q = absurd (omega (arith, eqb-true (length (p ∷ ps)) 0 q))
 
   module _ (ps : List Post) (n : ℕ) (c : Post) (h : n + 1 ≡ length ps) (i : c ≡ get_or ps n c) where
     parts : {x : Expr} → (k : ConvertsLast E e ps x) → (take n ps ≡ k.before) × (c ≡ k.call)
@@ -45,6 +48,9 @@ module _ (E : Env) (e : Expr) where
 
 -- ---- of an expression
 
+primary_expr : (e x : Expr) (ps : List Post) → out-Expr e ≡ Expr-F.Primary x ps → e ≡ expr.Primary x ps
+primary_expr e x ps i = sym (roll-out-Expr e) ∙ ap roll-Expr i ∙ ap roll-Expr (sym (outs-Primary x ps)) ∙ roll-out-Expr (expr.Primary x ps)
+
 same_operand : {x y : Expr} {ps qs : List Post} → ◌≡◌ {A = ExprLayer} (Expr-F.Primary x ps) (Expr-F.Primary y qs) → x ≡ y
 same_operand e = cc
 
@@ -70,5 +76,5 @@ module _ (E : Env) (e : Expr) where
       k y (record { before = c.before; call = c.call; is = same_posts j; argument = c.argument; basic = subst (λ (z : Expr). NamesBasic E z c.before) (sym (same_operand j)) c.basic })
 
   -- an expression that is no operand with posts converts nothing
-  pub adds_other : (old new : List Node) → ((x : Expr) (ps : List Post) → out-Expr e ≡ Expr-F.Primary x ps → ⊥) → AddsConverted E e old new false
-  adds_other old new none = λ y c. absurd (none c.operand (c.before ++ c.call ∷ []) c.is)
+  pub adds_other : (old new : List Node) → ((x : Expr) (ps : List Post) → e ≡ expr.Primary x ps → ⊥) → AddsConverted E e old new false
+  adds_other old new none = λ y c. absurd (none c.operand (c.before ++ c.call ∷ []) (primary_expr e c.operand (c.before ++ c.call ∷ []) c.is))

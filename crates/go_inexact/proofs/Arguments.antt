@@ -1,14 +1,21 @@
 -- Calls with one argument, and lists with one item or a last one.
-use Rattle.std.proofs.Common.{◌≡◌, ◌+◌, ◌<◌, ◌≤◌, ℕ, zero, suc, Bool, true, false, List, [], ◌∷◌, ◌++◌, length, get_or, take, drop, refl, sym, ap, ◌∙◌, subst, arith, length-append}
+use Rattle.std.proofs.Common.{◌≡◌, ◌+◌, ℕ, suc, Bool, true, false, List, [], ◌∷◌, ◌++◌, length, get_or, take, drop, Option, None, Some, refl, sym, ap, ◌∙◌, subst, arith}
+use Rattle.std.specs.Prelude.{MatchOption}
+use denote.Ref.{Bor}
 use Rattle.go_base.proofs.Lists.{drop_past, split_at}
-use Rattle.go_inexact.specs.Chains.{IsTypeForm}
+use Rattle.go_inexact.specs.Chains.{HasArgument, IsTypeForm}
 use Rattle.go_rules.specs.Expressions.{IsCall, call, call_receive_type}
 use Rattle.go_rules.specs.Nodes.{PostLayer}
-use Rattle.go_syntax.specs.declared.expression.Expr.{Expr, Expr-F, out-Expr}
+use Rattle.go_syntax.specs.declared.expression.Expr.{Expr, out-Expr}
 use Rattle.go_syntax.specs.declared.expression.Expr.TheVariants as expr
 use Rattle.go_syntax.specs.declared.expression.Expr.TheVariants.{outs-Type}
-use Rattle.go_syntax.specs.declared.expression.Post.{Post, Post-F, out-Post}
+use Rattle.go_syntax.specs.declared.expression.Post.{Post, Post-F, out-Post, roll-Post, roll-out-Post}
+use Rattle.go_syntax.specs.declared.expression.Post.TheVariants as post
+use Rattle.go_syntax.specs.declared.expression.Post.TheVariants.{outs-Call}
 use Rattle.go_syntax.specs.declared.types.«Type».TheVariants as type
+
+no_dots : {A : Type 0} → false ≡ true → A
+no_dots e = absurd (cc)
 
 -- ---- lists
 
@@ -81,3 +88,21 @@ module _ (l : PostLayer) (x : Expr) (a : IsCall l (x ∷ []) false) where
       by (Post-F.Index y) e k = absurd k
       by (Post-F.«Post::Slice» low high) e k = absurd k
       by (Post-F.FullSlice low high bound) e k = absurd k
+
+module _ (c : Post) (xs : List Expr) (dots : Bool) (i : out-Post c ≡ Post-F.Call xs dots) where
+  -- arguments with `...` are no argument
+  pub dotted : dots ≡ true → HasArgument c None
+  dotted e = λ x a. no_dots (sym (call_of (out-Post c) x a i).1 ∙ e)
+
+  -- the only argument of a call, where there is one
+  pub only_argument : dots ≡ false → (r : Option (Bor Expr)) → MatchOption r ((x : Expr) → xs ≡ x ∷ [] → ⊥) (λ x. xs ≡ x.now ∷ []) → HasArgument c r
+  only_argument e None m = λ x a. absurd (m x (call_of (out-Post c) x a i).0)
+  only_argument e (Some x) m = subst (λ (l : PostLayer). IsCall l (x.now ∷ []) false) (sym (i ∙ ap (λ (ys : List Expr). Post-F.Call ys dots) m ∙ ap (Post-F.Call (x.now ∷ [])) e)) call
+
+-- a post of this form is such a call
+pub called_post : (c : Post) (xs : List Expr) (dots : Bool) → out-Post c ≡ Post-F.Call xs dots → c ≡ post.Call xs dots
+called_post c xs dots i = sym (roll-out-Post c) ∙ ap roll-Post i ∙ ap roll-Post (sym (outs-Call xs dots)) ∙ roll-out-Post (post.Call xs dots)
+
+-- what is no call that begins with a value has an argument only where that is a type
+pub no_argument : (c : Post) → ((xs : List Expr) (dots : Bool) → out-Post c ≡ Post-F.Call xs dots → ⊥) → HasArgument c None
+no_argument c none = λ x a. type_argument (out-Post c) x a none

@@ -1,11 +1,11 @@
 -- What posts make of an operand, and an expression with its posts.
 use Rattle.std.specs.List.{slice_get}
-use Rattle.std.proofs.Common.{◌≡◌, ◌<◌, ◌≤◌, ◌+◌, ℕ, List, [], ◌∷◌, drop, get_or, length, Option, None, Some, refl, sym, ap, ◌∙◌, subst}
+use Rattle.std.proofs.Common.{◌≡◌, ◌<◌, ◌≤◌, ◌+◌, ℕ, List, [], ◌∷◌, drop, get_or, length, Option, None, Some, refl, sym, subst}
 use Rattle.go_expr.specs.Chains.{Makes, NamesImported}
 use Rattle.go_expr.proofs.ImportedNames.{one_name, one_selector}
 use Rattle.go_inexact.specs.Chains.{IsChain, IsImportedChain}
 use Rattle.go_rules.specs.Environments.{Env}
-use Rattle.go_rules.specs.Expressions.{Denotes, DenotesImported, Has, has_operand, HasForm, has_imported, has_name, has_primary, HasPosts, chain, posts_more, posts_none}
+use Rattle.go_rules.specs.Expressions.{Denotes, DenotesImported, Has, has_operand, HasForm, has_imported, has_name, has_primary, HasPosts, posts_more, posts_none}
 use Rattle.go_rules.specs.Nodes.{ExprLayer}
 use Rattle.go_rules.specs.Operands.{ShapeWithin}
 use Rattle.go_rules.specs.declared.operand.Operand.{Operand}
@@ -13,7 +13,7 @@ use Rattle.go_rules.proofs.OneName.{no_import, one_imported}
 use Rattle.go_rules.proofs.OneOperand.{has_once, post_once}
 use Rattle.go_selectors.proofs.Lists.{drop_all, drop_next}
 use Rattle.go_syntax.specs.declared.expression.Expr.{Expr, Expr-F, out-Expr}
-use Rattle.go_syntax.specs.declared.expression.Post.{Post, Post-F, out-Post}
+use Rattle.go_syntax.specs.declared.expression.Post.{Post}
 use Rattle.go_syntax.specs.declared.name.Name.{Name}
 
 no_post : {x : Post} → ◌≡◌ {A = Option Post} None (Some x) → ⊥

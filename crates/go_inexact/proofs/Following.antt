@@ -3,24 +3,20 @@ use Rattle.std.proofs.Common.{◌≡◌, Bool, true, false, List, [], ◌∷◌,
 use Rattle.std.specs.Prelude.{if◌then◌else◌, is_some, MatchOption, Option, Some, None}
 use denote.Ref.{Bor}
 use Rattle.go_base.specs.Lists.{Each, Has}
-use Rattle.go_base.proofs.Members.{each_has}
 use Rattle.go_exposed.specs.BeyondProfile.{MayBeConstant, may_converted, may_itself, may_operated, operands}
 use Rattle.go_inexact.proofs.Arguments.{argument_same, last_same}
-use Rattle.go_inexact.specs.Chains.{Converts, IsTypeForm, NamesBasic}
+use Rattle.go_inexact.specs.Chains.{Converts, IsTypeForm}
 use Rattle.go_inexact.specs.Maybe.{Follows, FollowsTree, MayBe, is_operated}
 use Rattle.go_inexact.specs.inner.Added.{AddsConverted}
 use Rattle.go_inexact.specs.inner.Constants.{IsConstant}
-use Rattle.go_model.specs.declared.constants.value.Basic.{Basic}
 use Rattle.go_model.specs.declared.constants.value.Value.{Value}
 use Rattle.go_model.specs.declared.types.package.ConstTerm.{ConstTerm}
-use Rattle.go_model.specs.declared.types.term.Term.{Term, Term-F}
-use Rattle.go_model.specs.types.Underlying.{under}
+use Rattle.go_model.specs.declared.types.term.Term.{Term}
 use Rattle.go_rules.specs.Environments.{Env}
-use Rattle.go_rules.specs.Expressions.{Has as HasOperand, HasForm, IsCall, chain, has_operand, has_type, unary_operator}
-use Rattle.go_rules.specs.Nodes.{ExprLayer, Node, expression, expression_parts, post, value, type, signature}
-use Rattle.go_rules.specs.Operands.{ShapeWithin, constant_of, type_name}
+use Rattle.go_rules.specs.Expressions.{Has as HasOperand, HasForm, IsCall, has_operand, has_type, unary_operator}
+use Rattle.go_rules.specs.Nodes.{ExprLayer, Node, expression, expression_parts, value, type}
+use Rattle.go_rules.specs.Operands.{constant_of, type_name}
 use Rattle.go_rules.specs.declared.operand.Operand.{Operand}
-use Rattle.go_rules.specs.declared.operand.Mode.{Mode}
 use Rattle.go_rules.specs.declared.operand.Mode.TheVariants as mode
 use Rattle.go_rules.proofs.LocalParts.{each_both, each_left, each_right}
 use Rattle.go_rules.proofs.OneOperand.{has_once}
@@ -42,6 +38,10 @@ module _ (E : Env) where
       → MatchOption r ((c : ConstTerm) (v : Value) → o ≡ constant_of c v → ⊥) (λ p. o ≡ constant_of p.0.now p.1.now) → Decides (is_some r) (IsConstant E e)
   constant_is e o None h m = λ k. m k.term k.value (has_once E h k.has)
   constant_is e o (Some p) h m = record { term = p.0.now; value = p.1.now; has = subst (HasOperand E e) m h }
+
+  pub constant_decides : (e : Expr) (o : Operand) (r : Option (Bor ConstTerm × Bor Value)) (b : Bool) → HasOperand E e o
+      → MatchOption r ((c : ConstTerm) (v : Value) → o ≡ constant_of c v → ⊥) (λ p. o ≡ constant_of p.0.now p.1.now) → b ≡ is_some r → Decides b (IsConstant E e)
+  constant_decides e o r b h m i = subst (λ (z : Bool). Decides z (IsConstant E e)) (sym i) (constant_is e o r h m)
 
   pub untyped_constant : (e : Expr) → ((o : Operand) → HasOperand E e o → ⊥) → IsConstant E e → ⊥
   untyped_constant e none k = none (constant_of k.term k.value) k.has

@@ -1,10 +1,14 @@
 -- Which declarations of a package are of constants of an inexact type, as it is told.
-use Rattle.std.proofs.Common.{◌≡◌, ◌≢◌, ◌<◌, ◌≤◌, ◌+◌, ◌↔◌, ℕ, zero, suc, Bool, true, false, List, [], ◌∷◌, ◌++◌, length, get_or, drop, refl, sym, ap, ◌∙◌, subst, ◌⊎◌, inl, inr, arith}
-use Rattle.std.specs.Prelude.{Option, Some, None, slice_get}
-use Rattle.go_base.specs.Lists.{Each, Has}
+use Rattle.std.proofs.Common.{◌≡◌, ◌<◌, ◌≤◌, ◌+◌, ◌↔◌, ℕ, zero, suc, Bool, true, false, List, [], ◌∷◌, ◌++◌, length, get_or, drop, refl, sym, ap, ◌∙◌, subst, inl, inr, arith}
+use Rattle.std.specs.Prelude.{Some, None, slice_get}
+use Rattle.go_base.specs.Lists.{Each}
+use Rattle.go_declarations.specs.Forms.{form_of}
 use Rattle.go_declarations.specs.Listings.{declaration_of, declarations_of}
+use Rattle.go_declarations.specs.declared.form.Constants.{Constants}
+use Rattle.go_declarations.specs.declared.form.Form.{Form as BorrowedForm}
+use Rattle.go_declarations.specs.declared.form.Form.TheVariants as borrowed
 use Rattle.go_declarations.specs.declared.listing.Declaration.{Declaration as Borrowed}
-use Rattle.go_exposed.specs.BeyondProfile.{GivesInexact, HasInexactType, HasInexactValue, HoldsInexact, IsInexact, IsValue, IsValueOf}
+use Rattle.go_exposed.specs.BeyondProfile.{GivesInexact, HoldsInexact, IsInexact, IsValue, IsValueOf}
 use Rattle.go_exposed.specs.Causes.{IsToldInexact}
 use Rattle.go_exposed.proofs.InexactMoves.{type_grows, value_grows}
 use Rattle.go_graphs.specs.Flags.{AreFlagsOf, is_flagged}
@@ -14,7 +18,7 @@ use Rattle.go_inexact.specs.Values.{IsInexactForm, OneIsInexact}
 use Rattle.go_inexact.specs.inner.NoneLost.{IsInexactThere, NoneIsLost}
 use Rattle.go_model.specs.declared.types.term.Term.{Term}
 use Rattle.go_package_scopes.specs.KeptScopes.{IsMoved}
-use Rattle.go_package_scopes.specs.PackageScopes.{IsScopeOf, at_declaration}
+use Rattle.go_package_scopes.specs.PackageScopes.{at_declaration}
 use Rattle.go_rules.specs.Environments.{Env}
 use Rattle.go_rules.specs.Expressions.{OfType}
 use Rattle.go_rules.specs.Growth.{Grows}
@@ -26,7 +30,6 @@ use Rattle.go_sifting.specs.Graphs.{AreRows}
 use Rattle.go_soundness.specs.LostDeclarations.{Depends}
 use Rattle.go_syntax.specs.declared.declaration.ConstSpec.{ConstSpec}
 use Rattle.go_syntax.specs.declared.types.«Type».{«Type» as Typ}
-use Rattle.go_typings.specs.Assignments.{At}
 use Rattle.go_typings.specs.Declarations.{Declaration, Form, constants, declarations}
 use Rattle.go_typings.specs.PackageEnvironments.{Entries, environment}
 use Rattle.go_typings.specs.Sources.{PackageSource, Setting}
@@ -74,6 +77,15 @@ module _ (E : Env) (s : ConstSpec) where
   pub form_held : (place : ℕ) → s.type_ ≡ None → (b : Bool) → Decides b (HoldsInexact E s) → Decides b (IsInexactForm E (constants s place))
   form_held place q true d = inr d
   form_held place q false d = λ k. elim k [ inl g ↦ none_some s.type_ g.form q g.given | inr h ↦ d h ]
+
+-- what isn't of constants has none
+pub form_other : (E : Env) (f : BorrowedForm) → ((x : Constants) → f ≡ borrowed.Constants x → ⊥) → IsInexactForm E (form_of f) → ⊥
+form_other E (borrowed.Constants x) none k = none x refl
+form_other E (borrowed.Variables s) none k = elim k [ inl g ↦ g | inr h ↦ h ]
+form_other E (borrowed.Alias s) none k = elim k [ inl g ↦ g | inr h ↦ h ]
+form_other E (borrowed.Definition s) none k = elim k [ inl g ↦ g | inr h ↦ h ]
+form_other E (borrowed.Function g) none k = elim k [ inl g ↦ g | inr h ↦ h ]
+form_other E (borrowed.Method receiver g) none k = elim k [ inl g ↦ g | inr h ↦ h ]
 
 -- ---- declarations that are lost
 

@@ -1,9 +1,5 @@
 -- Values of constants of inexact types.
-use Rattle.std.proofs.Common.{◌≡◌, ◌≢◌, ◌<◌, ◌≤◌, ◌+◌, ℕ, Bool, true, false, List, [], ◌∷◌, length, get_or, drop, refl, sym, ap, ◌∙◌, subst, ◌⊎◌, inl, inr}
-use Rattle.std.specs.Prelude.{Option, Some, None}
-use denote.Ref.{Bor}
-use Rattle.go_base.specs.Keys.{item_of}
-use Rattle.go_base.specs.Lists.{Each, Has}
+use Rattle.std.proofs.Common.{◌≡◌, ◌<◌, ◌≤◌, ◌+◌, ℕ, Bool, true, false, List, [], ◌∷◌, length, get_or, drop, refl, sym, ap, ◌∙◌, subst, inl, inr}
 use Rattle.go_exposed.specs.BeyondProfile.{IsInexact, IsValue, IsValueOf, MayBeConstant}
 use Rattle.go_inexact.specs.Values.{IsInexactValue, OneIsInexact}
 use Rattle.go_model.specs.constants.Classes.{class_of_basic, is_inexact}

@@ -1,6 +1,6 @@
 -- Constants of a spec that have an inexact type, in an environment.
 -- Own: words of the contracts.
-use Rattle.std.specs.Prelude.{◌⊎◌, ℕ, List}
+use Rattle.std.specs.Prelude.{◌⊎◌, List}
 use Rattle.go_base.specs.Lists.{Has}
 use Rattle.go_exposed.specs.BeyondProfile.{HasInexactType, HasInexactValue, IsInexact}
 use Rattle.go_rules.specs.Environments.{Env}

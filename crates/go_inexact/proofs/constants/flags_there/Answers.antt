@@ -1,7 +1,7 @@
 use Rattle.std.proofs.Common.{◌≡◌, arith, length, subst}
 use Rattle.go_declarations.specs.Listings.{declarations_of}
 use Rattle.go_graphs.specs.Flags.{AreFlagsOf}
-use Rattle.go_inexact.proofs.Told.{as_many, moved_on, there_next}
+use Rattle.go_inexact.proofs.Told.{moved_on, there_next}
 use Rattle.go_inexact.specs.inner.NoneLost.{IsInexactThere}
 use Rattle.go_inexact.proofs.constants.flags_there.Goals as goal
 
