@@ -1,5 +1,5 @@
 -- Which declarations of a package are of constants of an inexact type, as it is told.
-use Rattle.std.proofs.Common.{◌≡◌, ◌<◌, ◌≤◌, ◌+◌, ◌↔◌, ℕ, zero, suc, Bool, true, false, List, [], ◌∷◌, ◌++◌, length, get_or, drop, refl, sym, ap, ◌∙◌, subst, inl, inr, arith}
+use Rattle.std.proofs.Common.{◌≡◌, ◌<◌, ◌+◌, ◌↔◌, ℕ, zero, suc, Bool, true, false, List, [], ◌∷◌, ◌++◌, length, get_or, refl, sym, ap, ◌∙◌, subst, inl, inr, arith}
 use Rattle.std.specs.Prelude.{Some, None, slice_get}
 use Rattle.go_base.specs.Lists.{Each}
 use Rattle.go_declarations.specs.Forms.{form_of}
@@ -25,7 +25,6 @@ use Rattle.go_rules.specs.Growth.{Grows}
 use Rattle.go_rules.specs.Scopes.{Scopes, env_of}
 use Rattle.go_rules.proofs.OneOperand.{type_once}
 use Rattle.go_selectors.specs.Answers.{Decides}
-use Rattle.go_selectors.proofs.Lists.{drop_all, drop_next}
 use Rattle.go_sifting.specs.Graphs.{AreRows}
 use Rattle.go_soundness.specs.LostDeclarations.{Depends}
 use Rattle.go_syntax.specs.declared.declaration.ConstSpec.{ConstSpec}
@@ -87,41 +86,7 @@ form_other E (borrowed.Definition s) none k = elim k [ inl g ↦ g | inr h ↦ h
 form_other E (borrowed.Function g) none k = elim k [ inl g ↦ g | inr h ↦ h ]
 form_other E (borrowed.Method receiver g) none k = elim k [ inl g ↦ g | inr h ↦ h ]
 
--- ---- declarations that are lost
-
-module _ (lost : List Bool) (row : List ℕ) where
-  pub record NoneFrom (rest : List ℕ) : Type 0 where
-    pub to : NoneIsLost lost row → NoneIsLost lost rest
-    pub of : NoneIsLost lost rest → NoneIsLost lost row
-
-  pub none_begins : NoneFrom row
-  none_begins = record { to = λ k. k; of = λ k. k }
-
-  behind : (x : ℕ) (xs : List ℕ) → NoneIsLost lost (x ∷ xs) → NoneIsLost lost xs
-  behind x xs k m h = k m (inr h)
-
-  ahead : (x : ℕ) (xs : List ℕ) → is_flagged lost x ≡ false → NoneIsLost lost xs → NoneIsLost lost (x ∷ xs)
-  ahead x xs f k m (inl e) = subst (λ (z : ℕ). is_flagged lost z ≡ false) e f
-  ahead x xs f k m (inr h) = k m h
-
-  none_empty : NoneIsLost lost []
-  none_empty m h = absurd h
-
-  module _ (i : ℕ) (w : NoneFrom (drop i row)) where
-    pub none_done : length row ≤ i → NoneIsLost lost row
-    none_done h = w.of (subst (NoneIsLost lost) (sym (drop_all i row h)) none_empty)
-
-    module _ (x : ℕ) (h : i < length row) (e : x ≡ get_or row i x) where
-      pub none_next : is_flagged lost x ≡ false → NoneFrom (drop (i + 1) row)
-      none_next f = record {
-        to = λ k. behind x (drop (i + 1) row) (subst (NoneIsLost lost) (drop_next i row x h e) (w.to k));
-        of = λ k. w.of (subst (NoneIsLost lost) (sym (drop_next i row x h e)) (ahead x (drop (i + 1) row) f k));
-      }
-
-      pub one_lost : is_flagged lost x ≡ true → NoneIsLost lost row → ⊥
-      one_lost t k =
-          let j : is_flagged lost x ≡ false = (subst (NoneIsLost lost) (drop_next i row x h e) (w.to k)) x (inl refl) in
-          let f : true ≡ false = sym t ∙ j in absurd (cc)
+-- ---- declarations that are counted
 
 pub both_decides : (P Q : Type 0) (b : Bool) → P → Decides b Q → Decides b (P × Q)
 both_decides P Q true p d = (p, d)

@@ -1,17 +1,15 @@
-use Rattle.std.proofs.Common.{arith, sym, ◌∙◌}
-use Rattle.go_inexact.proofs.Told.{none_begins, none_done, none_next, one_lost}
+use Rattle.std.proofs.Common.{◌≡◌, ℕ, false, get_or, inl, inr, subst}
+use Rattle.go_graphs.specs.Flags.{is_flagged}
+use Rattle.go_graphs.proofs.Members.{has_at, has_more}
 use Rattle.go_inexact.proofs.constants.none_lost.Goals as goal
 
-pub loop-number-init : goal.loop-number-init
-loop-number-init c = none_begins c.args.lost.now c.args.row.now
+pub returns-then-flag : goal.returns-then-flag
+returns-then-flag c = λ h. (let p = h (get_or c.args.row.now c.loop-number.number-index 0) (has_at c.args.row.now c.loop-number.number-index c.loop-number-test.true) in cc)
 
 pub loop-number-preserved : goal.loop-number-preserved
-loop-number-preserved c =
-    none_next c.args.lost.now c.args.row.now c.loop-number.number-index c.loop-number.invariant c.number-item.result c.loop-number-test.true c.number-item.is (sym c.flag.ensures ∙ c.if-flag.false)
-
-pub returns-then-flag : goal.returns-then-flag
-returns-then-flag c =
-    one_lost c.args.lost.now c.args.row.now c.loop-number.number-index c.loop-number.invariant c.number-item.result c.loop-number-test.true c.number-item.is (sym c.flag.ensures ∙ c.if-flag.true)
-
-pub returns : goal.returns
-returns c = none_done c.args.lost.now c.args.row.now c.loop-number.number-index c.loop-number.invariant (omega arith)
+loop-number-preserved c m h =
+    let q : is_flagged c.args.lost.now (get_or c.args.row.now c.loop-number.number-index 0) ≡ false = cc in
+    elim (has_more c.args.row.now c.loop-number.number-index m c.loop-number-test.true h) [
+      | inl k ↦ c.loop-number.invariant m k
+      | inr e ↦ subst (λ (z : ℕ). is_flagged c.args.lost.now z ≡ false) e q
+    ]

@@ -1,6 +1,6 @@
-use Rattle.std.proofs.Common.{drop}
-use Rattle.go_inexact.proofs.Told.{NoneFrom}
+use Rattle.std.proofs.Common.{take}
+use Rattle.go_inexact.specs.inner.NoneLost.{NoneIsLost}
 use Rattle.go_inexact.proofs.constants.none_lost.Given as goal
 
 abbrev pub invariant-loop-number : goal.invariant-loop-number
-invariant-loop-number l = NoneFrom l.lost l.row (drop l.number-index l.row)
+invariant-loop-number l = NoneIsLost l.lost (take l.number-index l.row)
