@@ -26,9 +26,12 @@ module _ {A : Type 0} where
   others_same : {x y : A} {xs ys : List A} → x ∷ xs ≡ y ∷ ys → xs ≡ ys
   others_same e = ap (λ (zs : List A). drop 1 zs) e
 
+  no_item : {B : Type 0} {x : A} {xs : List A} → ◌≡◌ {A = List A} [] (x ∷ xs) → B
+  no_item e = absurd (cc)
+
   pub not_empty : (xs : List A) (x : A) → [] ≡ xs ++ x ∷ [] → ⊥
-  not_empty [] x e = let l : 0 ≡ 1 = ap length e in absurd (omega arith)
-  not_empty (y ∷ xs) x e = let l : 0 ≡ suc (length (xs ++ x ∷ [])) = ap length e in absurd (omega arith)
+  not_empty [] x e = no_item e
+  not_empty (y ∷ xs) x e = no_item e
 
   -- two lists with a last item are the same only where both their parts are
   pub last_same : (xs ys : List A) (x y : A) → xs ++ x ∷ [] ≡ ys ++ y ∷ [] → (xs ≡ ys) × (x ≡ y)

@@ -47,7 +47,8 @@ fn gives_inexact(
     requires { item_of constants.now.type_ ≡ Some form.now }
     ensures { IfOk result (λ answer. Decides answer (GivesInexact (env_in context.now) (spec_of constants.now))) }
 {
-    if constants.names.len() != constants.values.len() {
+    let counted = constants.names.len() == constants.values.len();
+    if !counted {
         return Ok(false);
     }
     match type_of(context, alloc, form) {
@@ -71,7 +72,8 @@ fn holds_inexact(
     requires { item_of constants.now.type_ ≡ None }
     ensures { IfOk result (λ answer. Decides answer (HoldsInexact (env_in context.now) (spec_of constants.now))) }
 {
-    if constants.names.len() != constants.values.len() {
+    let counted = constants.names.len() == constants.values.len();
+    if !counted {
         return Ok(false);
     }
     let values = are_values(context, alloc, constants.values)?;
