@@ -159,15 +159,14 @@ fn flags_there(
 {
     let mut flags = Vec::new(alloc);
     for number in 0..declarations.len() {
-        let found = counts(
+        match counts(
             env,
             alloc,
             error,
             &declarations[number],
             row(depends, number),
             lost,
-        );
-        match found {
+        ) {
             Err(fault) => return Err(fault),
             Ok(counts) => flags.push(counts)?,
         }

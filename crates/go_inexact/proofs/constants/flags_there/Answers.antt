@@ -10,7 +10,7 @@ loop-number-preserved c =
     let xs = c.args.declarations.now in
     let x = c.index-declarations-number.result in
     record {
-      moved = moved_on c.args.env.now c.loop-number.env c.counts-found.new.env c.loop-number.invariant.moved c.in-Ok.ensures.moved;
+      moved = moved_on c.args.env.now c.loop-number.env c.counts.new.env c.loop-number.invariant.moved c.in-Ok.ensures.moved;
       flags = there_next c.args.env.now xs c.args.depends.now c.args.lost.now c.loop-number.number x c.loop-number-test.true c.index-declarations-number.is c.loop-number.env c.loop-number.flags.items c.push.new.self.items c.row.result.now c.in-Ok.counts
           c.loop-number.invariant.moved c.row.ensures c.in_ok-push-in-Ok.ensures.items c.loop-number.invariant.flags c.in-Ok.ensures.answer;
     }

@@ -24,8 +24,8 @@ returns-then-not-is_inexact c =
     let t = c.in-Ok.term in
     gives_exact E (spec_of c.args.constants.now) c.args.form.now c.requires t c.in-Ok.ensures (is_not (IsInexact E t) c.is_inexact.result c.if-not-is_inexact.true c.is_inexact.ensures)
 
-pub returns : goal.returns
-returns c =
+pub returns-else-not-is_inexact : goal.returns-else-not-is_inexact
+returns-else-not-is_inexact c =
     let E = env_in c.args.context.now in
     let s = spec_of c.args.constants.now in
     let t = c.in-Ok.term in

@@ -19,8 +19,8 @@ returns-then-not-fits c =
     let E = env_in c.args.context.now in
     not_usable E c.args.expr.now c.args.term.now c.in-Ok.operand c.in-Ok.ensures (is_not (UsableAs E c.in-Ok.operand c.args.term.now) c.in_ok-fits-in-Ok.fits c.if-not-fits.true c.in_ok-fits-in-Ok.ensures)
 
-pub returns : goal.returns
-returns c =
+pub returns-else-not-fits : goal.returns-else-not-fits
+returns-else-not-fits c =
     let E = env_in c.args.context.now in
     let e = c.args.expr.now in
     let t = c.args.term.now in
