@@ -1,6 +1,7 @@
 -- What is found, platform by platform.
 use Rattle.std.proofs.Common.{◌≡◌, ◌+◌, ◌<◌, ◌≤◌, ℕ, zero, suc, Option, Some, None, List, [], ◌∷◌, ◌++◌, length, get_or, slice_get, drop, take, Result, Ok, Err, IfOk, refl, sym, ◌∙◌, subst, append_assoc, append-nil, arith}
 use Rattle.std.proofs.lemmas.List.{drop_more, take_more}
+use Rattle.api_findings.proofs.LeftOutPlatforms.{LeftTo, left_length, taken_at}
 use Rattle.api_findings.specs.Checks.{CountsAtMost, CountsOf, CountsPackages, count_more, count_none}
 use Rattle.api_findings.specs.Findings.{AnswersFindings, AreFindings, find_none, find_more, Finds, features_alone, with_verdict, IsFirstRefusal, refused_here, refused_later, OldStands}
 use Rattle.api_findings.specs.declared.findings.Findings.{Findings}
@@ -12,6 +13,7 @@ use Rattle.api_lines.proofs.Growing.{each_of}
 use Rattle.api_lines.specs.Lines.{AreInOrder, IsListing}
 use Rattle.api_lines.specs.Merging.{HasNoContext}
 use Rattle.api_lines.specs.declared.line.Line.{Line}
+use Rattle.api_texts.specs.declared.left_out.LeftOut.{LeftOut}
 use Rattle.api_worlds.specs.PlatformWorlds.{IsWorldOn, no_package}
 use Rattle.api_worlds.specs.declared.error.PlatformError.{PlatformError}
 use Rattle.api_worlds.specs.declared.error.PlatformError.TheVariants as error
@@ -143,6 +145,10 @@ module _ (barred : List (List ℕ)) (old : Option Tree) (tree std_tree : Tree) w
     pub count_all : CountsAtMost barred old tree std_tree ps before now
     count_all = (t.count, subst (Counts ps) (omega arith) (t.counts 0 (subst (λ (w : List Platform). Counts w 0) (sym (drop_past i ps h)) count_none)), t.counted)
 
+  -- and there is as much that was left out
+  pub as_many : (ps : List Platform) (i : ℕ) (lists : List (List Line)) (vs : List Verdict) (ls : List LeftOut) (before now : ℕ) → TakenTo ps i lists vs before now → LeftTo barred std_tree old tree ps i ls → {n : ℕ} → n < length lists → n < length ls
+  as_many ps i lists vs ls before now t l h = omega (arith, h, same_length t.found, left_length barred std_tree old tree (take i ps) ls l)
+
   -- no package is counted where nothing is typed
   pub none_counted : (ps : List Platform) (before now : ℕ) → now ≡ before → CountsAtMost barred old tree std_tree ps before now
   none_counted ps before now e = (0, skip_all ps, omega (arith, e))
@@ -152,21 +158,11 @@ module _ (barred : List (List ℕ)) (old : Option Tree) (tree std_tree : Tree) w
     many : length lists ≡ i
     many = same_length t.found ∙ length_take i ps (omega (arith, within))
 
-    taken_at : (n : ℕ) → n < i → get_or (take i ps) n platform.Linux386 ≡ platform_at ps n
-    taken_at n h = at ps i n h
-      where
-        at : (qs : List Platform) (k m : ℕ) → m < k → get_or (take k qs) m platform.Linux386 ≡ platform_at qs m
-        at [] zero m h = absurd (omega (arith, h))
-        at [] (suc k) m h = refl
-        at (q ∷ qs) zero m h = absurd (omega (arith, h))
-        at (q ∷ qs) (suc k) zero h = refl
-        at (q ∷ qs) (suc k) (suc m) h = at qs k m (omega (arith, h))
-
     pub alike_earlier : get_or ns i 0 < length lists → IsFoundAlike barred old tree std_tree (platform_at ps i) (get_or lists (get_or ns i 0) []) (slice_get vs (get_or ns i 0))
     alike_earlier h = record {
       earlier = platform_at ps (get_or ns i 0);
       alike = (firsts.each i within).alike;
-      found = subst (λ (q : Platform). Finds barred old tree std_tree q (get_or lists (get_or ns i 0) []) (listed (slice_get vs (get_or ns i 0)))) (taken_at (get_or ns i 0) (omega (arith, h, many))) (found_there (get_or ns i 0) platform.Linux386 t.found h);
+      found = subst (λ (q : Platform). Finds barred old tree std_tree q (get_or lists (get_or ns i 0) []) (listed (slice_get vs (get_or ns i 0)))) (taken_at ps i (get_or ns i 0) (omega (arith, h, many))) (found_there (get_or ns i 0) platform.Linux386 t.found h);
     }
 
   -- ---- what is added

@@ -1,7 +1,7 @@
 -- What a run finds in its trees on platforms: the features of the new tree, and where there is an old one, the verdict on both; or the first
 -- refusal with its fault line.
 -- Own: the order of refusals, platform by platform, and the old tree before the new one.
-use Rattle.std.specs.Prelude.{◌≡◌, ◌≢◌, ℕ, Bool, List, [], ◌∷◌, ◌++◌, map, Option, Some, None, Result, Ok, Err}
+use Rattle.std.specs.Prelude.{◌≡◌, ◌≢◌, ℕ, Bool, List, [], ◌∷◌, ◌++◌, length, map, Option, Some, None, Result, Ok, Err}
 use Rattle.go_base.specs.Lists.{Has}
 use Rattle.go_model.specs.declared.files.platform.Platform.{Platform}
 use Rattle.go_model.specs.declared.files.tree.Tree.{Tree}
@@ -14,7 +14,9 @@ use Rattle.api_judge.specs.declared.verdict.Verdict.{Verdict}
 use Rattle.api_lines.specs.Lines.{IsListing}
 use Rattle.api_lines.specs.declared.line.Line.{Line}
 use Rattle.api_subjects.specs.Told.{printed}
+use Rattle.api_texts.specs.declared.left_out.LeftOut.{LeftOut}
 use Rattle.api_texts.specs.declared.lines.Side.TheVariants as side
+use Rattle.api_worlds.specs.LeftOut.{AreLeftOutOn}
 use Rattle.api_worlds.specs.PlatformWorlds.{IsRefusedOn, IsWorldOn}
 use Rattle.api_worlds.specs.declared.error.PlatformError.{PlatformError}
 use Rattle.api_worlds.specs.declared.error.PlatformError.TheVariants as error
@@ -56,6 +58,28 @@ module _ (barred : List (List ℕ)) (old : Option Tree) (tree std_tree : Tree) w
   AnswersFindings ps (Ok found) = AreFindings ps found.features found.verdicts
   AnswersFindings ps (Err (error.Refused line)) = IsFirstRefusal ps line
   AnswersFindings ps (Err error.NoMemory) = Unit {0}
+
+-- ---- what is left out
+
+module _ (barred : List (List ℕ)) (std_tree : Tree) where
+  -- how many declarations of a tree are left out on a platform: none, where there is no tree
+  abbrev pub CountsLeftOut : Option Tree → Platform → ℕ → Type 0
+  CountsLeftOut None p n = n ≡ 0
+  CountsLeftOut (Some tree) p n = (lines : List (List ℕ)) × AreLeftOutOn barred tree std_tree p lines × (n ≡ length lines)
+
+  -- what is left out of an old tree and of a new one
+  pub record IsLeftOut (old : Option Tree) (tree : Tree) (p : Platform) (l : LeftOut) : Type 0 where
+    pub of_old : CountsLeftOut old p l.old
+    pub of_new : AreLeftOutOn barred tree std_tree p l.new
+
+  -- on each of the platforms
+  abbrev pub AreLeftOut : Option Tree → Tree → List Platform → List LeftOut → Type 0
+  AreLeftOut old tree [] [] = Unit {0}
+  AreLeftOut old tree [] (l ∷ ls) = ⊥
+  AreLeftOut old tree (p ∷ ps) [] = ⊥
+  AreLeftOut old tree (p ∷ ps) (l ∷ ls) = IsLeftOut old tree p l × AreLeftOut old tree ps ls
+
+-- ---- what is shown
 
 -- what reports show of a verdict
 pub record Shown : Type 0 where

@@ -3,6 +3,7 @@ ghost use Rattle.std.specs.Prelude.{◌≡◌, IfOk, slice_get};
 
 use api_judge::verdict::Verdict;
 use api_subjects::broken::Broken;
+use api_texts::left_out::LeftOut;
 use go_base::list::List;
 use go_base::memory::NoMemory;
 use go_base::text::Text;
@@ -49,5 +50,33 @@ pub(crate) fn verdict_at(
     match verdicts.get(number) {
         None => Ok(None),
         Some(verdict) => Ok(Some(verdict_copied(alloc, verdict)?)),
+    }
+}
+
+fn texts_copied(alloc: Global, texts: &[Text]) -> Result<List<Text>, NoMemory>
+    ensures { IfOk result (λ copy. copy ≡ texts.now) }
+{
+    let mut copy = List::new(alloc);
+    for text in texts {
+        let same = Text::of(alloc, text.bytes())?;
+        copy.push(same)?;
+    }
+    Ok(copy)
+}
+
+/// The same as what was left out on the platform of this number, where there is one.
+pub(crate) fn left_out_at(
+    alloc: Global,
+    left_out: &[LeftOut],
+    number: usize,
+) -> Result<Option<LeftOut>, NoMemory>
+    ensures { IfOk result (λ copy. copy ≡ slice_get left_out.now number) }
+{
+    match left_out.get(number) {
+        None => Ok(None),
+        Some(left_out) => Ok(Some(LeftOut {
+            old: left_out.old,
+            new: texts_copied(alloc, left_out.new.items())?,
+        })),
     }
 }

@@ -2,19 +2,20 @@
 ghost use Rattle.std.specs.Prelude.{◌≡◌, ◌≢◌, ◌<◌, ◌++◌, ◌∷◌, [], IfOk, OnOk, get_or, length, slice_get};
 ghost use Rattle.std.specs.Option.{option_copied};
 ghost use Rattle.api_findings.specs.Checks.{CountsAtMost};
-ghost use Rattle.api_findings.specs.Findings.{AnswersFindings, IsOldTree};
-ghost use Rattle.api_findings.specs.inner.Found.{AnswersNext, IsFoundAlike, listed, verdicts_of};
+ghost use Rattle.api_findings.specs.Findings.{AnswersFindings, AreLeftOut, IsOldTree};
+ghost use Rattle.api_findings.specs.inner.Found.{AnswersNext, IsFoundAlike, IsLeftOutAlike, IsMoreLeftOut, listed, verdicts_of};
 ghost use Rattle.api_lines.specs.Lines.{AreInOrder};
 ghost use Rattle.api_lines.specs.Merging.{HasNoContext};
 ghost use Rattle.go_base.specs.Lists.{Each, Has};
 ghost use Rattle.go_file_choices.specs.AlikePlatforms.{AreFirsts, files_of};
 ghost use Rattle.go_model.specs.files.Trees.{IsTree};
 
-use crate::copies::verdict_at;
+use crate::copies::{left_out_at, verdict_at};
 use crate::found::{Found, found_on};
 use crate::trees::RunTrees;
 use api_judge::verdict::Verdict;
 use api_lines::platform_lines::PlatformLines;
+use api_texts::left_out::LeftOut;
 use api_worlds::error::PlatformError;
 use go_base::list::List;
 use go_base::memory::NoMemory;
@@ -31,6 +32,8 @@ pub struct Findings {
     pub features: PlatformLines,
     /// The verdict on each platform, where there is an old tree, and else none.
     pub verdicts: List<Verdict>,
+    /// What was left out of the trees on each platform.
+    pub left_out: List<LeftOut>,
 }
 
 impl Drop for Findings {
@@ -38,6 +41,7 @@ impl Drop for Findings {
         let Findings {
             features: _,
             verdicts: _,
+            left_out: _,
         } = self;
     }
 }
@@ -45,6 +49,7 @@ impl Drop for Findings {
 impl Findings {
     fn push_verdict(&mut self, verdict: Option<Verdict>) -> Result<(), NoMemory>
         ensures same { self.new.features ≡ self.old.features }
+        ensures left_out { self.new.left_out ≡ self.old.left_out }
         ensures verdicts { OnOk result (self.new.verdicts ≡ self.old.verdicts ++ listed verdict) }
     {
         match verdict {
@@ -56,15 +61,31 @@ impl Findings {
         }
     }
 
+    fn push_left_out(&mut self, left_out: Option<LeftOut>) -> Result<(), NoMemory>
+        ensures features { self.new.features ≡ self.old.features }
+        ensures verdicts { self.new.verdicts ≡ self.old.verdicts }
+        ensures left_out { OnOk result (self.new.left_out ≡ self.old.left_out ++ listed left_out) }
+    {
+        match left_out {
+            None => Ok(()),
+            Some(left_out) => {
+                self.left_out.push(left_out)?;
+                Ok(())
+            }
+        }
+    }
+
     // Adds what is found on one platform more.
     fn push(&mut self, alloc: Global, found: Found) -> Result<(), NoMemory>
         requires { AreInOrder found.lines }
         ensures features { OnOk result (self.new.features ≡ self.old.features ++ found.lines ∷ []) }
         ensures verdicts { OnOk result (self.new.verdicts ≡ self.old.verdicts ++ verdicts_of found) }
+        ensures left_out { OnOk result (self.new.left_out ≡ self.old.left_out ++ found.left_out ∷ []) }
     {
-        let (lines, verdict) = found.into_parts();
+        let (lines, verdict, left_out) = found.into_parts();
         self.features.add(alloc, lines)?;
-        self.push_verdict(verdict)
+        self.push_verdict(verdict)?;
+        self.push_left_out(Some(left_out))
     }
 
     // Adds what was found on the platform of this number, once more.
@@ -72,10 +93,13 @@ impl Findings {
         requires { number < length self.old.features }
         ensures features { OnOk result (self.new.features ≡ self.old.features ++ get_or self.old.features number [] ∷ []) }
         ensures verdicts { OnOk result (self.new.verdicts ≡ self.old.verdicts ++ listed (slice_get self.old.verdicts number)) }
+        ensures left_out { OnOk result (self.new.left_out ≡ self.old.left_out ++ listed (slice_get self.old.left_out number)) }
     {
         let verdict = verdict_at(alloc, self.verdicts.items(), number)?;
+        let left_out = left_out_at(alloc, self.left_out.items(), number)?;
         self.features.add_again(alloc, number)?;
-        self.push_verdict(verdict)
+        self.push_verdict(verdict)?;
+        self.push_left_out(left_out)
     }
 }
 
@@ -91,11 +115,13 @@ fn add_next<G: Gate, L: Copy>(
     steps: &mut Steps<L>,
 ) -> Result<(), PlatformError>
     requires alike { first < length all.old.features → IsFoundAlike trees.now.barred.now (option_copied trees.now.old_tree) trees.now.tree.now trees.now.std_tree.now platform (get_or all.old.features first []) (slice_get all.old.verdicts first) }
+    requires left_out { first < length all.old.features → IsLeftOutAlike trees.now.barred.now (option_copied trees.now.old_tree) trees.now.tree.now trees.now.std_tree.now platform (slice_get all.old.left_out first) }
     requires old { IsOldTree trees.now.barred.now (option_copied trees.now.old_tree) }
     requires tree { IsTree trees.now.tree.now }
     requires std { IsTree trees.now.std_tree.now }
     requires named { trees.now.tree.now.module ≢ [] }
     requires barred { Has trees.now.barred.now trees.now.tree.now.module }
+    ensures left_out { OnOk result (IsMoreLeftOut trees.now.barred.now (option_copied trees.now.old_tree) trees.now.tree.now trees.now.std_tree.now platform all.old.left_out all.new.left_out) }
     ensures answer { AnswersNext trees.now.barred.now (option_copied trees.now.old_tree) trees.now.tree.now trees.now.std_tree.now platform all.old.features all.old.verdicts all.new.features all.new.verdicts result }
     ensures steps { CountsAtMost trees.now.barred.now (option_copied trees.now.old_tree) trees.now.tree.now trees.now.std_tree.now (platform ∷ []) steps.old steps.new }
 {
@@ -131,11 +157,17 @@ fn find_by<G: Gate, L: Copy>(
     requires named { trees.now.tree.now.module ≢ [] }
     requires barred { Has trees.now.barred.now trees.now.tree.now.module }
     ensures answer { AnswersFindings trees.now.barred.now (option_copied trees.now.old_tree) trees.now.tree.now trees.now.std_tree.now platforms.now result }
+    ensures left_out { IfOk result (λ found. AreLeftOut trees.now.barred.now trees.now.std_tree.now (option_copied trees.now.old_tree) trees.now.tree.now platforms.now found.left_out) }
     ensures steps { CountsAtMost trees.now.barred.now (option_copied trees.now.old_tree) trees.now.tree.now trees.now.std_tree.now platforms.now steps.old steps.new }
 {
     let features = PlatformLines::new(alloc);
     let verdicts = List::new(alloc);
-    let mut all = Findings { features, verdicts };
+    let left_out = List::new(alloc);
+    let mut all = Findings {
+        features,
+        verdicts,
+        left_out,
+    };
     for at in 0..platforms.len() {
         match add_next(
             alloc,
@@ -153,7 +185,7 @@ fn find_by<G: Gate, L: Copy>(
     Ok(all)
 }
 
-/// What is found on these platforms in the new tree over the standard library's and, where there is an old tree, in both; or `Refused`
+/// What is found on these platforms in the new tree over the standard library's and, where there is an old tree, in both, and what was left out of them; or `Refused`
 /// with the fault line of the first platform on which a tree is refused, the old one before the new; or `NoMemory`. The counter rises by at
 /// most the number of the packages of both trees on all platforms together.
 pub fn find<G: Gate, L: Copy>(
@@ -169,6 +201,7 @@ pub fn find<G: Gate, L: Copy>(
     requires named { trees.now.tree.now.module ≢ [] }
     requires barred { Has trees.now.barred.now trees.now.tree.now.module }
     ensures answer { AnswersFindings trees.now.barred.now (option_copied trees.now.old_tree) trees.now.tree.now trees.now.std_tree.now platforms.now result }
+    ensures left_out { IfOk result (λ found. AreLeftOut trees.now.barred.now trees.now.std_tree.now (option_copied trees.now.old_tree) trees.now.tree.now platforms.now found.left_out) }
     ensures many { IfOk result (λ found. length found.features ≡ length platforms.now) }
     ensures plain { IfOk result (λ found. Each (Each HasNoContext) found.features) }
     ensures steps { CountsAtMost trees.now.barred.now (option_copied trees.now.old_tree) trees.now.tree.now trees.now.std_tree.now platforms.now steps.old steps.new }

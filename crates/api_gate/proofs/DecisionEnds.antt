@@ -3,7 +3,7 @@ use Rattle.std.proofs.Common.{◌≡◌, ◌≤◌, ◌+◌, ◌-◌, ℕ, Bool,
 use Rattle.std.specs.List.{list_any}
 use Rattle.std.specs.Prelude.{Result}
 use Rattle.api_findings.specs.Checks.{CountsAtMost}
-use Rattle.api_findings.specs.Findings.{AnswersFindings}
+use Rattle.api_findings.specs.Findings.{AnswersFindings, AreLeftOut}
 use Rattle.api_findings.specs.declared.findings.Findings.{Findings}
 use Rattle.api_advice.specs.Advice.{IsNext}
 use Rattle.api_advice.specs.declared.class.Class.{Class}
@@ -22,7 +22,8 @@ use Rattle.api_inputs.specs.declared.inputs.Inputs.{Inputs}
 use Rattle.api_judge.specs.Verdicts.{class_of, has_break}
 use Rattle.api_judge.specs.declared.verdict.Verdict.{Verdict}
 use Rattle.api_lines.specs.declared.line.Line.{Line}
-use Rattle.api_reports.specs.Reports.{class_text, judge_text}
+use Rattle.api_reports.specs.Reports.{counted_class_text, judge_text, skipped_text}
+use Rattle.api_texts.specs.declared.left_out.LeftOut.{LeftOut}
 use Rattle.api_words.specs.Words.{IsRequest}
 use Rattle.api_words.specs.declared.option_name.Mode.TheVariants as mode
 use Rattle.api_words.specs.declared.request.MadeTrees.{MadeTrees}
@@ -35,7 +36,7 @@ use Rattle.api_gate.specs.declared.reports.decision.Decision.{Decision}
 use Rattle.api_gate.specs.declared.reports.decision.Decision.TheVariants as decision
 use Rattle.api_gate.specs.inner.Decisions.{AnswersAdvice, ChecksFor, IsFeaturesText, IsGateDecision, IsMakeText, IsOfFindings, IsOfInputs, of_findings, of_platform, no_room, IsOfStore, of_inputs, of_refusal, of_fault, no_space, decision_of, outcome_of, report_of, unadvised, unfound, IsFaultOf}
 use Rattle.api_gate.specs.runs.Effects.{Change}
-use Rattle.api_gate.specs.runs.Outcomes.{AreFound, ChecksAtMost, checked, no_check, refused_inputs, refused_platform, refused_advice, reported_findings, IsAdvice, IsAdviceRefusal, no_release, no_version, IsReportOn, features_report, judge_report, advise_report, gate_report, make_report, IsSignedReport, files_of, modules_of}
+use Rattle.api_gate.specs.runs.Outcomes.{AreFound, ChecksAtMost, checked, no_check, refused_inputs, refused_platform, refused_advice, reported_findings, IsAdvice, IsAdviceRefusal, no_release, no_version, IsReportOn, features_report, judge_report, advise_report, gate_report, skipped_report, make_report, IsSignedReport, files_of, modules_of}
 use Rattle.api_gate.specs.runs.Runs.{MayWrite, defined, store_failed, no_memory}
 
 -- ---- advice
@@ -50,39 +51,42 @@ no_version_answers v c last fault.NoMemory e n h = tt
 
 -- ---- decisions of findings
 
-module _ (r : Request) (i : Inputs) (lists : List (List Line)) (vs : List Verdict) where
+module _ (r : Request) (i : Inputs) (lists : List (List Line)) (vs : List Verdict) (ls : List LeftOut) where
   -- a report is one
-  pub report_decides : (b : Bool) (text : List ℕ) (d : Decision) → d ≡ report_of b text → IsReportOn r i lists vs b text → IsOfFindings r i lists vs d
-  report_decides b text d e h = subst (IsOfFindings r i lists vs) (sym e) (by b h)
+  pub report_decides : (b : Bool) (text : List ℕ) (d : Decision) → d ≡ report_of b text → IsReportOn r i lists vs ls b text → IsOfFindings r i lists vs ls d
+  report_decides b text d e h = subst (IsOfFindings r i lists vs ls) (sym e) (by b h)
     where
-      by : (b : Bool) → IsReportOn r i lists vs b text → IsOfFindings r i lists vs (report_of b text)
+      by : (b : Bool) → IsReportOn r i lists vs ls b text → IsOfFindings r i lists vs ls (report_of b text)
       by true h = h
       by false h = h
 
-  pub features_decide : (text : List ℕ) → r.mode ≡ mode.Features → IsFeaturesText r lists text → IsReportOn r i lists vs false text
-  features_decide text m h = subst (IsReportOn r i lists vs false) (sym h.2) (features_report h.0 m h.1)
+  pub features_decide : (text : List ℕ) → r.mode ≡ mode.Features → IsFeaturesText r lists text → IsReportOn r i lists vs ls false text
+  features_decide text m h = subst (IsReportOn r i lists vs ls false) (sym h.2) (features_report h.0 m h.1)
 
-  pub judge_decides : (d : Decision) (text : List ℕ) (b : Bool) → d ≡ report_of b text → b ≡ list_any has_break vs → text ≡ judge_text r.platforms vs → r.mode ≡ mode.Judge → IsOfFindings r i lists vs d
+  pub judge_decides : (d : Decision) (text : List ℕ) (b : Bool) → d ≡ report_of b text → b ≡ list_any has_break vs → text ≡ judge_text r.platforms vs ls → r.mode ≡ mode.Judge → IsOfFindings r i lists vs ls d
   judge_decides d text b e f g m =
-      report_decides b text d e (subst (λ (c : Bool). IsReportOn r i lists vs c text) (sym f) (subst (IsReportOn r i lists vs (list_any has_break vs)) (sym g) (judge_report m)))
+      report_decides b text d e (subst (λ (c : Bool). IsReportOn r i lists vs ls c text) (sym f) (subst (IsReportOn r i lists vs ls (list_any has_break vs)) (sym g) (judge_report m)))
 
-  pub advise_decides : (text advice : List ℕ) → r.mode ≡ mode.Advise → IsAdvice r.version (class_of vs) advice → text ≡ class_text (class_of vs) ++ advice → IsReportOn r i lists vs false text
-  advise_decides text advice m a e = subst (IsReportOn r i lists vs false) (sym e) (advise_report advice m a)
+  pub advise_decides : (text advice : List ℕ) → r.mode ≡ mode.Advise → IsAdvice r.version (class_of vs) advice → text ≡ counted_class_text r.platforms ls (class_of vs) ++ advice → IsReportOn r i lists vs ls false text
+  advise_decides text advice m a e = subst (IsReportOn r i lists vs ls false) (sym e) (advise_report advice m a)
 
   pub gate_decides : (d : Decision) (lost : Bool) (lines advice : List ℕ) → r.mode ≡ mode.Gate → IsSignedReport r i lists lost lines → IsAdvice r.version (class_of vs) advice
-      → IsGateDecision r vs lost lines advice d → IsOfFindings r i lists vs d
-  gate_decides d lost lines advice m s a (inl e) = subst (IsOfFindings r i lists vs) (sym e) tt
+      → IsGateDecision r vs ls lost lines advice d → IsOfFindings r i lists vs ls d
+  gate_decides d lost lines advice m s a (inl e) = subst (IsOfFindings r i lists vs ls) (sym e) tt
   gate_decides d lost lines advice m s a (inr e) =
-      report_decides (lost || list_any has_break vs) (lines ++ judge_text r.platforms vs ++ advice) d e (gate_report lost lines advice m s a)
+      report_decides (lost || list_any has_break vs) (lines ++ judge_text r.platforms vs ls ++ advice) d e (gate_report lost lines advice m s a)
 
-  pub make_decides : (text : List ℕ) → r.mode ≡ mode.Make → IsMakeText r lists vs text → IsReportOn r i lists vs false text
-  make_decides text m h = subst (IsReportOn r i lists vs false) (sym h.2.2) (make_report h.2.0 h.0 m h.1 h.2.1)
+  pub skipped_decides : (text : List ℕ) → r.mode ≡ mode.Skipped → text ≡ skipped_text r.platforms ls → IsReportOn r i lists vs ls false text
+  skipped_decides text m e = subst (IsReportOn r i lists vs ls false) (sym e) (skipped_report m)
+
+  pub make_decides : (text : List ℕ) → r.mode ≡ mode.Make → IsMakeText r lists vs text → IsReportOn r i lists vs ls false text
+  make_decides text m h = subst (IsReportOn r i lists vs ls false) (sym h.2.2) (make_report h.2.0 h.0 m h.1 h.2.1)
 
   -- and so is a refused advice
-  pub unadvised_decides : (d : Decision) (f : AdviceFault) → d ≡ unadvised f → AnswersAdvice r.version (class_of vs) (Err f) → IsOfFindings r i lists vs d
-  unadvised_decides d f e h = subst (IsOfFindings r i lists vs) (sym e) (by f h)
+  pub unadvised_decides : (d : Decision) (f : AdviceFault) → d ≡ unadvised f → AnswersAdvice r.version (class_of vs) (Err f) → IsOfFindings r i lists vs ls d
+  unadvised_decides d f e h = subst (IsOfFindings r i lists vs ls) (sym e) (by f h)
     where
-      by : (f : AdviceFault) → AnswersAdvice r.version (class_of vs) (Err f) → IsOfFindings r i lists vs (unadvised f)
+      by : (f : AdviceFault) → AnswersAdvice r.version (class_of vs) (Err f) → IsOfFindings r i lists vs ls (unadvised f)
       by (fault.Refused line) h = h
       by fault.NoMemory h = tt
 
@@ -95,6 +99,12 @@ module _ (r : Request) (i : Inputs) where
       subst (λ (qs : List Platform). AnswersFindings (modules_of i) i.old_tree i.tree i.std_tree qs answer) p
       (subst (λ (t : Option Tree). AnswersFindings (modules_of i) t i.tree i.std_tree ps answer) o (subst (λ (ms : List (List ℕ)). AnswersFindings ms old i.tree i.std_tree ps answer) b h))
 
+  left_out_as : (barred : List (List ℕ)) (old : Option Tree) (ps : List Platform) (ls : List LeftOut) → barred ≡ modules_of i → old ≡ i.old_tree → ps ≡ r.platforms
+      → AreLeftOut barred i.std_tree old i.tree ps ls → AreLeftOut (modules_of i) i.std_tree i.old_tree i.tree r.platforms ls
+  left_out_as barred old ps ls b o p h =
+      subst (λ (qs : List Platform). AreLeftOut (modules_of i) i.std_tree i.old_tree i.tree qs ls) p
+      (subst (λ (t : Option Tree). AreLeftOut (modules_of i) i.std_tree t i.tree ps ls) o (subst (λ (ms : List (List ℕ)). AreLeftOut ms i.std_tree old i.tree ps ls) b h))
+
   pub unfound_decides : (barred : List (List ℕ)) (old : Option Tree) (ps : List Platform) (e : PlatformError) (d : Decision) → barred ≡ modules_of i → old ≡ i.old_tree → ps ≡ r.platforms → d ≡ unfound e
       → AnswersFindings barred old i.tree i.std_tree ps (Err e) → IsOfInputs r i d
   unfound_decides barred old ps e d b o p same h = subst (IsOfInputs r i) (sym same) (by e (answers_as barred old ps (Err e) b o p h))
@@ -104,8 +114,8 @@ module _ (r : Request) (i : Inputs) where
       by platform.NoMemory k = no_room
 
   pub found_decides : (barred : List (List ℕ)) (old : Option Tree) (ps : List Platform) (f : Findings) (d : Decision) → barred ≡ modules_of i → old ≡ i.old_tree → ps ≡ r.platforms
-      → AnswersFindings barred old i.tree i.std_tree ps (Ok f) → IsOfFindings r i f.features f.verdicts d → IsOfInputs r i d
-  found_decides barred old ps f d b o p h k = of_findings f.features f.verdicts (answers_as barred old ps (Ok f) b o p h) k
+      → AnswersFindings barred old i.tree i.std_tree ps (Ok f) → AreLeftOut barred i.std_tree old i.tree ps f.left_out → IsOfFindings r i f.features f.verdicts f.left_out d → IsOfInputs r i d
+  found_decides barred old ps f d b o p h l k = of_findings f.features f.verdicts f.left_out (record { findings = answers_as barred old ps (Ok f) b o p h; left_out = left_out_as barred old ps f.left_out b o p l }) k
 
 -- ---- decisions of a store
 
@@ -119,17 +129,17 @@ unread_decides told before now r e d same h = subst (IsOfStore told before now r
 
 module _ (words : List (List ℕ)) (store : Change Contents) (r : Request) (is : IsRequest words r) where
   -- what findings decide may be written
-  findings_write : (i : Inputs) (lists : List (List Line)) (vs : List Verdict) (d : Decision) → AreInputs (files_of store.told_before r.made) r i → AreFound r i lists vs → IsOfFindings r i lists vs d
+  findings_write : (i : Inputs) (lists : List (List Line)) (vs : List Verdict) (ls : List LeftOut) (d : Decision) → AreInputs (files_of store.told_before r.made) r i → AreFound r i lists vs ls → IsOfFindings r i lists vs ls d
       → MayWrite words store (outcome_of d)
-  findings_write i lists vs (decision.Report text) a f h = defined (reported_findings false r i lists vs (record { request = is; inputs = a }) f h)
-  findings_write i lists vs (decision.Broken text) a f h = defined (reported_findings true r i lists vs (record { request = is; inputs = a }) f h)
-  findings_write i lists vs decision.Words a f h = absurd h
-  findings_write i lists vs (decision.Refused line) a f h = defined (refused_advice r i h.0 lists vs (record { request = is; inputs = a }) f h.1 h.2)
-  findings_write i lists vs decision.ReadFault a f h = absurd h
-  findings_write i lists vs decision.NoMemory a f h = no_memory
+  findings_write i lists vs ls (decision.Report text) a f h = defined (reported_findings false r i lists vs ls (record { request = is; inputs = a }) f h)
+  findings_write i lists vs ls (decision.Broken text) a f h = defined (reported_findings true r i lists vs ls (record { request = is; inputs = a }) f h)
+  findings_write i lists vs ls decision.Words a f h = absurd h
+  findings_write i lists vs ls (decision.Refused line) a f h = defined (refused_advice r i h.0 lists vs ls (record { request = is; inputs = a }) f h.1 h.2)
+  findings_write i lists vs ls decision.ReadFault a f h = absurd h
+  findings_write i lists vs ls decision.NoMemory a f h = no_memory
 
   inputs_write : (i : Inputs) (d : Decision) → AreInputs (files_of store.told_before r.made) r i → IsOfInputs r i d → MayWrite words store (outcome_of d)
-  inputs_write i d a (of_findings lists vs f h) = findings_write i lists vs d a f h
+  inputs_write i d a (of_findings lists vs ls f h) = findings_write i lists vs ls d a f h
   inputs_write i d a (of_platform h) = defined (refused_platform r i (record { request = is; inputs = a }) h)
   inputs_write i d a no_room = no_memory
 

@@ -3,7 +3,7 @@ use Rattle.std.proofs.Common.{◌≡◌, ◌≢◌, ℕ, Bool, true, Option, Som
 use Rattle.api_advice.specs.Advice.{IsNext}
 use Rattle.api_advice.specs.declared.class.Class.{Class}
 use Rattle.api_advice.specs.declared.release.Release.{Release}
-use Rattle.api_findings.specs.Findings.{AreFindings, IsFirstRefusal, shown}
+use Rattle.api_findings.specs.Findings.{AreFindings, AreLeftOut, IsFirstRefusal, shown}
 use Rattle.api_inputs.specs.Inputs.{AreInputs, IsInputRefusal}
 use Rattle.api_inputs.specs.declared.inputs.Inputs.{Inputs}
 use Rattle.api_judge.specs.Verdicts.{class_of}
@@ -12,6 +12,7 @@ use Rattle.api_lines.specs.Lines.{IsListing, printed}
 use Rattle.api_lines.specs.Merging.{IsMerged}
 use Rattle.api_lines.specs.declared.line.Line.{Line}
 use Rattle.api_texts.specs.FixedLines.{words_line}
+use Rattle.api_texts.specs.declared.left_out.LeftOut.{LeftOut}
 use Rattle.api_words.specs.Words.{AreBad, IsRequest}
 use Rattle.api_words.specs.declared.request.AskedVersion.{AskedVersion}
 use Rattle.api_words.specs.declared.request.MadeTrees.{MadeTrees}
@@ -29,14 +30,14 @@ use Rattle.api_gate.specs.runs.Outcomes.{AreFound, AreMerged, EndsWith, bad_word
 -- ---- of one request and its inputs
 
 -- what is found in the inputs ends so
-data FoundEnds (r : Request) (i : Inputs) (lists : List (List Line)) (vs : List Verdict) : Outcome → Type 0 where
-  ends_unadvised : {line : List ℕ} (v : AskedVersion) → takes_version r.mode ≡ true → r.version ≡ Some v → IsAdviceRefusal v (class_of vs) line → FoundEnds r i lists vs (fault_alone status.Refused line)
-  ends_reported : {text : List ℕ} (b : Bool) → IsReportOn r i lists vs b text → FoundEnds r i lists vs (reported b text)
+data FoundEnds (r : Request) (i : Inputs) (lists : List (List Line)) (vs : List Verdict) (os : List LeftOut) : Outcome → Type 0 where
+  ends_unadvised : {line : List ℕ} (v : AskedVersion) → takes_version r.mode ≡ true → r.version ≡ Some v → IsAdviceRefusal v (class_of vs) line → FoundEnds r i lists vs os (fault_alone status.Refused line)
+  ends_reported : {text : List ℕ} (b : Bool) → IsReportOn r i lists vs os b text → FoundEnds r i lists vs os (reported b text)
 
 -- the inputs end so
 data InputsEnd (r : Request) (i : Inputs) : Outcome → Type 0 where
   ends_refused : {line : List ℕ} → IsFirstRefusal (modules_of i) i.old_tree i.tree i.std_tree r.platforms line → InputsEnd r i (fault_alone status.Refused line)
-  ends_found : {o : Outcome} (lists : List (List Line)) (vs : List Verdict) → AreFound r i lists vs → FoundEnds r i lists vs o → InputsEnd r i o
+  ends_found : {o : Outcome} (lists : List (List Line)) (vs : List Verdict) (os : List LeftOut) → AreFound r i lists vs os → FoundEnds r i lists vs os o → InputsEnd r i o
 
 -- a request ends so over these files
 data RequestEnds (files : Option Contents) (r : Request) : Outcome → Type 0 where
@@ -48,17 +49,18 @@ module _ (one_next : (r : Release) (c : Class) (a b : Option Release) → IsNext
     → AreFindings barred old tree std ps a vs → AreFindings barred old tree std ps b ws → IsListing (IsMerged a ps) f → IsListing (IsMerged b ps) g → map printed f ≡ map printed g)
     (one_verdict : (barred : List (List ℕ)) (old : Option Tree) (tree std : Tree) (ps : List Platform) (a b : List (List Line)) (vs ws : List Verdict)
     → AreFindings barred old tree std ps a vs → AreFindings barred old tree std ps b ws → map shown vs ≡ map shown ws)
+    (one_left_out : (barred : List (List ℕ)) (old : Option Tree) (tree std : Tree) (ps : List Platform) (a b : List LeftOut) → AreLeftOut barred std old tree ps a → AreLeftOut barred std old tree ps b → a ≡ b)
     (one_line : (barred : List (List ℕ)) (old : Option Tree) (tree std : Tree) (ps : List Platform) (a b : List ℕ) → IsFirstRefusal barred old tree std ps a → IsFirstRefusal barred old tree std ps b → a ≡ b)
     (found_or : (barred : List (List ℕ)) (old : Option Tree) (tree std : Tree) (ps : List Platform) (a : List (List Line)) (vs : List Verdict) (line : List ℕ) → AreFindings barred old tree std ps a vs → IsFirstRefusal barred old tree std ps line → ⊥)
   where
     -- ---- of findings
 
-    module _ (r : Request) (i : Inputs) (fs gs : List (List Line)) (vs ws : List Verdict) (merged : (f g : List Line) → AreMerged r fs f → AreMerged r gs g → map printed f ≡ map printed g) (seen : map shown vs ≡ map shown ws) where
-      one_found : (a b : Outcome) → FoundEnds r i fs vs a → FoundEnds r i gs ws b → a ≡ b
+    module _ (r : Request) (i : Inputs) (fs gs : List (List Line)) (vs ws : List Verdict) (os : List LeftOut) (merged : (f g : List Line) → AreMerged r fs f → AreMerged r gs g → map printed f ≡ map printed g) (seen : map shown vs ≡ map shown ws) where
+      one_found : (a b : Outcome) → FoundEnds r i fs vs os a → FoundEnds r i gs ws os b → a ≡ b
       one_found a b (ends_unadvised {line = x} v t e h) (ends_unadvised {line = y} w u f k) = ap (fault_alone status.Refused) (same_unadvised one_next r vs ws seen v w x y e f h k)
-      one_found a b (ends_unadvised {line = x} v t e h) (ends_reported {text = y} c k) = absurd (report_or_refusal one_next r i gs vs ws seen c y x v t e k h)
-      one_found a b (ends_reported {text = x} c h) (ends_unadvised {line = y} v t e k) = absurd (report_or_refusal one_next r i fs ws vs (sym seen) c x y v t e h k)
-      one_found a b (ends_reported {text = x} c h) (ends_reported {text = y} d k) = let same = same_report one_next r i fs gs vs ws merged seen c d x y h k in (λ n. reported (same.0 n) (same.1 n))
+      one_found a b (ends_unadvised {line = x} v t e h) (ends_reported {text = y} c k) = absurd (report_or_refusal one_next r i gs vs ws os seen c y x v t e k h)
+      one_found a b (ends_reported {text = x} c h) (ends_unadvised {line = y} v t e k) = absurd (report_or_refusal one_next r i fs ws vs os (sym seen) c x y v t e h k)
+      one_found a b (ends_reported {text = x} c h) (ends_reported {text = y} d k) = let same = same_report one_next r i fs gs vs ws os merged seen c d x y h k in (λ n. reported (same.0 n) (same.1 n))
 
     -- ---- of inputs
 
@@ -71,13 +73,13 @@ module _ (one_next : (r : Release) (c : Class) (a b : Option Release) → IsNext
 
       one_of_inputs : (a b : Outcome) → InputsEnd r i a → InputsEnd r i b → a ≡ b
       one_of_inputs a b (ends_refused {line = x} h) (ends_refused {line = y} k) = ap (fault_alone status.Refused) (one_line (modules_of i) i.old_tree i.tree i.std_tree r.platforms x y h k)
-      one_of_inputs a b (ends_refused {line = x} h) (ends_found gs ws k q) = absurd (found_or (modules_of i) i.old_tree i.tree i.std_tree r.platforms gs ws x k h)
-      one_of_inputs a b (ends_found fs vs h p) (ends_refused {line = y} k) = absurd (found_or (modules_of i) i.old_tree i.tree i.std_tree r.platforms fs vs y h k)
-      one_of_inputs a b (ends_found fs vs h p) (ends_found gs ws k q) =
-          one_found r i fs gs vs ws
-          (λ f g m n. one_merged (modules_of i) i.old_tree i.tree i.std_tree r.platforms fs gs vs ws f g inputs.tree.tree std_kept named h k m n)
-          (one_verdict (modules_of i) i.old_tree i.tree i.std_tree r.platforms fs gs vs ws h k)
-          a b p q
+      one_of_inputs a b (ends_refused {line = x} h) (ends_found gs ws os k q) = absurd (found_or (modules_of i) i.old_tree i.tree i.std_tree r.platforms gs ws x k.findings h)
+      one_of_inputs a b (ends_found fs vs os h p) (ends_refused {line = y} k) = absurd (found_or (modules_of i) i.old_tree i.tree i.std_tree r.platforms fs vs y h.findings k)
+      one_of_inputs a b (ends_found fs vs os h p) (ends_found gs ws ns k q) =
+          one_found r i fs gs vs ws ns
+          (λ f g m n. one_merged (modules_of i) i.old_tree i.tree i.std_tree r.platforms fs gs vs ws f g inputs.tree.tree std_kept named h.findings k.findings m n)
+          (one_verdict (modules_of i) i.old_tree i.tree i.std_tree r.platforms fs gs vs ws h.findings k.findings)
+          a b (subst (λ (ls : List LeftOut). FoundEnds r i fs vs ls a) (one_left_out (modules_of i) i.old_tree i.tree i.std_tree r.platforms os ns h.left_out k.left_out) p) q
 
     -- ---- of words
 
@@ -103,11 +105,11 @@ module _ (one_next : (r : Release) (c : Class) (a b : Option Release) → IsNext
         as_request s is o (refused_inputs {line = x} r h l) = subst (λ (q : Request). RequestEnds (files_of (Some m) q.made) q (fault_alone status.Refused x)) (one_request words r s h is) (ends_unread l)
         as_request s is o (refused_platform {line = x} r i a l) =
             subst (λ (q : Request). RequestEnds (files_of (Some m) q.made) q (fault_alone status.Refused x)) (one_request words r s a.request is) (ends_read i a.inputs (ends_refused l))
-        as_request s is o (refused_advice {line = x} r i v ls vs a f e l) =
+        as_request s is o (refused_advice {line = x} r i v ls vs os a f e l) =
             subst (λ (q : Request). RequestEnds (files_of (Some m) q.made) q (fault_alone status.Refused x)) (one_request words r s a.request is)
-            (ends_read i a.inputs (ends_found ls vs f (ends_unadvised v (version_in words r v a.request e) e l)))
-        as_request s is o (reported_findings {text = x} b r i ls vs a f h) =
-            subst (λ (q : Request). RequestEnds (files_of (Some m) q.made) q (reported b x)) (one_request words r s a.request is) (ends_read i a.inputs (ends_found ls vs f (ends_reported b h)))
+            (ends_read i a.inputs (ends_found ls vs os f (ends_unadvised v (version_in words r v a.request e) e l)))
+        as_request s is o (reported_findings {text = x} b r i ls vs os a f h) =
+            subst (λ (q : Request). RequestEnds (files_of (Some m) q.made) q (reported b x)) (one_request words r s a.request is) (ends_read i a.inputs (ends_found ls vs os f (ends_reported b h)))
 
         same_by : (s : Request) → IsRequest words s → (a b : Outcome) → EndsWith words (Some m) a → EndsWith words (Some m) b → a ≡ b
         same_by s is a b p q = one_of_files m s.made s a b (as_request s is a p) (as_request s is b q)
@@ -119,9 +121,9 @@ module _ (one_next : (r : Release) (c : Class) (a b : Option Release) → IsNext
             bad_as n o (bad_words k) = refl
             bad_as n o (refused_inputs r h l) = absurd (n r h)
             bad_as n o (refused_platform r i a l) = absurd (n r a.request)
-            bad_as n o (refused_advice r i v ls vs a f e l) = absurd (n r a.request)
-            bad_as n o (reported_findings c r i ls vs a f h) = absurd (n r a.request)
+            bad_as n o (refused_advice r i v ls vs os a f e l) = absurd (n r a.request)
+            bad_as n o (reported_findings c r i ls vs os a f h) = absurd (n r a.request)
         same_outcome a b (refused_inputs r h l) q = same_by r h a b (refused_inputs r h l) q
         same_outcome a b (refused_platform r i g l) q = same_by r g.request a b (refused_platform r i g l) q
-        same_outcome a b (refused_advice r i v ls vs g f e l) q = same_by r g.request a b (refused_advice r i v ls vs g f e l) q
-        same_outcome a b (reported_findings c r i ls vs g f h) q = same_by r g.request a b (reported_findings c r i ls vs g f h) q
+        same_outcome a b (refused_advice r i v ls vs os g f e l) q = same_by r g.request a b (refused_advice r i v ls vs os g f e l) q
+        same_outcome a b (reported_findings c r i ls vs os g f h) q = same_by r g.request a b (reported_findings c r i ls vs os g f h) q

@@ -13,7 +13,8 @@ use Rattle.api_judge.specs.Verdicts.{class_of, has_break}
 use Rattle.api_judge.specs.declared.verdict.Verdict.{Verdict}
 use Rattle.api_lines.specs.Lines.{printed}
 use Rattle.api_lines.specs.declared.line.Line.{Line}
-use Rattle.api_reports.specs.Reports.{class_text, features_text, has_loss, judge_text, made_text, signed_text, unlines, version_text}
+use Rattle.api_reports.specs.Reports.{class_text, counted_class_text, features_text, has_loss, judge_text, made_text, signed_text, skipped_text, unlines, version_text}
+use Rattle.api_texts.specs.declared.left_out.LeftOut.{LeftOut}
 use Rattle.api_words.specs.declared.option_name.Mode.{Mode}
 use Rattle.api_words.specs.declared.option_name.Mode.TheVariants as mode
 use Rattle.api_words.specs.declared.request.AskedVersion.{AskedVersion}
@@ -22,7 +23,7 @@ use Rattle.api_words.specs.declared.request.Request.{Request}
 use Rattle.api_gate.proofs.RequestFacts.{takes_version}
 use Rattle.api_gate.proofs.ShownVerdicts.{breaks_by, class_by, count_by, judge_by}
 use Rattle.api_gate.proofs.SignedFeatures.{same_signed}
-use Rattle.api_gate.specs.runs.Outcomes.{AreMerged, IsAdvice, IsAdviceRefusal, no_release, no_version, IsMadeText, IsReportOn, features_report, frozen_report, judge_report, advise_report, gate_report, make_report, IsSignedReport}
+use Rattle.api_gate.specs.runs.Outcomes.{AreMerged, IsAdvice, IsAdviceRefusal, no_release, no_version, IsMadeText, IsReportOn, features_report, frozen_report, judge_report, advise_report, gate_report, skipped_report, make_report, IsSignedReport}
 
 some_release : (a b : Release) → ◌≡◌ {A = Option Release} (Some a) (Some b) → a ≡ b
 some_release a b e = cc
@@ -65,9 +66,9 @@ module _ (one_next : (r : Release) (c : Class) (a b : Option Release) → IsNext
       same_refusal w (class_of ws) x y (subst (λ (u : AskedVersion). IsAdviceRefusal u (class_of ws) x) (some_version v w (sym e ∙ f)) (refusal_by v vs ws x seen h)) k
 
   -- and have no report
-  pub report_or_refusal : (r : Request) (i : Inputs) (ls : List (List Line)) (vs ws : List Verdict) → map shown vs ≡ map shown ws → (b : Bool) (x y : List ℕ) (v : AskedVersion) → takes_version r.mode ≡ true → r.version ≡ Some v
-      → IsReportOn r i ls ws b x → IsAdviceRefusal v (class_of vs) y → ⊥
-  report_or_refusal r i ls vs ws seen b x y v t e h k = by h
+  pub report_or_refusal : (r : Request) (i : Inputs) (ls : List (List Line)) (vs ws : List Verdict) (os : List LeftOut) → map shown vs ≡ map shown ws → (b : Bool) (x y : List ℕ) (v : AskedVersion) → takes_version r.mode ≡ true → r.version ≡ Some v
+      → IsReportOn r i ls ws os b x → IsAdviceRefusal v (class_of vs) y → ⊥
+  report_or_refusal r i ls vs ws os seen b x y v t e h k = by h
     where
       none : (m : Mode) → r.mode ≡ m → takes_version m ≡ false → ⊥
       none m f g = true≢false (sym t ∙ ap takes_version f ∙ g)
@@ -75,17 +76,18 @@ module _ (one_next : (r : Release) (c : Class) (a b : Option Release) → IsNext
       advised : (advice : List ℕ) → IsAdvice r.version (class_of ws) advice → ⊥
       advised advice a = advised_or v (class_of ws) advice y (subst (λ (o : Option AskedVersion). IsAdvice o (class_of ws) advice) e a) (refusal_by v vs ws y seen k)
 
-      by : {b : Bool} {x : List ℕ} → IsReportOn r i ls ws b x → ⊥
+      by : {b : Bool} {x : List ℕ} → IsReportOn r i ls ws os b x → ⊥
       by (features_report f m a) = none mode.Features m refl
       by (frozen_report m s) = none mode.Frozen m refl
       by (judge_report m) = none mode.Judge m refl
       by (advise_report z m a) = advised z a
       by (gate_report lost lines z m s a) = advised z a
+      by (skipped_report m) = none mode.Skipped m refl
       by (make_report first f m a n) = none mode.Make m refl
 
   -- ---- reports
 
-  module _ (r : Request) (i : Inputs) (fs gs : List (List Line)) (vs ws : List Verdict) (merged : (f g : List Line) → AreMerged r fs f → AreMerged r gs g → map printed f ≡ map printed g)
+  module _ (r : Request) (i : Inputs) (fs gs : List (List Line)) (vs ws : List Verdict) (os : List LeftOut) (merged : (f g : List Line) → AreMerged r fs f → AreMerged r gs g → map printed f ≡ map printed g)
       (seen : map shown vs ≡ map shown ws) where
     same_lost : (a b : Bool) (x y : List ℕ) → IsSignedReport r i fs a x → IsSignedReport r i gs b y → (a ≡ b) × (x ≡ y)
     same_lost a b x y h k =
@@ -106,38 +108,41 @@ module _ (one_next : (r : Release) (c : Class) (a b : Option Release) → IsNext
     abbrev ReportIn : Mode → List (List Line) → List Verdict → Bool → List ℕ → Type 0
     ReportIn mode.Features ls us b x = (f : List Line) × AreMerged r ls f × (b ≡ false) × (x ≡ features_text f)
     ReportIn mode.Frozen ls us b x = IsSignedReport r i ls b x
-    ReportIn mode.Judge ls us b x = (b ≡ list_any has_break us) × (x ≡ judge_text r.platforms us)
-    ReportIn mode.Advise ls us b x = (advice : List ℕ) × IsAdvice r.version (class_of us) advice × (b ≡ false) × (x ≡ class_text (class_of us) ++ advice)
+    ReportIn mode.Judge ls us b x = (b ≡ list_any has_break us) × (x ≡ judge_text r.platforms us os)
+    ReportIn mode.Advise ls us b x = (advice : List ℕ) × IsAdvice r.version (class_of us) advice × (b ≡ false) × (x ≡ counted_class_text r.platforms os (class_of us) ++ advice)
     ReportIn mode.Gate ls us b x = (lost : Bool) × (lines advice : List ℕ) × IsSignedReport r i ls lost lines × IsAdvice r.version (class_of us) advice
-        × (b ≡ lost || list_any has_break us) × (x ≡ lines ++ judge_text r.platforms us ++ advice)
+        × (b ≡ lost || list_any has_break us) × (x ≡ lines ++ judge_text r.platforms us os ++ advice)
+    ReportIn mode.Skipped ls us b x = (b ≡ false) × (x ≡ skipped_text r.platforms os)
     ReportIn mode.Make ls us b x = (f : List Line) × (first : List ℕ) × AreMerged r ls f × IsMadeText r.made f us first × (b ≡ false) × (x ≡ first ++ class_text (class_of us))
 
-    in_mode : (ls : List (List Line)) (us : List Verdict) (b : Bool) (x : List ℕ) → IsReportOn r i ls us b x → ReportIn r.mode ls us b x
+    in_mode : (ls : List (List Line)) (us : List Verdict) (b : Bool) (x : List ℕ) → IsReportOn r i ls us os b x → ReportIn r.mode ls us b x
     in_mode ls us b x (features_report f m a) = subst (λ (q : Mode). ReportIn q ls us b x) (sym m) (f, a, refl, refl)
     in_mode ls us b x (frozen_report m s) = subst (λ (q : Mode). ReportIn q ls us b x) (sym m) s
     in_mode ls us b x (judge_report m) = subst (λ (q : Mode). ReportIn q ls us b x) (sym m) (refl, refl)
     in_mode ls us b x (advise_report y m a) = subst (λ (q : Mode). ReportIn q ls us b x) (sym m) (y, a, refl, refl)
     in_mode ls us b x (gate_report lost lines y m s a) = subst (λ (q : Mode). ReportIn q ls us b x) (sym m) (lost, lines, y, s, a, refl, refl)
+    in_mode ls us b x (skipped_report m) = subst (λ (q : Mode). ReportIn q ls us b x) (sym m) (refl, refl)
     in_mode ls us b x (make_report first f m a t) = subst (λ (q : Mode). ReportIn q ls us b x) (sym m) (f, first, a, t, refl, refl)
 
     same_in : (m : Mode) (a b : Bool) (x y : List ℕ) → ReportIn m fs vs a x → ReportIn m gs ws b y → (a ≡ b) × (x ≡ y)
     same_in mode.Features a b x y h k = (h.2 ∙ sym k.2, h.3 ∙ ap unlines (merged h.0 k.0 h.1 k.1) ∙ sym k.3)
     same_in mode.Frozen a b x y h k = same_lost a b x y h k
-    same_in mode.Judge a b x y h k = (h.0 ∙ breaks_by vs ws seen ∙ sym k.0, h.1 ∙ judge_by r.platforms vs ws seen ∙ sym k.1)
+    same_in mode.Judge a b x y h k = (h.0 ∙ breaks_by vs ws seen ∙ sym k.0, h.1 ∙ judge_by r.platforms vs ws os seen ∙ sym k.1)
     same_in mode.Advise a b x y h k =
         let class = class_by vs ws seen in
         let advice : h.0 ≡ k.0 = same_classed h.0 k.0 h.1 k.1 in
-        (h.2 ∙ sym k.2, h.3 ∙ (λ j. class_text (class j) ++ advice j) ∙ sym k.3)
+        (h.2 ∙ sym k.2, h.3 ∙ (λ j. counted_class_text r.platforms os (class j) ++ advice j) ∙ sym k.3)
     same_in mode.Gate a b x y h k =
         let lost : (h.0 ≡ k.0) × (h.1 ≡ k.1) = same_lost h.0 k.0 h.1 k.1 h.3 k.3 in
         let advice : h.2 ≡ k.2 = same_classed h.2 k.2 h.4 k.4 in
         let broken = breaks_by vs ws seen in
-        let judged = judge_by r.platforms vs ws seen in
+        let judged = judge_by r.platforms vs ws os seen in
         (h.5 ∙ (λ j. lost.0 j || broken j) ∙ sym k.5, h.6 ∙ (λ j. lost.1 j ++ judged j ++ advice j) ∙ sym k.6)
+    same_in mode.Skipped a b x y h k = (h.0 ∙ sym k.0, h.1 ∙ sym k.1)
     same_in mode.Make a b x y h k =
         let class = class_by vs ws seen in
         let first : h.1 ≡ k.1 = same_made r.made h.0 k.0 h.1 k.1 h.2 k.2 h.3 k.3 in
         (h.4 ∙ sym k.4, h.5 ∙ (λ j. first j ++ class_text (class j)) ∙ sym k.5)
 
-    pub same_report : (a b : Bool) (x y : List ℕ) → IsReportOn r i fs vs a x → IsReportOn r i gs ws b y → (a ≡ b) × (x ≡ y)
+    pub same_report : (a b : Bool) (x y : List ℕ) → IsReportOn r i fs vs os a x → IsReportOn r i gs ws os b y → (a ≡ b) × (x ≡ y)
     same_report a b x y h k = same_in r.mode a b x y (in_mode fs vs a x h) (in_mode gs ws b y k)

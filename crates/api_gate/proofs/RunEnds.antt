@@ -15,33 +15,33 @@ words_of : (words : List (List ℕ)) (told : Option Contents) (o : Outcome) → 
 words_of words told o (bad_words n) s = n
 words_of words told o (refused_inputs r i l) s = absurd (cc)
 words_of words told o (refused_platform r i a l) s = absurd (cc)
-words_of words told o (refused_advice r i v ls vs a f e l) s = absurd (cc)
-words_of words told o (reported_findings true r i ls vs a f h) s = absurd (cc)
-words_of words told o (reported_findings false r i ls vs a f h) s = absurd (cc)
+words_of words told o (refused_advice r i v ls vs os a f e l) s = absurd (cc)
+words_of words told o (reported_findings true r i ls vs os a f h) s = absurd (cc)
+words_of words told o (reported_findings false r i ls vs os a f h) s = absurd (cc)
 
 no_read : (words : List (List ℕ)) (told : Option Contents) (o : Outcome) → EndsWith words told o → o.status ≡ status.ReadFault → ⊥
 no_read words told o (bad_words n) s = cc
 no_read words told o (refused_inputs r i l) s = cc
 no_read words told o (refused_platform r i a l) s = cc
-no_read words told o (refused_advice r i v ls vs a f e l) s = cc
-no_read words told o (reported_findings true r i ls vs a f h) s = cc
-no_read words told o (reported_findings false r i ls vs a f h) s = cc
+no_read words told o (refused_advice r i v ls vs os a f e l) s = cc
+no_read words told o (reported_findings true r i ls vs os a f h) s = cc
+no_read words told o (reported_findings false r i ls vs os a f h) s = cc
 
 no_write : (words : List (List ℕ)) (told : Option Contents) (o : Outcome) → EndsWith words told o → o.status ≡ status.WriteFault → ⊥
 no_write words told o (bad_words n) s = cc
 no_write words told o (refused_inputs r i l) s = cc
 no_write words told o (refused_platform r i a l) s = cc
-no_write words told o (refused_advice r i v ls vs a f e l) s = cc
-no_write words told o (reported_findings true r i ls vs a f h) s = cc
-no_write words told o (reported_findings false r i ls vs a f h) s = cc
+no_write words told o (refused_advice r i v ls vs os a f e l) s = cc
+no_write words told o (reported_findings true r i ls vs os a f h) s = cc
+no_write words told o (reported_findings false r i ls vs os a f h) s = cc
 
 -- bad words end with their line
 bad_end : (words : List (List ℕ)) (told : Option Contents) (o : Outcome) → AreBad words → EndsWith words told o → (o.status ≡ status.Words) × (o.output ≡ [])
 bad_end words told o bad (bad_words n) = (refl, refl)
 bad_end words told o bad (refused_inputs r i l) = absurd (bad r i)
 bad_end words told o bad (refused_platform r i a l) = absurd (bad r a.request)
-bad_end words told o bad (refused_advice r i v ls vs a f e l) = absurd (bad r a.request)
-bad_end words told o bad (reported_findings b r i ls vs a f h) = absurd (bad r a.request)
+bad_end words told o bad (refused_advice r i v ls vs os a f e l) = absurd (bad r a.request)
+bad_end words told o bad (reported_findings b r i ls vs os a f h) = absurd (bad r a.request)
 
 module _ (words : List (List ℕ)) (store : Change Contents) where
   written_words : (o : Outcome) → MayWrite words store o → o.status ≡ status.Words → AreBad words

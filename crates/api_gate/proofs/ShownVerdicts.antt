@@ -6,9 +6,10 @@ use Rattle.api_advice.specs.declared.class.Class.TheVariants as class
 use Rattle.api_findings.specs.Findings.{Shown, shown}
 use Rattle.api_judge.specs.Verdicts.{class_of, has_break, is_changed}
 use Rattle.api_judge.specs.declared.verdict.Verdict.{Verdict}
-use Rattle.api_reports.specs.Reports.{break_line, class_line, count_breaks, judge_text, platform_lines, unlines, verdict_lines, verdict_word}
+use Rattle.api_reports.specs.Reports.{break_line, count_breaks, counted_class_text, judge_text, platform_lines, unlines, verdict_lines, verdict_word}
 use Rattle.api_subjects.specs.Told.{printed}
 use Rattle.api_subjects.specs.declared.broken.Broken.{Broken}
+use Rattle.api_texts.specs.declared.left_out.LeftOut.{LeftOut}
 use Rattle.go_model.specs.declared.files.platform.Platform.{Platform}
 use Rattle.std.specs.Prelude.{codes}
 use Rattle.go_model.specs.files.Platforms.{name_of}
@@ -78,11 +79,11 @@ verdicts_by (p ∷ ps) (v ∷ vs) (w ∷ ws) e =
     let rest : verdict_lines ps vs ≡ verdict_lines ps ws = verdicts_by ps vs ws (let k : map shown vs ≡ map shown ws = cc in k) in
     (λ i. here i ++ rest i)
 
-pub judge_by : (ps : List Platform) (vs ws : List Verdict) → map shown vs ≡ map shown ws → judge_text ps vs ≡ judge_text ps ws
-judge_by ps vs ws e =
+pub judge_by : (ps : List Platform) (vs ws : List Verdict) (ls : List LeftOut) → map shown vs ≡ map shown ws → judge_text ps vs ls ≡ judge_text ps ws ls
+judge_by ps vs ws ls e =
     let lines : verdict_lines ps vs ≡ verdict_lines ps ws = verdicts_by ps vs ws e in
     let class : class_of vs ≡ class_of ws = class_by vs ws e in
-    (λ i. unlines (lines i) ++ unlines (class_line (class i) ∷ []))
+    (λ i. unlines (lines i) ++ counted_class_text ps ls (class i))
 
 pub count_by : (vs ws : List Verdict) → map shown vs ≡ map shown ws → count_breaks vs ≡ count_breaks ws
 count_by [] [] e = refl

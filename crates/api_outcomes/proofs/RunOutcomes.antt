@@ -5,7 +5,7 @@ use mathlib.Core.Bool.{true≢false}
 use Rattle.api_findings.specs.Findings.{IsFirstRefusal}
 use Rattle.api_frozen.specs.Comparison.{IsReport}
 use Rattle.api_generator.specs.MadeTrees.{made_contents}
-use Rattle.api_gate.specs.runs.Outcomes.{AreFound, Asks, EndsWith, IsAdvice, IsMadeText, IsReportOn, IsSignedReport, Outcome, advise_report, bad_words, fault_alone, features_report, files_of, frozen_report, gate_report, judge_report, make_report, module_of_old, modules_of, refused_advice, refused_inputs, refused_platform, reported, reported_findings}
+use Rattle.api_gate.specs.runs.Outcomes.{AreFound, Asks, EndsWith, IsAdvice, IsMadeText, IsReportOn, IsSignedReport, Outcome, advise_report, bad_words, fault_alone, features_report, files_of, frozen_report, gate_report, judge_report, make_report, skipped_report, module_of_old, modules_of, refused_advice, refused_inputs, refused_platform, reported, reported_findings}
 use Rattle.api_gate.specs.declared.status.Status.TheVariants as status
 use Rattle.api_inputs.specs.Inputs.{AreInputs, IsInputRefusal, MayHaveOld}
 use Rattle.api_inputs.specs.Reads.{MayHaveStd, MayLoad, no_tree}
@@ -19,7 +19,8 @@ use Rattle.api_outcomes.proofs.FindingOutcomes.{findings_end}
 use Rattle.api_outcomes.proofs.InputOutcomes.{inputs_end}
 use Rattle.api_outcomes.proofs.NextVersions.{advice_there, request_roomy}
 use Rattle.api_outcomes.proofs.WorldsOn.{Below, IsRead}
-use Rattle.api_reports.specs.Reports.{class_text, count_breaks, features_text, has_loss, judge_text, made_text, signed_text}
+use Rattle.api_reports.specs.Reports.{class_text, count_breaks, counted_class_text, features_text, has_loss, judge_text, made_text, signed_text, skipped_text}
+use Rattle.api_texts.specs.declared.left_out.LeftOut.{LeftOut}
 use Rattle.api_texts.specs.FixedLines.{words_line}
 use Rattle.api_words.specs.Words.{IsRequest}
 use Rattle.api_words.specs.declared.option_name.Mode.{Mode}
@@ -73,9 +74,9 @@ old_read told r i a o e = let l = loaded_old told r.old i.old_tree a.old_tree o 
 
 -- ---- reports
 
-module _ (r : Request) (i : Inputs) (lists : List (List Line)) (vs : List Verdict) where
+module _ (r : Request) (i : Inputs) (lists : List (List Line)) (vs : List Verdict) (ls : List LeftOut) where
   abbrev Reports : Type 0
-  Reports = (is_broken : Bool) × (text : List ℕ) × IsReportOn r i lists vs is_broken text
+  Reports = (is_broken : Bool) × (text : List ℕ) × IsReportOn r i lists vs ls is_broken text
 
   record SignedText : Type 0 where
     is_broken : Bool
@@ -93,9 +94,10 @@ module _ (r : Request) (i : Inputs) (lists : List (List Line)) (vs : List Verdic
   by_mode : (x : Mode) → r.mode ≡ x → (advice : List ℕ) → IsAdvice r.version (class_of vs) advice → NotNone Reports
   by_mode mode.Features e advice a = so (lines_merged lists r.platforms) (λ f. (false, features_text f.0, features_report f.0 e f.1))
   by_mode mode.Frozen e advice a = so of_frozen (λ s. (s.is_broken, s.text, frozen_report e s.is))
-  by_mode mode.Judge e advice a = sure (list_any has_break vs, judge_text r.platforms vs, judge_report e)
-  by_mode mode.Advise e advice a = sure (false, class_text (class_of vs) ++ advice, advise_report advice e a)
-  by_mode mode.Gate e advice a = so of_frozen (λ s. (s.is_broken || list_any has_break vs, s.text ++ judge_text r.platforms vs ++ advice, gate_report s.is_broken s.text advice e s.is a))
+  by_mode mode.Judge e advice a = sure (list_any has_break vs, judge_text r.platforms vs ls, judge_report e)
+  by_mode mode.Advise e advice a = sure (false, counted_class_text r.platforms ls (class_of vs) ++ advice, advise_report advice e a)
+  by_mode mode.Gate e advice a = so of_frozen (λ s. (s.is_broken || list_any has_break vs, s.text ++ judge_text r.platforms vs ls ++ advice, gate_report s.is_broken s.text advice e s.is a))
+  by_mode mode.Skipped e advice a = sure (false, skipped_text r.platforms ls, skipped_report e)
   by_mode mode.Make e advice a = so (lines_merged lists r.platforms) (λ f. (let t = made_there r.made f.0 in (false, t.0 ++ class_text (class_of vs), make_report t.0 f.0 e f.1 t.1)))
 
 -- ---- runs
@@ -108,10 +110,10 @@ module _ (below : Below) (judged : (before now : Packages) → NotNone ((v : Ver
   abbrev Ends : Type 0
   Ends = (o : Outcome) × EndsWith words (Some m) o
 
-  of_findings : (r : Request) (i : Inputs) → IsRequest words r → Asks words (Some m) r i → (lists : List (List Line)) (vs : List Verdict) → AreFound r i lists vs → NotNone Ends
-  of_findings r i is asks lists vs found = elim (advice_there (class_of vs) r.version (request_roomy words r is)) [
-    | inl a ↦ so (by_mode r i lists vs r.mode refl a.0 a.1) (λ t. (reported t.0 t.1, reported_findings t.0 r i lists vs asks found t.2))
-    | inr n ↦ sure (fault_alone status.Refused n.1, refused_advice r i n.0 lists vs asks found n.2 n.3)
+  of_findings : (r : Request) (i : Inputs) → IsRequest words r → Asks words (Some m) r i → (lists : List (List Line)) (vs : List Verdict) (ls : List LeftOut) → AreFound r i lists vs ls → NotNone Ends
+  of_findings r i is asks lists vs ls found = elim (advice_there (class_of vs) r.version (request_roomy words r is)) [
+    | inl a ↦ so (by_mode r i lists vs ls r.mode refl a.0 a.1) (λ t. (reported t.0 t.1, reported_findings t.0 r i lists vs ls asks found t.2))
+    | inr n ↦ sure (fault_alone status.Refused n.1, refused_advice r i n.0 lists vs ls asks found n.2 n.3)
   ]
 
   of_inputs : (r : Request) → IsRequest words r → (i : Inputs) → Asks words (Some m) r i → NotNone Ends
@@ -119,7 +121,7 @@ module _ (below : Below) (judged : (before now : Packages) → NotNone ((v : Ver
       let told = files_of (Some m) r.made in
       bind (findings_end below (modules_of i) i.old_tree i.tree i.std_tree (tree_read told r i asks.inputs) (std_read told r.std i.std_tree asks.inputs.std_tree)
       (old_read told r i asks.inputs) (λ o f before now. judged before now) r.platforms) (λ k. elim k [
-        | inl found ↦ of_findings r i is asks found.0 found.1 found.2
+        | inl found ↦ of_findings r i is asks found.0 found.1 found.2 (record { findings = found.3; left_out = found.4 })
         | inr line ↦ sure (fault_alone status.Refused line.0, refused_platform r i asks line.1)
       ])
 

@@ -2,10 +2,14 @@
 use Rattle.std.proofs.Common.{◌≡◌, ◌≢◌, ◌⊎◌, ℕ, List, [], Result, Ok, Err, refl, sym, subst, inl, inr}
 use Rattle.api_refusals.specs.Refusals.{package_text, refusal_line, unit_text}
 use Rattle.api_texts.specs.declared.lines.Side.{Side}
-use Rattle.api_worlds.specs.PlatformWorlds.{IsRefusedOn, IsWorldOn, package_refused, packages_refused}
+use Rattle.api_worlds.specs.LeftOut.{AreLeftOutOn, all_lines, lines_with}
+use Rattle.api_worlds.specs.PlatformWorlds.{IsRefusedOn, IsWorldOn, package_refused, packages_refused, sources_of}
 use Rattle.go_base.specs.Lists.{Has}
 use Rattle.go_existence.specs.Existence.{NotNone}
 use Rattle.go_existence.proofs.DoubleNegation.{bind, so, sure}
+use Rattle.go_exposed.specs.OfferedWorlds.{IsFirstRefused, IsWorldOf}
+use Rattle.go_exposed.specs.SkippedDeclarations.{Skipped}
+use Rattle.go_exposed.specs.SkippedWorlds.{AreSkipped}
 use Rattle.go_model.specs.declared.files.platform.Platform.{Platform}
 use Rattle.go_model.specs.declared.files.tree.Tree.{Tree}
 use Rattle.go_model.specs.files.Platforms.{bits_of}
@@ -13,8 +17,8 @@ use Rattle.go_model.specs.files.Trees.{IsTree}
 use Rattle.go_model.specs.types.Terms.{client_path}
 use Rattle.go_model.specs.worlds.Worlds.{Packages}
 use Rattle.go_reading.specs.TreeUnits.{AreUnitsOfTrees}
-use Rattle.go_typings.specs.PackageWorlds.{IsFirstRefused, IsWorldOf}
 use Rattle.go_typings.specs.Refusals.{Refusal}
+use Rattle.go_typings.specs.Sources.{PackageSource}
 use Rattle.go_units.specs.declared.unit.«Unit».{«Unit» as PackageUnit}
 use Rattle.go_units.specs.declared.unit_error.UnitError.{UnitError}
 use Rattle.go_units.specs.declared.unit_error.UnitError.TheVariants as unit
@@ -30,6 +34,7 @@ pub record Below : Type 0 where
       → AreOfPackages units.packages
   pub worlds : (bits : ℕ) (units : Units) → AreOfPackages units.packages
       → NotNone (((w : Packages) × IsWorldOf bits (sources units.packages) w) ⊎ ((n : ℕ) × (r : Refusal) × IsFirstRefused bits (sources units.packages) n r))
+  pub skips : (bits : ℕ) (us : List PackageSource) (w : Packages) → IsWorldOf bits us w → NotNone ((xss : List (List Skipped)) × AreSkipped bits us xss)
 
 -- a tree as a run has it
 pub record IsRead (barred : List (List ℕ)) (tree : Tree) : Type 0 where
@@ -47,6 +52,10 @@ module _ (below : Below) (barred : List (List ℕ)) (tree std_tree : Tree) (read
     | inl w ↦ inl (w.0, (units, a, w.1))
     | inr r ↦ inr (λ s. (refusal_line s p (package_text tree std_tree [] units.packages r.0 r.1), package_refused units r.0 r.1 a r.2))
   ])
+
+  pub left_out_there : (w : Packages) → IsWorldOn barred tree std_tree p w → NotNone ((lines : List (List ℕ)) × AreLeftOutOn barred tree std_tree p lines)
+  left_out_there w i = so (below.skips (bits_of p) (sources_of i.0) w i.2) (λ k.
+      (all_lines (lines_with tree std_tree [] i.0.packages k.0), record { units = i.0; are = i.1; skipped = k.0; skips = k.1; «is» = refl }))
 
   pub world_ends : NotNone WorldEnds
   world_ends = bind (below.units p barred tree std_tree read.bars read.is std) (λ r. of_answer r.0 r.1 r.2)

@@ -17,7 +17,7 @@ ghost use Rattle.go_outside.specs.Stores.{Contents};
 use api_break_outcomes::laws::verdict_exists;
 use go_reading::laws::unit_paths;
 use go_unit_outcomes::laws::units_or_refusal;
-use go_world_outcomes::laws::world_or_refusal;
+use go_world_outcomes::laws::{skips_exist, world_or_refusal};
 
 /// A request has inputs over the files that a store tells, or a first refusal.
 pub fn inputs_or_refusal()
@@ -32,6 +32,7 @@ pub fn world_or_fault_line()
     units_or_refusal();
     unit_paths();
     world_or_refusal();
+    skips_exist();
 }
 
 /// Words have an outcome over whatever files: so the definitions are never silent, and want of memory never stands in for them.
@@ -41,5 +42,6 @@ pub fn outcome_exists()
     units_or_refusal();
     unit_paths();
     world_or_refusal();
+    skips_exist();
     verdict_exists();
 }

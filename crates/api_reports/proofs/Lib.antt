@@ -1,2 +1,2 @@
 pub mod TextLines
-pub mod VerdictLines
+pub mod PlatformLines

@@ -1,6 +1,6 @@
 -- The texts of reports: feature lines, signed lines, verdicts, classes, versions, and what the generator's trees have.
 -- Public source: the lines that Go's cmd/api writes to its files api/go1.txt and later, and the signs with which it prints what differs from them. Own: all other lines.
-use Rattle.std.specs.Prelude.{ℕ, nat_eq, ◌+◌, Bool, true, false, if◌then◌else◌, List, [], ◌∷◌, ◌++◌, length, map, codes}
+use Rattle.std.specs.Prelude.{ℕ, zero, suc, nat_eq, ◌+◌, Bool, true, false, if◌then◌else◌, List, [], ◌∷◌, ◌++◌, length, map, codes}
 use Rattle.std.specs.Fmt.{decimal}
 use Rattle.std.specs.List.{list_any}
 use Rattle.go_model.specs.declared.files.platform.Platform.{Platform}
@@ -15,6 +15,10 @@ use Rattle.api_lines.specs.Lines.{printed}
 use Rattle.api_lines.specs.declared.line.Line.{Line}
 use Rattle.api_subjects.specs.Told.{printed as break_text}
 use Rattle.api_subjects.specs.declared.broken.Broken.{Broken}
+use Rattle.api_texts.specs.FaultLines.{side_name}
+use Rattle.api_texts.specs.declared.left_out.LeftOut.{LeftOut}
+use Rattle.api_texts.specs.declared.lines.Side.{Side}
+use Rattle.api_texts.specs.declared.lines.Side.TheVariants as side
 
 -- the lines, each ended by a newline
 abbrev pub unlines : List (List ℕ) → List ℕ
@@ -46,6 +50,39 @@ is_lost s = s.lost
 abbrev pub has_loss : List Signed → Bool
 has_loss lines = list_any is_lost lines
 
+-- the lines of each platform, which has what stands in the same place of the list
+abbrev pub by_platform : {A : Type 0} → (Platform → A → List (List ℕ)) → List Platform → List A → List (List ℕ)
+by_platform lines_of [] xs = []
+by_platform lines_of (p ∷ ps) [] = []
+by_platform lines_of (p ∷ ps) (x ∷ xs) = lines_of p x ++ by_platform lines_of ps xs
+
+-- ---- what was left out
+
+-- the line of a declaration that was left out on a platform
+abbrev pub skipped_line : Platform → List ℕ → List ℕ
+skipped_line p declaration = codes "skipped " ++ name_of p ++ codes " " ++ declaration
+
+-- those of a platform's new tree
+abbrev pub skipped_lines : Platform → LeftOut → List (List ℕ)
+skipped_lines p l = map (skipped_line p) l.new
+
+-- the declarations that were left out, on all platforms
+abbrev pub skipped_text : List Platform → List LeftOut → List ℕ
+skipped_text ps ls = unlines (by_platform skipped_lines ps ls)
+
+-- how many were left out of a tree on a platform, where some were
+abbrev pub count_lines : Side → Platform → ℕ → List (List ℕ)
+count_lines s p zero = []
+count_lines s p (suc n) = (codes "skipped " ++ side_name s ++ codes " " ++ name_of p ++ codes " " ++ decimal (suc n)) ∷ []
+
+-- of the old tree and of the new one
+abbrev pub counted_lines : Platform → LeftOut → List (List ℕ)
+counted_lines p l = count_lines side.Old p l.old ++ count_lines side.New p (length l.new)
+
+-- how many were left out, on all platforms
+abbrev pub counted_text : List Platform → List LeftOut → List ℕ
+counted_text ps ls = unlines (by_platform counted_lines ps ls)
+
 -- ---- verdicts
 
 -- the word for a verdict, by whether something is broken
@@ -63,9 +100,7 @@ platform_lines p v = (codes "judge " ++ name_of p ++ codes ": " ++ verdict_word 
 
 -- those of all platforms
 abbrev pub verdict_lines : List Platform → List Verdict → List (List ℕ)
-verdict_lines [] vs = []
-verdict_lines (p ∷ ps) [] = []
-verdict_lines (p ∷ ps) (v ∷ vs) = platform_lines p v ++ verdict_lines ps vs
+verdict_lines = by_platform platform_lines
 
 -- the word for a class, and its line
 abbrev pub class_name : Class → List ℕ
@@ -76,13 +111,17 @@ class_name class.Patch = codes "patch"
 abbrev pub class_line : Class → List ℕ
 class_line c = codes "class " ++ class_name c
 
--- the verdicts on all platforms, and then the class
-abbrev pub judge_text : List Platform → List Verdict → List ℕ
-judge_text ps vs = unlines (verdict_lines ps vs) ++ unlines (class_line (class_of vs) ∷ [])
-
 -- the class alone
 abbrev pub class_text : Class → List ℕ
 class_text c = unlines (class_line c ∷ [])
+
+-- how many declarations were left out, and then the class
+abbrev pub counted_class_text : List Platform → List LeftOut → Class → List ℕ
+counted_class_text ps ls c = counted_text ps ls ++ class_text c
+
+-- the verdicts on all platforms, and then that
+abbrev pub judge_text : List Platform → List Verdict → List LeftOut → List ℕ
+judge_text ps vs ls = unlines (verdict_lines ps vs) ++ counted_class_text ps ls (class_of vs)
 
 -- ---- versions
 

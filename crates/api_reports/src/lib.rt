@@ -1,6 +1,7 @@
 //! The texts of reports.
 #![tactic(auto)]
 
+pub mod left_out;
 pub mod made;
 pub mod reports;
 pub mod verdicts;

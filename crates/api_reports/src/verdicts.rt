@@ -1,11 +1,13 @@
 //! The texts of verdicts and of classes, and how much verdicts say is broken.
 ghost use Rattle.std.specs.Prelude.{◌≡◌, ◌+◌, ◌++◌, ◌∷◌, [], OnOk, IfOk, map};
-ghost use Rattle.api_reports.specs.Reports.{break_line, class_line, class_name, class_text, count_breaks, judge_text, platform_lines, unlines, verdict_lines, verdict_word};
+ghost use Rattle.api_reports.specs.Reports.{break_line, class_line, class_name, class_text, count_breaks, counted_class_text, judge_text, platform_lines, unlines, verdict_lines, verdict_word};
 
+use crate::left_out::add_counted;
 use api_advice::class::Class;
 use api_judge::judge::class;
 use api_judge::verdict::Verdict;
 use api_subjects::broken::Broken;
+use api_texts::left_out::LeftOut;
 use go_base::memory::NoMemory;
 use go_base::text::Text;
 use go_model::files::platform::Platform;
@@ -115,18 +117,36 @@ fn add_class(text: &mut Vec<u8>, class: Class) -> Result<(), NoMemory>
     Ok(())
 }
 
-/// The text of verdicts: for each platform, which has the verdict in the same place, a line with its word and one for each thing
-/// that is broken there, and then the line of the class.
+/// The text of verdicts: for each platform, which has the verdict and what was left out in the same places, a line with its word and
+/// one for each thing that is broken there, then how many declarations were left out of the trees, and then the line of the class.
 pub fn judge_text(
     alloc: Global,
     platforms: &[Platform],
     verdicts: &[Verdict],
+    left_out: &[LeftOut],
 ) -> Result<Text, NoMemory>
-    ensures { IfOk result (λ text. text ≡ judge_text platforms.now verdicts.now) }
+    ensures { IfOk result (λ text. text ≡ judge_text platforms.now verdicts.now left_out.now) }
 {
     let mut text = Vec::new(alloc);
     add_verdicts(alloc, &mut text, platforms, verdicts)?;
+    add_counted(&mut text, platforms, left_out)?;
     add_class(&mut text, class(verdicts))?;
+    Ok(Text::from_vec(text))
+}
+
+/// How many declarations were left out of the trees on each platform, which has what was left out in the same place, and then the line of
+/// the class.
+pub fn counted_class_text(
+    alloc: Global,
+    platforms: &[Platform],
+    left_out: &[LeftOut],
+    class: Class,
+) -> Result<Text, NoMemory>
+    ensures { IfOk result (λ text. text ≡ counted_class_text platforms.now left_out.now class) }
+{
+    let mut text = Vec::new(alloc);
+    add_counted(&mut text, platforms, left_out)?;
+    add_class(&mut text, class)?;
     Ok(Text::from_vec(text))
 }
 

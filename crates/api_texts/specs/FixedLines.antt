@@ -4,7 +4,7 @@ use Rattle.std.specs.Prelude.{ℕ, List, codes}
 
 -- the fault line for words that aren't good
 abbrev pub words_line : List ℕ
-words_line = codes "apigate: usage: apigate features or frozen or judge or advise or gate or vet or make, then options\n"
+words_line = codes "apigate: usage: apigate features or frozen or judge or advise or gate or skipped or vet or make, then options\n"
 
 abbrev pub read_line : List ℕ
 read_line = codes "apigate: read fault\n"

@@ -6,7 +6,7 @@ ghost use Rattle.api_texts.specs.FixedLines.{memory_line, read_line, words_line,
 pub fn words_line() -> &'static [u8]
     ensures { result.now ≡ words_line }
 {
-    b"apigate: usage: apigate features or frozen or judge or advise or gate or vet or make, then options\n"
+    b"apigate: usage: apigate features or frozen or judge or advise or gate or skipped or vet or make, then options\n"
 }
 
 /// The line of a fault of reading.

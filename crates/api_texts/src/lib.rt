@@ -2,4 +2,5 @@
 #![tactic(auto)]
 
 pub mod fixed;
+pub mod left_out;
 pub mod lines;

@@ -63,6 +63,7 @@ one_word mode.Frozen mode.Frozen e = refl
 one_word mode.Judge mode.Judge e = refl
 one_word mode.Advise mode.Advise e = refl
 one_word mode.Gate mode.Gate e = refl
+one_word mode.Skipped mode.Skipped e = refl
 one_word mode.Make mode.Make e = refl
 one_word a b e = absurd (omega (arith, ap (λ (w : List ℕ). get_or w 0 0) e, ap (λ (w : List ℕ). get_or w 1 0) e))
 
@@ -96,6 +97,7 @@ module _ (one_platform : (p q : Platform) → name_of p ≡ name_of q → p ≡ 
   same_old mode.Judge given f g a b = a ∙ sym b
   same_old mode.Advise given f g a b = a ∙ sym b
   same_old mode.Gate given f g a b = a ∙ sym b
+  same_old mode.Skipped given f g a b = a ∙ sym b
   same_old mode.Make given f g a b = a ∙ sym b
 
   same_new : (given : Option (List ℕ)) (f g : List ℕ) → IsNewFolder given f → IsNewFolder given g → f ≡ g

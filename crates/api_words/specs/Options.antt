@@ -13,6 +13,7 @@ word_of mode.Frozen = codes "frozen"
 word_of mode.Judge = codes "judge"
 word_of mode.Advise = codes "advise"
 word_of mode.Gate = codes "gate"
+word_of mode.Skipped = codes "skipped"
 word_of mode.Make = codes "make"
 
 -- how an option is written
@@ -39,6 +40,7 @@ needs mode.Frozen = option.New ∷ option.Api ∷ []
 needs mode.Judge = option.Old ∷ option.New ∷ []
 needs mode.Advise = option.Old ∷ option.New ∷ option.Version ∷ []
 needs mode.Gate = option.Old ∷ option.New ∷ option.Api ∷ option.Version ∷ []
+needs mode.Skipped = option.New ∷ []
 needs mode.Make = option.Seed ∷ option.Size ∷ []
 
 -- the options that may be given in it besides
@@ -48,4 +50,5 @@ permits mode.Frozen = option.Except ∷ common
 permits mode.Judge = common
 permits mode.Advise = common
 permits mode.Gate = option.Except ∷ common
+permits mode.Skipped = common
 permits mode.Make = option.Workers ∷ []

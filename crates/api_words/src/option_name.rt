@@ -18,6 +18,8 @@ pub enum Mode {
     Advise,
     /// What is lost against frozen lines, what is broken, and the least version.
     Gate,
+    /// What was left out of a module.
+    Skipped,
     /// What the judge finds on trees that the generator makes.
     Make,
 }
@@ -43,7 +45,7 @@ impl Mode {
         ensures { result.now ≡ needs self }
     {
         match self {
-            Mode::Features => &[OptionName::New],
+            Mode::Features | Mode::Skipped => &[OptionName::New],
             Mode::Frozen => &[OptionName::New, OptionName::Api],
             Mode::Judge => &[OptionName::Old, OptionName::New],
             Mode::Advise => &[OptionName::Old, OptionName::New, OptionName::Version],
@@ -62,7 +64,7 @@ impl Mode {
         ensures { result.now ≡ permits self }
     {
         match self {
-            Mode::Features | Mode::Judge | Mode::Advise => {
+            Mode::Features | Mode::Judge | Mode::Advise | Mode::Skipped => {
                 &[OptionName::Std, OptionName::Platforms, OptionName::Workers]
             }
             Mode::Frozen | Mode::Gate => &[
@@ -94,6 +96,9 @@ pub(crate) fn mode_of(word: &[u8]) -> Option<Mode>
     }
     if word == b"gate".as_slice() {
         return Some(Mode::Gate);
+    }
+    if word == b"skipped".as_slice() {
+        return Some(Mode::Skipped);
     }
     if word == b"make".as_slice() {
         return Some(Mode::Make);

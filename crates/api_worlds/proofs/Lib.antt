@@ -1,2 +1,3 @@
+pub mod KeptPackages
 pub mod OneWorld
 pub mod PlatformAnswers

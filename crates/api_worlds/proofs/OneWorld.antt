@@ -1,9 +1,14 @@
 -- On a platform trees have one world or one refusal.
 use Rattle.std.proofs.Common.{◌≡◌, ◌≢◌, ℕ, zero, suc, Option, None, Some, List, [], ◌∷◌, ◌++◌, map, Ok, Err, refl, sym, ap, ◌∙◌, subst}
-use Rattle.std.specs.Prelude.{slice_get}
+use Rattle.std.specs.Prelude.{codes, slice_get}
 use Rattle.api_refusals.specs.Roots.{root_by}
+use Rattle.api_refusals.specs.SkippedTexts.{listed_names, skipped_texts, why}
 use Rattle.api_refusals.specs.Refusals.{cause_text, file_place, package_text, place_of, refusal_line, unit_text}
 use Rattle.api_texts.specs.declared.lines.Side.{Side}
+use Rattle.api_worlds.specs.LeftOut.{AreLeftOutOn, all_lines, lines_with, with_lines}
+use Rattle.api_worlds.specs.declared.left_out.PackageLines.{PackageLines}
+use Rattle.go_exposed.specs.SkippedDeclarations.{Skipped}
+use Rattle.go_exposed.specs.SkippedWorlds.{AreSkipped}
 use Rattle.api_worlds.specs.PlatformWorlds.{AreUnitsOn, IsRefusedOn, packages_refused, package_refused, IsWorldOn, sources_of}
 use Rattle.go_model.specs.declared.files.platform.Platform.{Platform}
 use Rattle.go_model.specs.declared.files.tree.Tree.{Tree}
@@ -11,7 +16,7 @@ use Rattle.go_model.specs.files.Platforms.{bits_of}
 use Rattle.go_model.specs.worlds.Worlds.{Packages}
 use Rattle.go_reading.specs.TreeUnits.{AreUnitsOfTrees}
 use Rattle.go_sources.specs.UnitSources.{file_of, source_of}
-use Rattle.go_typings.specs.PackageWorlds.{IsFirstRefused, IsWorldOf}
+use Rattle.go_exposed.specs.OfferedWorlds.{IsFirstRefused, IsWorldOf}
 use Rattle.go_typings.specs.Refusals.{Refusal}
 use Rattle.go_typings.specs.Sources.{PackageSource}
 use Rattle.go_unit_laws.specs.WrittenUnits.{Written, written}
@@ -73,3 +78,30 @@ module _ (one_units : (p : Platform) (barred : List (List ℕ)) (tree std_tree :
   pub world_or_refusal : (s : Side) (w : Packages) (line : List ℕ) → IsWorldOn barred tree std_tree p w → IsRefusedOn barred tree std_tree s p line → ⊥
   world_or_refusal s w line a (packages_refused e n b) = apart p barred tree std_tree a.0 e n a.1 b
   world_or_refusal s w line a (package_refused units n r b f) = world_or (bits_of p) (sources_of units) w n r (subst (λ (us : List PackageSource). IsWorldOf (bits_of p) us w) (shared a.0 units a.1 b) a.2) f
+
+-- ---- what is left out
+
+module _ (tree std_tree : Tree) where
+  -- the lines by what is written of the units
+  text_of : Written → Skipped → List ℕ
+  text_of w x = file_place tree std_tree [] (root_by w.from_std w.path) (slice_get w.files x.place.file) x.place.offset ++ codes " " ++ listed_names x.names ++ codes ": " ++ why x.cause
+
+  lines_by : List PackageLines → List Written → List (List Skipped) → List PackageLines
+  lines_by ps [] xss = ps
+  lines_by ps (w ∷ ws) [] = ps
+  lines_by ps (w ∷ ws) (xs ∷ xss) = lines_by (with_lines w.path (map (text_of w) xs) ps) ws xss
+
+  written_lines : (us : List PackageUnit) (xss : List (List Skipped)) (ps : List PackageLines) → lines_with tree std_tree ps us xss ≡ lines_by ps (map written us) xss
+  unfolding text_of lines_by
+  written_lines [] xss ps = refl
+  written_lines (u ∷ us) [] ps = refl
+  written_lines (u ∷ us) (xs ∷ xss) ps = written_lines us xss (with_lines u.path (skipped_texts tree std_tree u xs) ps)
+
+module _ (one_units : (p : Platform) (barred : List (List ℕ)) (tree std_tree : Tree) (a b : Units) → AreUnitsOfTrees p barred tree std_tree (Ok a) → AreUnitsOfTrees p barred tree std_tree (Ok b) → map written a.packages ≡ map written b.packages)
+    (one_list : (bits : ℕ) (us : List PackageSource) (xs ys : List (List Skipped)) → AreSkipped bits us xs → AreSkipped bits us ys → xs ≡ ys)
+    (barred : List (List ℕ)) (tree std_tree : Tree) (p : Platform) where
+  pub same_left_out : (x y : List (List ℕ)) → AreLeftOutOn barred tree std_tree p x → AreLeftOutOn barred tree std_tree p y → x ≡ y
+  same_left_out x y a b =
+      let same : map written a.units.packages ≡ map written b.units.packages = one_units p barred tree std_tree a.units b.units a.are b.are in
+      let skipped : a.skipped ≡ b.skipped = one_list (bits_of p) (sources_of b.units) a.skipped b.skipped (subst (λ (us : List PackageSource). AreSkipped (bits_of p) us a.skipped) (same_sources a.units.packages b.units.packages same) a.skips) b.skips in
+      a.«is» ∙ ap all_lines (written_lines tree std_tree a.units.packages a.skipped [] ∙ (λ i. lines_by tree std_tree [] (same i) (skipped i)) ∙ sym (written_lines tree std_tree b.units.packages b.skipped [])) ∙ sym b.«is»

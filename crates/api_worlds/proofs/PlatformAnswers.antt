@@ -3,12 +3,13 @@ use Rattle.std.proofs.Common.{◌+◌, ◌≤◌, ℕ, List, length, Ok, Err, sy
 use Rattle.std.specs.Prelude.{Result}
 use Rattle.api_texts.specs.declared.lines.Side.{Side}
 use Rattle.api_worlds.specs.PlatformWorlds.{AnswersWorld, AreUnitsOn, CountsAtMost, no_package, all_packages, IsErrorOn, IsRefusedOn, packages_refused, package_refused}
+use Rattle.api_worlds.specs.LeftOut.{AreLeftOutOn}
+use Rattle.api_worlds.specs.declared.platform_world.PlatformWorld.{PlatformWorld}
 use Rattle.api_worlds.specs.declared.error.PlatformError.{PlatformError}
 use Rattle.api_worlds.specs.declared.error.PlatformError.TheVariants as error
-use Rattle.api_worlds.specs.inner.PlatformSteps.{AnswersOfUnits, IsUnitRefusal}
+use Rattle.api_worlds.specs.inner.PlatformSteps.{AnswersOfUnits, AreLinesOf, IsUnitRefusal}
 use Rattle.go_model.specs.declared.files.platform.Platform.{Platform}
 use Rattle.go_model.specs.declared.files.tree.Tree.{Tree}
-use Rattle.go_model.specs.worlds.Worlds.{Packages}
 use Rattle.go_reading.specs.TreeUnits.{AreUnitsOfTrees}
 use Rattle.go_units.specs.declared.unit_error.UnitError.{UnitError}
 use Rattle.go_units.specs.declared.unit_list.Units.{Units}
@@ -18,10 +19,13 @@ module _ (barred : List (List ℕ)) (tree std_tree : Tree) (s : Side) (p : Platf
   units_error e (error.Refused line) a h = subst (IsRefusedOn barred tree std_tree s p) (sym h.1) (packages_refused e h.0 a)
   units_error e error.NoMemory a h = tt
 
-  pub units_answer : (units : Units) (r : Result Packages PlatformError) → AreUnitsOn barred tree std_tree p units → AnswersOfUnits tree std_tree s p units r → AnswersWorld barred tree std_tree s p r
+  pub units_answer : (units : Units) (r : Result PlatformWorld PlatformError) → AreUnitsOn barred tree std_tree p units → AnswersOfUnits tree std_tree s p units r → AnswersWorld barred tree std_tree s p r
   units_answer units (Ok w) a h = (units, a, h)
   units_answer units (Err (error.Refused line)) a h = subst (IsRefusedOn barred tree std_tree s p) (sym h.3) (package_refused units h.0 h.1 a h.2)
   units_answer units (Err error.NoMemory) a h = tt
+
+  pub units_left_out : (units : Units) (lines : List (List ℕ)) → AreUnitsOn barred tree std_tree p units → AreLinesOf tree std_tree p units lines → AreLeftOutOn barred tree std_tree p lines
+  units_left_out units lines a l = record { units = units; are = a; skipped = l.skipped; skips = l.skips; «is» = l.«is» }
 
   pub no_count : (before : ℕ) → CountsAtMost barred tree std_tree p before before
   no_count before = (0, no_package, omega arith)

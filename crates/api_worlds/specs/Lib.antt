@@ -1,2 +1,3 @@
 pub mod PlatformWorlds
+pub mod LeftOut
 pub mod inner

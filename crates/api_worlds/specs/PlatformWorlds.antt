@@ -5,13 +5,14 @@ use Rattle.api_refusals.specs.Refusals.{package_text, refusal_line, unit_text}
 use Rattle.api_texts.specs.declared.lines.Side.{Side}
 use Rattle.api_worlds.specs.declared.error.PlatformError.{PlatformError}
 use Rattle.api_worlds.specs.declared.error.PlatformError.TheVariants as error
+use Rattle.api_worlds.specs.declared.platform_world.PlatformWorld.{PlatformWorld}
 use Rattle.go_model.specs.declared.files.platform.Platform.{Platform}
 use Rattle.go_model.specs.declared.files.tree.Tree.{Tree}
 use Rattle.go_model.specs.files.Platforms.{bits_of}
 use Rattle.go_model.specs.worlds.Worlds.{Packages}
 use Rattle.go_reading.specs.TreeUnits.{AreUnitsOfTrees}
 use Rattle.go_sources.specs.UnitSources.{source_of}
-use Rattle.go_typings.specs.PackageWorlds.{IsFirstRefused, IsWorldOf}
+use Rattle.go_exposed.specs.OfferedWorlds.{IsFirstRefused, IsWorldOf}
 use Rattle.go_typings.specs.Refusals.{Refusal}
 use Rattle.go_typings.specs.Sources.{PackageSource}
 use Rattle.go_units.specs.declared.unit_error.UnitError.{UnitError}
@@ -42,8 +43,8 @@ module _ (barred : List (List ℕ)) (tree std_tree : Tree) where
   IsErrorOn s p error.NoMemory = Unit {0}
 
   -- the world on a platform, or that
-  abbrev pub AnswersWorld : Side → Platform → Result Packages PlatformError → Type 0
-  AnswersWorld s p (Ok w) = IsWorldOn p w
+  abbrev pub AnswersWorld : Side → Platform → Result PlatformWorld PlatformError → Type 0
+  AnswersWorld s p (Ok w) = IsWorldOn p w.world
   AnswersWorld s p (Err e) = IsErrorOn s p e
 
   -- how many packages are checked on a platform: all that the trees have there, or none

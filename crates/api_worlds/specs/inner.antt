@@ -1,1 +1,2 @@
 pub mod PlatformSteps
+pub mod KeptLines

@@ -3,5 +3,7 @@
 
 pub mod error;
 pub mod laws;
+pub mod left_out;
+pub mod platform_world;
 pub mod trees;
 pub mod world;

@@ -3,8 +3,10 @@
 
 mod answer;
 pub mod check;
+pub mod checked;
 pub mod declarations;
 mod entered;
 pub mod error;
+mod kept;
 mod lost;
-mod places;
+mod whole;

@@ -4,6 +4,7 @@ ghost use Rattle.go_declarations.specs.Listings.{declarations_of};
 ghost use Rattle.go_declared.specs.PackageTables.{AreTables};
 ghost use Rattle.go_graphs.specs.Flags.{AreFlagsOf, is_flagged};
 ghost use Rattle.go_entries.specs.HadEntries.{entries_at};
+ghost use Rattle.go_package_scopes.specs.KeptScopes.{IsMoved};
 ghost use Rattle.go_package_scopes.specs.PackageScopes.{IsScopeOf};
 ghost use Rattle.go_sifting.specs.Graphs.{Stands};
 ghost use Rattle.go_soundness.specs.Settled.{AreSifted};
@@ -34,8 +35,9 @@ fn sifted(
     standing: &[bool],
 ) -> Result<Vec<bool>, NoMemory>
     requires { AreTables tables.now }
-    ensures { (s : Setting) (u : PackageSource) (a : Entries) → all_declarations u ≡ declarations_of tables.now.declarations.now → u.path ≢ [] → IsScopeOf s u a env.old
+    ensures lost { (s : Setting) (u : PackageSource) (a : Entries) → all_declarations u ≡ declarations_of tables.now.declarations.now → u.path ≢ [] → IsScopeOf s u a env.old
         → AreFlagsOf (length (all_declarations u)) (Stands s u a) standing.now → IfOk result (λ lost. (length lost.items ≡ length (all_declarations u)) × AreSifted s u a (is_flagged lost.items)) }
+    ensures moved { IsMoved env.old env.new }
 {
     let graph = graph(alloc, env, tables)?;
     sift(alloc, &graph, standing)
@@ -49,8 +51,9 @@ fn lost_of(
     standing: &[bool],
 ) -> Result<Vec<bool>, NoMemory>
     requires { AreTables tables.now }
-    ensures { (s : Setting) (u : PackageSource) (a : Entries) → all_declarations u ≡ declarations_of tables.now.declarations.now → u.path ≢ [] → IsScopeOf s u a env.old
+    ensures lost { (s : Setting) (u : PackageSource) (a : Entries) → all_declarations u ≡ declarations_of tables.now.declarations.now → u.path ≢ [] → IsScopeOf s u a env.old
         → AreFlagsOf (length (all_declarations u)) (Stands s u a) standing.now → IfOk result (λ lost. (length lost.items ≡ length (all_declarations u)) × AreSifted s u a (is_flagged lost.items)) }
+    ensures moved { IsMoved env.old env.new }
 {
     if !all_flagged(standing) {
         return sifted(alloc, env, tables, standing);
@@ -62,7 +65,7 @@ fn lost_of(
     }
 }
 
-/// Flags of the lost declarations of a package, in scopes that have what is had of it.
+/// Flags of the lost declarations of a package, in scopes that have what is had of it. The file in turn and the value of `iota` change.
 pub(crate) fn lost(
     alloc: Global,
     env: &mut Env<'_>,
@@ -74,8 +77,9 @@ pub(crate) fn lost(
     requires tables { AreTables tables.now }
     requires count { length had.now ≡ length tables.now.declarations.now }
     requires pathed { unit.now.path ≢ [] }
-    ensures { (s : Setting) → IsScopeOf s (source_of unit.now) (entries_at had.now) env.old
+    ensures lost { (s : Setting) → IsScopeOf s (source_of unit.now) (entries_at had.now) env.old
         → IfOk result (λ lost. (length lost.items ≡ length (all_declarations (source_of unit.now))) × AreSifted s (source_of unit.now) (entries_at had.now) (is_flagged lost.items)) }
+    ensures moved { IsMoved env.old env.new }
 {
     let met = met(alloc, env, unit.name.bytes(), tables)?;
     let entered = entered(alloc, had)?;

@@ -1,6 +1,7 @@
 pub mod DeclarationSteps
 pub mod FieldKeySets
 pub mod FoundNumbers
+pub mod DependencyRows
 pub mod GraphRows
 pub mod Mapped
 pub mod NamedNumbers

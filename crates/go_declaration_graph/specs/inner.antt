@@ -1,3 +1,4 @@
+pub mod DependencyRows
 pub mod FieldKeys
 pub mod FoundNumbers
 pub mod Lengths

@@ -2,6 +2,7 @@
 #![tactic(auto)]
 
 mod counted;
+pub mod dependencies;
 mod field_keys;
 mod found;
 pub mod graph;

@@ -30,8 +30,8 @@ pub(crate) struct DeclarationRows {
     pub lengths: List<u32>,
 }
 
-// On what a declaration with these references depends.
-fn depends_by(
+/// On what a declaration with these references depends.
+pub(crate) fn depends_by(
     alloc: Global,
     names: &DeclaredNames,
     methods: &DeclaredMethods,

@@ -1,10 +1,9 @@
--- In a typing no two methods of a type that a selector can find have one selector.
+-- In a typing of some declarations no two methods of a type that are had and that a selector can find have one selector.
 use Rattle.std.proofs.Common.{◌≡◌, ◌≤◌, ◌+◌, ℕ, suc, Bool, true, false, not, cond, List, [], ◌∷◌, ◌++◌, Option, Some, None, length, refl, sym, ap, ◌∙◌, subst, inl, inr, arith}
 use mathlib.Core.Bool.{true≢false}
 use Rattle.std.specs.Prelude.{filter, if◌then◌else◌, slice_get}
 use Rattle.std.specs.Cmp.Lexicographic.{bytes_decides}
 use Rattle.std.specs.List.{AllByRecursion, IsDistinct}
-use Rattle.std.proofs.lemmas.Option.{slice_get_within}
 use Rattle.go_base.proofs.Members.{gather_of, has_split}
 use Rattle.go_base.specs.Lists.{Has}
 use Rattle.go_model.specs.declared.types.names.Sel.{Sel}
@@ -14,24 +13,23 @@ use Rattle.go_rules.specs.Expressions.{is_blank}
 use Rattle.go_syntax.specs.declared.declaration.Func.{Func}
 use Rattle.go_syntax.specs.declared.types.ParameterDecl.{ParameterDecl}
 use Rattle.go_typings.proofs.Cells.{some_once}
-use Rattle.go_typings.proofs.SoundDeclarations.{within}
 use Rattle.go_typings.specs.DeclarationAsks.{FormAsks, IsMethod, IsOnly}
 use Rattle.go_typings.specs.Declarations.{constants, variables, alias, definition, function, method, declarations, Declaration, Form}
-use Rattle.go_typings.specs.PackageEnvironments.{Entries, environment, had, had_of, signature_of}
+use Rattle.go_typings.specs.PackageEnvironments.{Entries, Entry, environment, had, had_of, signature_of}
 use Rattle.go_typings.specs.Receivers.{base, DeclaredMethod, is_named, is_pointer_form, is_selectable, method_by, methods, methods_from, receiver_form, selector}
 use Rattle.go_typings.specs.Sources.{PackageSource, Setting}
-use Rattle.go_typings.specs.Typings.{IsTyping}
+use Rattle.go_typings.specs.Typings.{Typing}
 use Rattle.go_packages.proofs.SelectorOrder.{is_same, same_selector}
 use Rattle.go_packages.specs.inner.HadMethods.{had_methods}
-
--- no two of the methods have one selector
-abbrev AreApart : List DeclaredMethod → Type 0
-AreApart [] = Unit {0}
-AreApart (m ∷ ms) = ((n : DeclaredMethod) → Has ms n → m.sel ≡ n.sel → ⊥) × AreApart ms
 
 -- ---- those that are had
 
 module _ (a : Entries) where
+  -- no method has the selector of an earlier one that is had
+  abbrev AreApart : List DeclaredMethod → Type 0
+  AreApart [] = Unit {0}
+  AreApart (m ∷ ms) = ((g : Signature) → signature_of (a m.number) ≡ Some g → (n : DeclaredMethod) → Has ms n → m.sel ≡ n.sel → ⊥) × AreApart ms
+
   had_one : (m : DeclaredMethod) (o : Option Signature) (x : MethodOf) → Has (had_of m o) x → m.sel ≡ x.sel
   had_one m None x h = absurd h
   had_one m (Some g) x (inl e) = ap (λ (y : MethodOf). y.sel) e
@@ -51,11 +49,11 @@ module _ (a : Entries) where
   had_apart : (ms : List DeclaredMethod) → AreApart ms → IsDistinct is_same (had a ms)
   unfolding IsDistinct
   had_apart [] h = tt
-  had_apart (m ∷ ms) h = by (signature_of (a m.number)) (had_apart ms h.1)
+  had_apart (m ∷ ms) h = by (signature_of (a m.number)) refl (had_apart ms h.1)
     where
-      by : (o : Option Signature) → IsDistinct is_same (had a ms) → IsDistinct is_same (had_of m o ++ had a ms)
-      by None d = d
-      by (Some g) d = (all_other (record { sel = m.sel; pointer = m.pointer; signature = g }) (had a ms) (λ y k e. let f = had_from ms y k in h.0 f.0 f.1 (e ∙ sym f.2)), d)
+      by : (o : Option Signature) → signature_of (a m.number) ≡ o → IsDistinct is_same (had a ms) → IsDistinct is_same (had_of m o ++ had a ms)
+      by None is d = d
+      by (Some g) is d = (all_other (record { sel = m.sel; pointer = m.pointer; signature = g }) (had a ms) (λ y k e. let f = had_from ms y k in h.0 g is f.0 f.1 (e ∙ sym f.2)), d)
 
 -- ---- those that are declared
 
@@ -81,11 +79,11 @@ rises_filtered k (m ∷ ms) h = by (is_selectable m) (rises_filtered (suc m.numb
     by true r = (h.0, r)
     by false r = rises_sooner k (suc m.number) (filter is_selectable ms) (let i = h.0 in omega (arith, i)) r
 
-apart : (k : ℕ) (ms : List DeclaredMethod) → Rises k ms → ((m n : DeclaredMethod) → Has ms m → Has ms n → m.sel ≡ n.sel → m.number ≡ n.number) → AreApart ms
-apart k [] h once = tt
-apart k (m ∷ ms) h once = (
-  λ n i e. (let l = rises_each (suc m.number) ms n h.1 i in let j = once m n (inl refl) (inr i) e in omega (arith, l, j)),
-  apart (suc m.number) ms h.1 (λ x y i j. once x y (inr i) (inr j)),
+apart : (a : Entries) (k : ℕ) (ms : List DeclaredMethod) → Rises k ms → ((m n : DeclaredMethod) (g : Signature) → signature_of (a m.number) ≡ Some g → Has ms m → Has ms n → m.sel ≡ n.sel → m.number ≡ n.number) → AreApart a ms
+apart a k [] h once = tt
+apart a k (m ∷ ms) h once = (
+  λ g is n i e. (let l = rises_each (suc m.number) ms n h.1 i in let j = once m n g is (inl refl) (inr i) e in omega (arith, l, j)),
+  apart a (suc m.number) ms h.1 (λ x y g is i j. once x y g is (inr i) (inr j)),
 )
 
 module _ (u : PackageSource) (type : List ℕ) where
@@ -158,10 +156,21 @@ module _ (u : PackageSource) (type : List ℕ) where
   not_true true e = absurd (true≢false (sym e))
   not_true false e = refl
 
-  module _ (s : Setting) (a : Entries) (t : IsTyping s u a) where
-    only_at : (m : DeclaredMethod) (d : Declaration) → is_selectable m ≡ true → slice_get (declarations u) m.number ≡ Some d → Declares m.number d.form m → IsOnly u m.number type m.sel.name
-    only_at m d selectable at is =
-        let there = t.asks m.number (within m.number (length (declarations u)) (slice_get_within (declarations u) m.number d at)) in
+  module _ (s : Setting) (within : ℕ → Bool) (a : Entries) (t : Typing s u within a) where
+    no_signature : (o : Option Entry) (g : Signature) → o ≡ None → signature_of o ≡ Some g → ⊥
+    no_signature o g e is = let f : ◌≡◌ {A = Option Signature} None (Some g) = sym (ap signature_of e) ∙ is in absurd (cc)
+
+    -- what has a signature is one of those that are typed
+    typed_at : (n : ℕ) (g : Signature) → signature_of (a n) ≡ Some g → within n ≡ true
+    typed_at n g is = by (within n) refl
+      where
+        by : (b : Bool) → within n ≡ b → b ≡ true
+        by true e = refl
+        by false e = absurd (no_signature (a n) g (t.had.only n e) is)
+
+    only_at : (m : DeclaredMethod) (d : Declaration) → within m.number ≡ true → is_selectable m ≡ true → slice_get (declarations u) m.number ≡ Some d → Declares m.number d.form m → IsOnly u m.number type m.sel.name
+    only_at m d kept selectable at is =
+        let there = t.asks m.number kept in
         let E = environment s u a there.0 in
         let form : there.0.form ≡ method is.receiver is.func = ap (λ (x : Declaration). x.form) (some_once there.0 d (sym there.1 ∙ at)) ∙ is.is in
         let asked : IsMethod E u m.number is.receiver is.func = subst (FormAsks E u m.number) form there.2.form in
@@ -170,14 +179,14 @@ module _ (u : PackageSource) (type : List ℕ) where
         let blank : is_blank is.func.name.text ≡ false = sym (ap is_blank name) ∙ not_true (is_blank m.sel.name) selectable in
         subst (IsOnly u m.number type) (sym name) (subst (λ (q : List ℕ). IsOnly u m.number q is.func.name.text) same (asked.only blank))
 
-    once : (m n : DeclaredMethod) → Has (methods u type) m → Has (methods u type) n → m.sel ≡ n.sel → m.number ≡ n.number
-    once m n h k e =
+    once : (m n : DeclaredMethod) (g : Signature) → signature_of (a m.number) ≡ Some g → Has (methods u type) m → Has (methods u type) n → m.sel ≡ n.sel → m.number ≡ n.number
+    once m n g is h k e =
         let f = filtered_has (methods_from u type 0 (declarations u)) m h in
         let r = stands_in 0 (declarations u) m f.0 in
         let number : m.number ≡ r.0 = r.3.at ∙ (let e : 0 + r.0 ≡ r.0 = omega arith in e) in
-        let only = only_at m r.1 f.1 (ap (slice_get (declarations u)) number ∙ r.2) (moved (0 + r.0) m.number r.1.form m (sym r.3.at) r.3) in
+        let only = only_at m r.1 (typed_at m.number g is) f.1 (ap (slice_get (declarations u)) number ∙ r.2) (moved (0 + r.0) m.number r.1.form m (sym r.3.at) r.3) in
         sym (only n k (ap (λ (x : Sel). x.name) (sym e)))
 
     -- the methods of the type that are had have different selectors
     pub had_once : IsDistinct is_same (had_methods u a type)
-    had_once = had_apart a (methods u type) (apart 0 (methods u type) (rises_filtered 0 (methods_from u type 0 (declarations u)) (rises_from 0 (declarations u))) once)
+    had_once = had_apart a (methods u type) (apart a 0 (methods u type) (rises_filtered 0 (methods_from u type 0 (declarations u)) (rises_from 0 (declarations u))) once)

@@ -5,6 +5,7 @@ ghost use Rattle.go_declarations.specs.Forms.{form_of};
 ghost use Rattle.go_declarations.specs.Listings.{declarations_of};
 ghost use Rattle.go_declared.specs.NameTables.{texts_of};
 ghost use Rattle.go_entries.specs.HadEntries.{entries_at, found_entry};
+ghost use Rattle.go_exposed.specs.OfferedPackages.{entered};
 ghost use Rattle.go_packages.specs.inner.FoundNames.{ArePlaced, IsPlaced};
 ghost use Rattle.go_packages.specs.inner.NamedObjects.{denoted, object_named, objects_named};
 ghost use Rattle.go_typings.specs.PackageEnvironments.{entity_by, object_of, own_type};
@@ -73,6 +74,21 @@ fn entity_by(
     }
 }
 
+// The same, where the declaration has an entry, and else nothing.
+fn entered(
+    alloc: Global,
+    path: &Text,
+    found: FoundName<'_>,
+    had: &HadEntries,
+) -> Result<Option<Entity>, NoMemory>
+    ensures { IfOk result (λ denoted. denoted ≡ entered (entries_at had.now found.entry.number) (entity_by path.now (entries_at had.now) found.entry.number found.entry.place (form_of found.entry.form))) }
+{
+    match had.get(found.number) {
+        None => Ok(None),
+        Some(_) => entity_by(alloc, path, found, had),
+    }
+}
+
 // What a name denotes in the package.
 fn entity(
     alloc: Global,
@@ -86,7 +102,7 @@ fn entity(
 {
     match found(declarations, listed) {
         None => Ok(None),
-        Some(found) => entity_by(alloc, path, found, had),
+        Some(found) => entered(alloc, path, found, had),
     }
 }
 

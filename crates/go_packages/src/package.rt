@@ -1,13 +1,13 @@
 //! The package of a unit.
-ghost use Rattle.std.specs.Prelude.{◌≡◌, IfOk};
+ghost use Rattle.std.specs.Prelude.{◌≡◌, ℕ, Bool, IfOk};
 ghost use Rattle.go_declarations.specs.Listings.{declarations_of};
 ghost use Rattle.go_declared.specs.PackageTables.{AreTables};
 ghost use Rattle.go_entries.specs.HadEntries.{entries_at};
+ghost use Rattle.go_exposed.specs.OfferedPackages.{IsPackageOf};
 ghost use Rattle.go_sources.specs.UnitSources.{source_of};
 ghost use Rattle.go_typings.specs.Declarations.{declarations as all_declarations};
 ghost use Rattle.go_typings.specs.Sources.{Setting};
-ghost use Rattle.go_typings.specs.TypedPackages.{IsPackageOf};
-ghost use Rattle.go_typings.specs.Typings.{IsTyping};
+ghost use Rattle.go_typings.specs.Typings.{Typing};
 
 use crate::defined::defined_types;
 use crate::objects::objects;
@@ -20,9 +20,9 @@ use go_model::types::package::Package;
 use go_units::unit::Unit;
 use std::alloc::Global;
 
-/// The package of a unit whose declarations have these entries: what each name denotes, and each defined type with the
-/// methods that a selector can find, all in order. In any setting of which the entries are a typing it is the one package
-/// that they make.
+/// The package of a unit of whose declarations some have these entries: what each name denotes whose declaration has one, and each
+/// defined type that has one with the methods that a selector can find, all in order. In any setting of which the entries are a
+/// typing of some declarations it is the one package that they make.
 pub fn package(
     alloc: Global,
     unit: &Unit,
@@ -31,7 +31,7 @@ pub fn package(
 ) -> Result<Package, NoMemory>
     requires listed { declarations_of tables.now.declarations.now ≡ all_declarations (source_of unit.now) }
     requires tables { AreTables tables.now }
-    ensures { (s : Setting) → IsTyping s (source_of unit.now) (entries_at had.now) → IfOk result (IsPackageOf (source_of unit.now) (entries_at had.now)) }
+    ensures { (s : Setting) (within : ℕ → Bool) → Typing s (source_of unit.now) within (entries_at had.now) → IfOk result (IsPackageOf (source_of unit.now) (entries_at had.now)) }
 {
     let listed = tables.names.in_order(alloc)?;
     let objects = objects(alloc, &unit.path, tables.declarations, listed.items(), had)?;

@@ -1,3 +1,4 @@
 pub mod NextUnits
+pub mod TakenUnits
 pub mod TypedUnits
 pub mod UnitPrefixes

@@ -6,14 +6,16 @@ use Rattle.go_check.specs.declared.error.CheckError.{CheckError}
 use Rattle.go_check.specs.declared.error.CheckError.TheVariants as check
 use Rattle.go_model.specs.worlds.Worlds.{Packages}
 use Rattle.go_sources.specs.UnitSources.{source_of}
-use Rattle.go_typings.specs.PackageWorlds.{AreTyped, IsFirstRefused, IsWorldOf, over}
-use Rattle.go_typings.specs.Refusals.{IsRefused, Refusal, redeclared, missing_import, unsound}
+use Rattle.go_exposed.specs.OfferedWorlds.{IsFirstRefused, IsWorldOf}
+use Rattle.go_exposed.specs.Refusals.{IsRefused}
+use Rattle.go_typings.specs.PackageWorlds.{AreTyped, over}
+use Rattle.go_typings.specs.Refusals.{Refusal, redeclared, missing_import, unsound}
 use Rattle.go_typings.specs.Sources.{PackageSource}
 use Rattle.go_units.specs.declared.unit.«Unit».{«Unit» as PackageUnit}
 use Rattle.go_work.specs.Answers.{HandsBack, Refuses, sources}
-use Rattle.go_work.specs.inner.NextUnits.{IsErrorOf, IsWorldWith, error_at}
+use Rattle.go_work.specs.inner.NextUnits.{IsErrorOf, error_at}
 use Rattle.go_work.specs.declared.error.WorkError.{WorkError}
-use Rattle.go_work.proofs.TypedUnits.{first_refused, typed_more}
+use Rattle.go_work.proofs.TypedUnits.{first_refused}
 
 -- an item that stands in a list is one of it
 pub has_at : (front rest : List PackageUnit) (u : PackageUnit) → Has (front ++ u ∷ rest) u
@@ -24,7 +26,7 @@ got_at : (front rest : List PackageUnit) (u : PackageUnit) → slice_get (front 
 got_at [] rest u = refl
 got_at (x ∷ front) rest u = got_at front rest u
 
-joined : (us vs : List PackageUnit) → sources (us ++ vs) ≡ sources us ++ sources vs
+pub joined : (us vs : List PackageUnit) → sources (us ++ vs) ≡ sources us ++ sources vs
 joined [] vs = refl
 joined (u ∷ us) vs = ap (λ xs. source_of u ∷ xs) (joined us vs)
 
@@ -33,13 +35,6 @@ as_many [] = refl
 as_many (u ∷ us) = ap suc (as_many us)
 
 module _ (bits : ℕ) (front rest : List PackageUnit) (u : PackageUnit) (w : Packages) (before : IsWorldOf bits (sources front) w) (imports : AreTyped w (source_of u)) where
-  -- the world with a unit that is typed
-  pub typed_next : (v : Packages) → IsWorldWith bits u w v → IsWorldOf bits (sources (front ++ u ∷ [])) v
-  typed_next v t =
-      subst (λ (q : List PackageSource × Packages). IsWorldOf bits q.0 q.1)
-      (λ i. (sym (joined front (u ∷ [])) i, sym t.2 i))
-      (typed_more bits (sources front) w (source_of u) t.0 before (imports, t.1))
-
   refused_first : (r : Refusal) → IsRefused (over bits w) (source_of u) r → IsFirstRefused bits (sources (front ++ u ∷ rest)) (length front) r
   refused_first r a =
       subst (λ (q : List PackageSource × ℕ). IsFirstRefused bits q.0 q.1 r)

@@ -8,7 +8,8 @@ use Rattle.go_base.specs.Lists.{Has, Passes}
 use Rattle.go_model.specs.declared.types.package.Package.{Package}
 use Rattle.go_model.specs.worlds.Worlds.{Packages, path_of}
 use Rattle.go_model.proofs.MoreWorlds.{key_placed, keys_kept}
-use Rattle.go_typings.specs.PackageWorlds.{Become, become_none, become_more, Becomes, IsFirstRefused, IsRefusedAt, refused_here, refused_later, IsWorldOf, Outcome, typed, refused, blocked, is_typed, over, with_outcome}
+use Rattle.go_exposed.specs.OfferedWorlds.{Become, become_none, become_more, Becomes, IsFirstRefused, IsRefusedAt, refused_here, refused_later, IsWorldOf}
+use Rattle.go_typings.specs.PackageWorlds.{Outcome, typed, refused, blocked, is_typed, over, with_outcome}
 use Rattle.go_typings.specs.Refusals.{Refusal}
 use Rattle.go_typings.specs.Sources.{PackageSource}
 

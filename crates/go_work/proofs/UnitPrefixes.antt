@@ -12,7 +12,8 @@ use Rattle.go_imports.proofs.Members.{below_or}
 use Rattle.go_model.specs.declared.types.package.Package.{Package}
 use Rattle.go_model.specs.worlds.Worlds.{Packages, path_of}
 use Rattle.go_sources.specs.UnitSources.{file_of, import_of, source_of}
-use Rattle.go_typings.specs.PackageWorlds.{AreTyped, IsWorldOf}
+use Rattle.go_exposed.specs.OfferedWorlds.{IsWorldOf}
+use Rattle.go_typings.specs.PackageWorlds.{AreTyped}
 use Rattle.go_typings.specs.Sources.{Import, imports_in, imports_of}
 use Rattle.go_units.proofs.NeededPaths.{found_needed}
 use Rattle.go_units.specs.UnitFacts.{needed_by}

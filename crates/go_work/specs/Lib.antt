@@ -1,3 +1,4 @@
 pub mod Answers
+pub mod KeptUnits
 pub mod Paths
 pub mod inner

@@ -1,20 +1,24 @@
 //! The world of the packages of a tree.
-ghost use Rattle.std.specs.Prelude.{◌≡◌, ◌⊎◌, ◌≤◌, ◌+◌, None, length, OnOk, OnErr, IfErr};
+ghost use Rattle.std.specs.Prelude.{◌≡◌, ◌⊎◌, ◌≤◌, ◌+◌, ◌++◌, None, length, OnOk, OnErr, IfErr, IfOk};
 ghost use Rattle.go_base.specs.Keys.{first_with};
 ghost use Rattle.go_model.specs.worlds.Worlds.{path_of};
 ghost use Rattle.go_work.specs.Answers.{Answers, HandsBack, sources};
+ghost use Rattle.go_work.specs.KeptUnits.{AreKept, kept_unit};
 ghost use Rattle.go_work.specs.Paths.{AreOfPackages, IsOfPackage};
-ghost use Rattle.go_work.specs.inner.NextUnits.{IsErrorOf, IsWorldWith, error_at};
+ghost use Rattle.go_work.specs.inner.NextUnits.{IsErrorOf, IsNext, error_at};
 
+use crate::checked::{CheckedWorld, SkippedUnit};
 use crate::error::WorkError;
 use crate::publics::is_public;
+use go_base::list::List;
 use go_base::memory::NoMemory;
 use go_base::steps::Steps;
 use go_check::check::check_package;
 use go_check::error::CheckError;
+use go_exposed::skipped::Skipped;
 use go_model::types::world::World;
 use go_outside::gate::Gate;
-use go_typed_packages::laws::joins_world;
+use go_typed_packages::offered::joins_world;
 use go_units::unit::Unit;
 use go_units::unit_list::Units;
 use std::alloc::Global;
@@ -28,7 +32,17 @@ fn error_at(number: u32, unit: Unit, error: CheckError) -> WorkError
     }
 }
 
-// Checks the package of a number over those before it, adds it to them, and gives up its syntax.
+// Keeps a unit where something is left out of it, and else gives up its syntax.
+fn keep(kept: &mut List<SkippedUnit>, unit: Unit, skipped: List<Skipped>) -> Result<(), NoMemory>
+    ensures { OnOk result (kept.new ≡ kept.old ++ kept_unit unit skipped) }
+{
+    if skipped.items().is_empty() {
+        return Ok(());
+    }
+    kept.push(SkippedUnit { unit, skipped })
+}
+
+// Checks the package of a number over those before it, adds it to them, and gives up its syntax, unless something is left out of it.
 fn add_next<G: Gate, L: Copy>(
     alloc: Global,
     unit: Unit,
@@ -36,30 +50,36 @@ fn add_next<G: Gate, L: Copy>(
     bits: u32,
     gate: &G,
     steps: &mut Steps<L>,
-    world: &mut World,
+    checked: &mut CheckedWorld,
 ) -> Result<(), WorkError>
     requires bits { (bits ≡ 32) ⊎ (bits ≡ 64) }
     requires path { IsOfPackage unit.path }
-    requires absent { first_with path_of world.old.packages unit.path ≡ None }
-    ensures typed { OnOk result (IsWorldWith bits unit world.old world.new) }
-    ensures refused { IfErr result (IsErrorOf bits unit number world.old) }
+    requires absent { first_with path_of checked.old.world.packages unit.path ≡ None }
+    ensures offered { OnOk result (IsNext bits unit checked.old checked.new) }
+    ensures refused { IfErr result (IsErrorOf bits unit number checked.old.world) }
     ensures steps { steps.new ≤ steps.old + 1 }
 {
     joins_world();
     // What a world keeps is told by its packages.
-    let _packages = world.packages();
+    let _packages = checked.world.packages();
     gate.enter(0, number);
-    match check_package(alloc, &unit, world, bits, steps) {
+    match check_package(alloc, &unit, &checked.world, bits, steps) {
         Err(error) => Err(error_at(number, unit, error)),
-        Ok(package) => match world.add(package, is_public(&unit)) {
-            Ok(()) => Ok(()),
-            Err(NoMemory) => Err(WorkError::NoMemory),
-        },
+        Ok(found) => {
+            let (package, skipped) = found.into_parts();
+            match checked.world.add(package, is_public(&unit)) {
+                Err(NoMemory) => Err(WorkError::NoMemory),
+                Ok(()) => match keep(&mut checked.skipped, unit, skipped) {
+                    Err(NoMemory) => Err(WorkError::NoMemory),
+                    Ok(()) => Ok(()),
+                },
+            }
+        }
     }
 }
 
-/// The world of a tree's packages: each is typed over those before it, in canonical order, and its syntax given up right then.
-/// `Refused` comes exactly where one of them is refused, with the first and its cause. The gate hears of each package, as of
+/// The world of a tree's packages, and what is left out of them: each is typed over those before it, in canonical order, and its syntax given up
+/// right then, unless something is left out of it. `Refused` comes exactly where one of them is refused, with the first and its cause. The gate hears of each package, as of
 /// worker 0, right before it is checked, and the counter rises by at most the number of the packages.
 pub fn world<G: Gate, L: Copy>(
     alloc: Global,
@@ -67,21 +87,24 @@ pub fn world<G: Gate, L: Copy>(
     bits: u32,
     gate: &G,
     steps: &mut Steps<L>,
-) -> Result<World, WorkError>
+) -> Result<CheckedWorld, WorkError>
     requires bits { (bits ≡ 32) ⊎ (bits ≡ 64) }
     requires paths { AreOfPackages units.packages }
     ensures answers { Answers bits (sources units.packages) result }
+    ensures skipped { IfOk result (λ checked. AreKept bits units.packages checked.skipped) }
     ensures handed { IfErr result (HandsBack units.packages) }
     ensures steps { steps.new ≤ steps.old + length units.packages }
 {
-    let mut world = World::empty(alloc);
+    let world = World::empty(alloc);
+    let skipped = List::new(alloc);
+    let mut checked = CheckedWorld { world, skipped };
     let mut number = 0;
     for unit in units.packages.into_vec() {
-        match add_next(alloc, unit, number, bits, gate, steps, &mut world) {
+        match add_next(alloc, unit, number, bits, gate, steps, &mut checked) {
             Ok(()) => {}
             Err(error) => return Err(error),
         }
         number += 1;
     }
-    Ok(world)
+    Ok(checked)
 }

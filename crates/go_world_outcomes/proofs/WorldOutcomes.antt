@@ -3,11 +3,11 @@ use Rattle.std.proofs.Common.{◌≡◌, ◌⊎◌, ℕ, List, [], ◌∷◌, �
 use Rattle.go_base.specs.Lists.{Has}
 use Rattle.go_existence.specs.Existence.{NotNone}
 use Rattle.go_existence.proofs.DoubleNegation.{sure, bind}
-use Rattle.go_exposed.proofs.WholePackages.{typed_offered}
 use Rattle.go_model.specs.worlds.Worlds.{IsWorld, Packages, with_package}
 use Rattle.go_sources.specs.UnitSources.{source_of}
+use Rattle.go_exposed.specs.OfferedWorlds.{IsFirstRefused, IsWorldOf, become_none}
 use Rattle.go_typed_packages.proofs.JoinedWorlds.{offered_joins}
-use Rattle.go_typings.specs.PackageWorlds.{IsFirstRefused, IsWorldOf, become_none, is_public, no_packages, over}
+use Rattle.go_typings.specs.PackageWorlds.{is_public, no_packages, over}
 use Rattle.go_typings.specs.Refusals.{Refusal}
 use Rattle.go_typings.specs.Sources.{PackageSource}
 use Rattle.go_units.specs.declared.unit.«Unit».{«Unit» as PackageUnit}
@@ -17,7 +17,7 @@ use Rattle.go_work.specs.Answers.{sources}
 use Rattle.go_work.specs.Paths.{AreOfPackages}
 use Rattle.go_work.proofs.TypedUnits.{first_refused, typed_more}
 use Rattle.go_work.proofs.UnitPrefixes.{imports_typed, unit_absent}
-use Rattle.go_world_outcomes.proofs.PackageOutcomes.{typed_or_refused}
+use Rattle.go_world_outcomes.proofs.PackageOutcomes.{offered_or_refused}
 
 joined : (us vs : List PackageUnit) → sources (us ++ vs) ≡ sources us ++ sources vs
 joined [] vs = refl
@@ -40,10 +40,10 @@ module _ (bits : ℕ) (us : List PackageUnit) (ordered : ∥ AreInOrder us ∥�
       let typed = imports_typed bits us ordered front rest u e w is u.needed in
       let absent = unit_absent bits us ordered front rest u e w is in
       let path = paths u (subst (λ (xs : List PackageUnit). Has xs u) (sym e) (middle front rest u)) in
-      bind (typed_or_refused (over bits w) (source_of u) world path.pathed absent) (λ k. elim k [
+      bind (offered_or_refused (over bits w) (source_of u) world path.pathed absent) (λ k. elim k [
         | inl p ↦ ends_from (front ++ u ∷ []) rest (with_package w p.0 (is_public (source_of u))) (e ∙ sym (append_assoc front (u ∷ []) rest))
             (subst (λ (xs : List PackageSource). IsWorldOf bits xs (with_package w p.0 (is_public (source_of u)))) (sym (joined front (u ∷ []))) (typed_more bits (sources front) w (source_of u) p.0 is (typed, p.1)))
-            (offered_joins (over bits w) (source_of u) p.0 world (typed_offered (over bits w) (source_of u) p.0 p.1) absent path.pathed path.foreign (is_public (source_of u)))
+            (offered_joins (over bits w) (source_of u) p.0 world p.1 absent path.pathed path.foreign (is_public (source_of u)))
         | inr r ↦ sure (inr (
           length (sources front),
           r.0,

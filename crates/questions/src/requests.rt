@@ -23,6 +23,7 @@ fn mode_name(mode: Mode) -> &'static str {
         Mode::Judge => "judge",
         Mode::Advise => "advise",
         Mode::Gate => "gate",
+        Mode::Skipped => "skipped",
         Mode::Make => "make",
     }
 }

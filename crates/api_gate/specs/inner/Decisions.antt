@@ -16,6 +16,7 @@ use Rattle.api_judge.specs.declared.verdict.Verdict.{Verdict}
 use Rattle.api_lines.specs.declared.line.Line.{Line}
 use Rattle.api_reports.specs.Reports.{class_text, features_text, has_loss, judge_text, signed_text, version_text}
 use Rattle.api_texts.specs.FixedLines.{memory_line, read_line, words_line}
+use Rattle.api_texts.specs.declared.left_out.LeftOut.{LeftOut}
 use Rattle.api_words.specs.declared.request.AskedVersion.{AskedVersion}
 use Rattle.api_words.specs.declared.request.MadeTrees.{MadeTrees}
 use Rattle.api_words.specs.declared.request.Request.{Request}
@@ -96,23 +97,23 @@ abbrev pub IsMakeText : Request → List (List Line) → List Verdict → List �
 IsMakeText r lists vs text = (features : List Line) × AreMerged r lists features × IsClassedText r features vs text
 
 -- the report of the mode `gate` with these signed lines and this advice, but for want of memory
-abbrev pub IsGateDecision : Request → List Verdict → Bool → List ℕ → List ℕ → Decision → Type 0
-IsGateDecision r vs lost lines advice d = (d ≡ NoMemory) ⊎ (d ≡ report_of (lost || list_any has_break vs) (lines ++ judge_text r.platforms vs ++ advice))
+abbrev pub IsGateDecision : Request → List Verdict → List LeftOut → Bool → List ℕ → List ℕ → Decision → Type 0
+IsGateDecision r vs ls lost lines advice d = (d ≡ NoMemory) ⊎ (d ≡ report_of (lost || list_any has_break vs) (lines ++ judge_text r.platforms vs ls ++ advice))
 
 -- ---- decisions
 
 -- what findings decide: the report of the request, or why no version is advised
-abbrev pub IsOfFindings : Request → Inputs → List (List Line) → List Verdict → Decision → Type 0
-IsOfFindings r i lists vs (Report text) = IsReportOn r i lists vs false text
-IsOfFindings r i lists vs (Broken text) = IsReportOn r i lists vs true text
-IsOfFindings r i lists vs Words = ⊥
-IsOfFindings r i lists vs (Refused line) = (v : AskedVersion) × (r.version ≡ Some v) × IsAdviceRefusal v (class_of vs) line
-IsOfFindings r i lists vs ReadFault = ⊥
-IsOfFindings r i lists vs NoMemory = Unit {0}
+abbrev pub IsOfFindings : Request → Inputs → List (List Line) → List Verdict → List LeftOut → Decision → Type 0
+IsOfFindings r i lists vs ls (Report text) = IsReportOn r i lists vs ls false text
+IsOfFindings r i lists vs ls (Broken text) = IsReportOn r i lists vs ls true text
+IsOfFindings r i lists vs ls Words = ⊥
+IsOfFindings r i lists vs ls (Refused line) = (v : AskedVersion) × (r.version ≡ Some v) × IsAdviceRefusal v (class_of vs) line
+IsOfFindings r i lists vs ls ReadFault = ⊥
+IsOfFindings r i lists vs ls NoMemory = Unit {0}
 
 -- what inputs decide: what is found in them decides so, or a platform refuses them
 pub data IsOfInputs (r : Request) (i : Inputs) : Decision → Type 0 where
-  of_findings : {d : Decision} (lists : List (List Line)) (vs : List Verdict) → AreFound r i lists vs → IsOfFindings r i lists vs d → IsOfInputs r i d
+  of_findings : {d : Decision} (lists : List (List Line)) (vs : List Verdict) (ls : List LeftOut) → AreFound r i lists vs ls → IsOfFindings r i lists vs ls d → IsOfInputs r i d
   of_platform : {line : List ℕ} → IsFirstRefusal (modules_of i) i.old_tree i.tree i.std_tree r.platforms line → IsOfInputs r i (Refused line)
   no_room : IsOfInputs r i NoMemory
 

@@ -6,7 +6,7 @@ use Rattle.api_advice.specs.Advice.{IsNext}
 use Rattle.api_advice.specs.declared.class.Class.{Class}
 use Rattle.api_advice.specs.declared.release.Release.{Release}
 use Rattle.api_findings.specs.Checks.{CountsAtMost}
-use Rattle.api_findings.specs.Findings.{AreFindings, IsFirstRefusal}
+use Rattle.api_findings.specs.Findings.{AreFindings, AreLeftOut, IsFirstRefusal}
 use Rattle.api_frozen.specs.Comparison.{IsReport}
 use Rattle.api_frozen.specs.declared.signed.Signed.{Signed}
 use Rattle.api_generator.specs.MadeTrees.{made_contents}
@@ -17,9 +17,10 @@ use Rattle.api_judge.specs.declared.verdict.Verdict.{Verdict}
 use Rattle.api_lines.specs.Lines.{IsListing}
 use Rattle.api_lines.specs.Merging.{IsMerged}
 use Rattle.api_lines.specs.declared.line.Line.{Line}
-use Rattle.api_reports.specs.Reports.{class_text, count_breaks, features_text, has_loss, judge_text, made_text, signed_text, version_text}
+use Rattle.api_reports.specs.Reports.{class_text, count_breaks, counted_class_text, features_text, has_loss, judge_text, made_text, signed_text, skipped_text, version_text}
 use Rattle.api_texts.specs.FaultLines.{no_version_line, not_release_line}
 use Rattle.api_texts.specs.FixedLines.{words_line}
+use Rattle.api_texts.specs.declared.left_out.LeftOut.{LeftOut}
 use Rattle.api_words.specs.Words.{AreBad, IsRequest}
 use Rattle.api_words.specs.declared.option_name.Mode.TheVariants as mode
 use Rattle.api_words.specs.declared.request.AskedVersion.{AskedVersion}
@@ -85,22 +86,24 @@ abbrev pub IsMadeText : Option MadeTrees → List Line → List Verdict → List
 IsMadeText None features vs text = text ≡ []
 IsMadeText (Some m) features vs text = text ≡ made_text m.size (length features) (count_breaks vs)
 
--- the report of a request on its inputs and on what is found there, and whether it holds a lost line or a break
-pub data IsReportOn (r : Request) (i : Inputs) (lists : List (List Line)) (vs : List Verdict) : Bool → List ℕ → Type 0 where
-  features_report : (features : List Line) → r.mode ≡ mode.Features → AreMerged r lists features → IsReportOn r i lists vs false (features_text features)
-  frozen_report : {is_broken : Bool} {text : List ℕ} → r.mode ≡ mode.Frozen → IsSignedReport r i lists is_broken text → IsReportOn r i lists vs is_broken text
-  judge_report : r.mode ≡ mode.Judge → IsReportOn r i lists vs (list_any has_break vs) (judge_text r.platforms vs)
-  advise_report : (advice : List ℕ) → r.mode ≡ mode.Advise → IsAdvice r.version (class_of vs) advice → IsReportOn r i lists vs false (class_text (class_of vs) ++ advice)
+-- the report of a request on its inputs, on what is found there and on what is left out, and whether it holds a lost line or a break
+pub data IsReportOn (r : Request) (i : Inputs) (lists : List (List Line)) (vs : List Verdict) (ls : List LeftOut) : Bool → List ℕ → Type 0 where
+  features_report : (features : List Line) → r.mode ≡ mode.Features → AreMerged r lists features → IsReportOn r i lists vs ls false (features_text features)
+  frozen_report : {is_broken : Bool} {text : List ℕ} → r.mode ≡ mode.Frozen → IsSignedReport r i lists is_broken text → IsReportOn r i lists vs ls is_broken text
+  judge_report : r.mode ≡ mode.Judge → IsReportOn r i lists vs ls (list_any has_break vs) (judge_text r.platforms vs ls)
+  advise_report : (advice : List ℕ) → r.mode ≡ mode.Advise → IsAdvice r.version (class_of vs) advice → IsReportOn r i lists vs ls false (counted_class_text r.platforms ls (class_of vs) ++ advice)
   gate_report : (is_broken : Bool) (text advice : List ℕ) → r.mode ≡ mode.Gate → IsSignedReport r i lists is_broken text → IsAdvice r.version (class_of vs) advice
-      → IsReportOn r i lists vs (is_broken || list_any has_break vs) (text ++ judge_text r.platforms vs ++ advice)
+      → IsReportOn r i lists vs ls (is_broken || list_any has_break vs) (text ++ judge_text r.platforms vs ls ++ advice)
+  skipped_report : r.mode ≡ mode.Skipped → IsReportOn r i lists vs ls false (skipped_text r.platforms ls)
   make_report : (text : List ℕ) (features : List Line) → r.mode ≡ mode.Make → AreMerged r lists features → IsMadeText r.made features vs text
-      → IsReportOn r i lists vs false (text ++ class_text (class_of vs))
+      → IsReportOn r i lists vs ls false (text ++ class_text (class_of vs))
 
 -- ---- outcomes
 
--- this is found in the trees of the inputs
-abbrev pub AreFound : Request → Inputs → List (List Line) → List Verdict → Type 0
-AreFound r i lists vs = AreFindings (modules_of i) i.old_tree i.tree i.std_tree r.platforms lists vs
+-- this is found in the trees of the inputs, and this is left out
+pub record AreFound (r : Request) (i : Inputs) (lists : List (List Line)) (vs : List Verdict) (ls : List LeftOut) : Type 0 where
+  pub findings : AreFindings (modules_of i) i.old_tree i.tree i.std_tree r.platforms lists vs
+  pub left_out : AreLeftOut (modules_of i) i.std_tree i.old_tree i.tree r.platforms ls
 
 module _ (words : List (List ℕ)) (told : Option Contents) where
   -- the words make this request, and these are its inputs
@@ -114,10 +117,10 @@ module _ (words : List (List ℕ)) (told : Option Contents) where
     refused_inputs : {line : List ℕ} (r : Request) → IsRequest words r → IsInputRefusal (files_of told r.made) r line → EndsWith (fault_alone status.Refused line)
     refused_platform : {line : List ℕ} (r : Request) (i : Inputs) → Asks r i → IsFirstRefusal (modules_of i) i.old_tree i.tree i.std_tree r.platforms line
         → EndsWith (fault_alone status.Refused line)
-    refused_advice : {line : List ℕ} (r : Request) (i : Inputs) (v : AskedVersion) (lists : List (List Line)) (vs : List Verdict) → Asks r i → AreFound r i lists vs
+    refused_advice : {line : List ℕ} (r : Request) (i : Inputs) (v : AskedVersion) (lists : List (List Line)) (vs : List Verdict) (ls : List LeftOut) → Asks r i → AreFound r i lists vs ls
         → r.version ≡ Some v → IsAdviceRefusal v (class_of vs) line → EndsWith (fault_alone status.Refused line)
-    reported_findings : {text : List ℕ} (is_broken : Bool) (r : Request) (i : Inputs) (lists : List (List Line)) (vs : List Verdict) → Asks r i → AreFound r i lists vs
-        → IsReportOn r i lists vs is_broken text → EndsWith (reported is_broken text)
+    reported_findings : {text : List ℕ} (is_broken : Bool) (r : Request) (i : Inputs) (lists : List (List Line)) (vs : List Verdict) (ls : List LeftOut) → Asks r i → AreFound r i lists vs ls
+        → IsReportOn r i lists vs ls is_broken text → EndsWith (reported is_broken text)
 
   -- a counter of checks rises by at most the packages of both trees on the request's platforms together, or stays
   pub data ChecksAtMost (before now : ℕ) : Type 0 where

@@ -17,6 +17,7 @@ use api_judge::judge::{class, is_any_broken};
 use api_judge::verdict::Verdict;
 use api_lines::platform_lines::PlatformLines;
 use api_reports::verdicts::judge_text;
+use api_texts::left_out::LeftOut;
 use api_words::option_name::Mode;
 use api_words::request::Request;
 use go_base::memory::NoMemory;
@@ -28,12 +29,13 @@ fn gate_text(
     alloc: Global,
     request: &Request,
     verdicts: &[Verdict],
+    left_out: &[LeftOut],
     signed: &[u8],
     advice: &[u8],
 ) -> Result<Text, NoMemory>
-    ensures { IfOk result (λ text. text ≡ signed.now ++ judge_text request.now.platforms verdicts.now ++ advice.now) }
+    ensures { IfOk result (λ text. text ≡ signed.now ++ judge_text request.now.platforms verdicts.now left_out.now ++ advice.now) }
 {
-    let judged = judge_text(alloc, request.platforms.items(), verdicts)?;
+    let judged = judge_text(alloc, request.platforms.items(), verdicts, left_out)?;
     let first = joined(alloc, signed, judged.bytes())?;
     joined(alloc, first.bytes(), advice)
 }
@@ -53,12 +55,20 @@ fn gate_with(
     alloc: Global,
     request: &Request,
     verdicts: &[Verdict],
+    left_out: &[LeftOut],
     signed: &SignedText,
     advice: &[u8],
 ) -> Decision
-    ensures { IsGateDecision request.now verdicts.now signed.now.lost signed.now.text advice.now result }
+    ensures { IsGateDecision request.now verdicts.now left_out.now signed.now.lost signed.now.text advice.now result }
 {
-    match gate_text(alloc, request, verdicts, signed.text.bytes(), advice) {
+    match gate_text(
+        alloc,
+        request,
+        verdicts,
+        left_out,
+        signed.text.bytes(),
+        advice,
+    ) {
         Ok(text) => Decision::report(is_broken(signed.lost, verdicts), text),
         Err(NoMemory) => Decision::NoMemory,
     }
@@ -71,6 +81,7 @@ fn gate_advised(
     inputs: &Inputs,
     lists: PlatformLines,
     verdicts: &[Verdict],
+    left_out: &[LeftOut],
     advice: &[u8],
 ) -> Decision
     requires mode { request.now.mode ≡ Mode.Gate }
@@ -78,15 +89,15 @@ fn gate_advised(
     requires same { length lists ≡ length request.now.platforms }
     requires plain { Each (Each HasNoContext) lists }
     requires advice { IsAdvice request.now.version (class_of verdicts.now) advice.now }
-    ensures { IsOfFindings request.now inputs.now lists verdicts.now result }
+    ensures { IsOfFindings request.now inputs.now lists verdicts.now left_out.now result }
 {
     match signed_report(alloc, request, inputs, lists) {
-        Ok(signed) => gate_with(alloc, request, verdicts, &signed, advice),
+        Ok(signed) => gate_with(alloc, request, verdicts, left_out, &signed, advice),
         Err(NoMemory) => Decision::NoMemory,
     }
 }
 
-/// What the module lost and gained against the lines that were read, what is broken on each platform, the class of
+/// What the module lost and gained against the lines that were read, what is broken on each platform, how much was left out, the class of
 /// the release, and the version that follows; or that the last version is refused.
 pub(crate) fn gate_report(
     alloc: Global,
@@ -94,15 +105,24 @@ pub(crate) fn gate_report(
     inputs: &Inputs,
     lists: PlatformLines,
     verdicts: &[Verdict],
+    left_out: &[LeftOut],
 ) -> Decision
     requires mode { request.now.mode ≡ Mode.Gate }
     requires some { 0 < length request.now.platforms }
     requires same { length lists ≡ length request.now.platforms }
     requires plain { Each (Each HasNoContext) lists }
-    ensures { IsOfFindings request.now inputs.now lists verdicts.now result }
+    ensures { IsOfFindings request.now inputs.now lists verdicts.now left_out.now result }
 {
     match advice(alloc, &request.version, class(verdicts)) {
-        Ok(text) => gate_advised(alloc, request, inputs, lists, verdicts, text.bytes()),
+        Ok(text) => gate_advised(
+            alloc,
+            request,
+            inputs,
+            lists,
+            verdicts,
+            left_out,
+            text.bytes(),
+        ),
         Err(fault) => Decision::unadvised(fault),
     }
 }

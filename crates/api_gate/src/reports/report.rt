@@ -13,24 +13,27 @@ use api_findings::findings::Findings;
 use api_inputs::inputs::Inputs;
 use api_judge::verdict::Verdict;
 use api_lines::platform_lines::PlatformLines;
+use api_reports::left_out::skipped_text;
+use api_texts::left_out::LeftOut;
 use api_words::option_name::Mode;
 use api_words::request::Request;
 use go_base::memory::NoMemory;
 use std::alloc::Global;
 use std::mem;
 
-// The report on the features and the verdicts of the platforms.
+// The report on the features and the verdicts of the platforms, and on what was left out.
 fn report_on(
     alloc: Global,
     request: &Request,
     inputs: &Inputs,
     lists: PlatformLines,
     verdicts: &[Verdict],
+    left_out: &[LeftOut],
 ) -> Decision
     requires some { 0 < length request.now.platforms }
     requires same { length lists ≡ length request.now.platforms }
     requires plain { Each (Each HasNoContext) lists }
-    ensures { IsOfFindings request.now inputs.now lists verdicts.now result }
+    ensures { IsOfFindings request.now inputs.now lists verdicts.now left_out.now result }
 {
     match request.mode {
         Mode::Features => match features_report(alloc, request, lists) {
@@ -41,9 +44,13 @@ fn report_on(
             Ok(signed) => signed.decision(),
             Err(NoMemory) => Decision::NoMemory,
         },
-        Mode::Judge => judge_report(alloc, request, verdicts),
-        Mode::Advise => advise_report(alloc, request, verdicts),
-        Mode::Gate => gate_report(alloc, request, inputs, lists, verdicts),
+        Mode::Judge => judge_report(alloc, request, verdicts, left_out),
+        Mode::Advise => advise_report(alloc, request, verdicts, left_out),
+        Mode::Gate => gate_report(alloc, request, inputs, lists, verdicts, left_out),
+        Mode::Skipped => match skipped_text(alloc, request.platforms.items(), left_out) {
+            Ok(text) => Decision::Report(text),
+            Err(NoMemory) => Decision::NoMemory,
+        },
         Mode::Make => match make_report(alloc, request, lists, verdicts) {
             Ok(text) => Decision::Report(text),
             Err(NoMemory) => Decision::NoMemory,
@@ -57,8 +64,15 @@ pub fn report(alloc: Global, request: &Request, inputs: &Inputs, mut found: Find
     requires some { 0 < length request.now.platforms }
     requires same { length found.features ≡ length request.now.platforms }
     requires plain { Each (Each HasNoContext) found.features }
-    ensures { IsOfFindings request.now inputs.now found.features found.verdicts result }
+    ensures { IsOfFindings request.now inputs.now found.features found.verdicts found.left_out result }
 {
     let features = mem::replace(&mut found.features, PlatformLines::new(alloc));
-    report_on(alloc, request, inputs, features, found.verdicts.items())
+    report_on(
+        alloc,
+        request,
+        inputs,
+        features,
+        found.verdicts.items(),
+        found.left_out.items(),
+    )
 }

@@ -1,6 +1,7 @@
 use Rattle.std.proofs.Common.{[], get_or, length, refl, slice_get, subst, ◌<◌, ◌∷◌}
 use Rattle.std.specs.Option.{option_copied}
 use Rattle.api_findings.proofs.AlikeFindings.{added_again}
+use Rattle.api_findings.proofs.LeftOutPlatforms.{left_out_again}
 use Rattle.api_findings.proofs.PlatformFindings.{added_now, in_order, none_counted}
 use Rattle.api_findings.proofs.findings.add_next.Goals as goal
 
@@ -15,3 +16,8 @@ returns-in-Ok-clause-steps g c = none_counted c.args.trees.now.barred.now (optio
 
 pub returns-in-Err-clause-steps : goal.returns-in-Err-clause-steps
 returns-in-Err-clause-steps g c = none_counted c.args.trees.now.barred.now (option_copied c.args.trees.now.old_tree) c.args.trees.now.tree.now c.args.trees.now.std_tree.now (c.args.platform ∷ []) c.args.steps.now c.args.steps.now refl
+
+pub returns-in-Ok-clause-left_out : goal.returns-in-Ok-clause-left_out
+returns-in-Ok-clause-left_out g c =
+    left_out_again c.args.trees.now.barred.now c.args.trees.now.std_tree.now (option_copied c.args.trees.now.old_tree) c.args.trees.now.tree.now c.alike_units.ensures c.args.platform c.args.all.now.left_out c.push_again.new.self.left_out
+    (slice_get c.args.all.now.left_out c.args.first) (c.requires.left_out (subst (λ n. c.args.first < n) c.len.ensures c.if-first-len.true)) c.in-Ok.ensures.left_out

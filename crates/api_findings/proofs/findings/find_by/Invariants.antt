@@ -1,6 +1,9 @@
 use Rattle.std.specs.Option.{option_copied}
+use Rattle.api_findings.proofs.LeftOutPlatforms.{LeftTo}
 use Rattle.api_findings.proofs.PlatformFindings.{TakenTo}
 use Rattle.api_findings.proofs.findings.find_by.Given as goal
 
 abbrev pub invariant-loop-at : goal.invariant-loop-at
-invariant-loop-at g l = TakenTo l.trees.barred.now (option_copied l.trees.old_tree) l.trees.tree.now l.trees.std_tree.now l.platforms l.at l.all.features l.all.verdicts l.fn.steps l.steps
+invariant-loop-at g l =
+    TakenTo l.trees.barred.now (option_copied l.trees.old_tree) l.trees.tree.now l.trees.std_tree.now l.platforms l.at l.all.features l.all.verdicts l.fn.steps l.steps
+    × LeftTo l.trees.barred.now l.trees.std_tree.now (option_copied l.trees.old_tree) l.trees.tree.now l.platforms l.at l.all.left_out

@@ -1,3 +1,4 @@
+use Rattle.api_findings.proofs.LeftOutPlatforms.{same_left_outs}
 use Rattle.api_findings.proofs.OneFinding as finding
 use Rattle.api_findings.proofs.laws.one_finding.Goals as goal
 
@@ -18,3 +19,6 @@ returns-clause-refusal c = λ barred old tree std_tree ps a b f g.
 pub returns-clause-apart : goal.returns-clause-apart
 returns-clause-apart c = λ barred old tree std_tree ps a vs line f g.
     finding.found_or_refusal barred old tree std_tree (λ t. c.one_world_on.ensures.world barred t std_tree) (λ t. c.one_world_on.ensures.refusal barred t std_tree) (λ t. c.one_world_on.ensures.apart barred t std_tree) f g
+
+pub returns-clause-left_out : goal.returns-clause-left_out
+returns-clause-left_out c = λ barred old tree std_tree ps a b f g. same_left_outs barred std_tree old tree (λ t. c.one_world_on.ensures.left_out barred t std_tree) ps a b f g

@@ -5,4 +5,4 @@ pub returns-in-Err-clause-decision : goal.returns-in-Err-clause-decision
 returns-in-Err-clause-decision g c = unfound_decides c.args.request.now c.args.inputs.now _ _ _ c.in-Err.error c.unfound.result c.requires.modules c.as_ref.ensures.value c.items.ensures c.unfound.ensures c.in-Err.ensures.answer
 
 pub returns-in-Ok-clause-decision : goal.returns-in-Ok-clause-decision
-returns-in-Ok-clause-decision g c = found_decides c.args.request.now c.args.inputs.now _ _ _ c.in-Ok.found c.report.result c.requires.modules c.as_ref.ensures.value c.items.ensures c.in-Ok.ensures.answer c.report.ensures
+returns-in-Ok-clause-decision g c = found_decides c.args.request.now c.args.inputs.now _ _ _ c.in-Ok.found c.report.result c.requires.modules c.as_ref.ensures.value c.items.ensures c.in-Ok.ensures.answer c.in-Ok.ensures.left_out c.report.ensures

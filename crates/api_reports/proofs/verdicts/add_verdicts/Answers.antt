@@ -1,11 +1,12 @@
 use Rattle.std.proofs.lemmas.Slice.Zip.{Zip-more, either_empty_from_Zip}
-use Rattle.api_reports.proofs.VerdictLines.{verdicts_done, verdicts_next}
+use Rattle.api_reports.specs.Reports.{platform_lines}
+use Rattle.api_reports.proofs.PlatformLines.{platforms_done, platforms_next}
 use Rattle.api_reports.proofs.verdicts.add_verdicts.Goals as goal
 
 pub loop-platform-preserved : goal.loop-platform-preserved
 loop-platform-preserved c =
     let more = Zip-more c.loop-platform.platform-iterator c.next.new.self c.next.result (c.in-Some.platform, c.in-Some.verdict) c.in-Some.is c.next.ensures.steps in
-    verdicts_next _ _ _ _ _ _ c.loop-platform.text.items _ more.0 more.1 c.in_ok-add_verdict.ensures c.loop-platform.invariant
+    platforms_next platform_lines _ _ _ _ _ _ c.loop-platform.text.items _ more.0 more.1 c.in_ok-add_verdict.ensures c.loop-platform.invariant
 
 pub returns : goal.returns
-returns c = verdicts_done _ _ c.loop-platform.text.items (either_empty_from_Zip c.loop-platform.platform-iterator c.next.new.self c.next.result c.in-None.is c.next.ensures.steps) c.loop-platform.invariant
+returns c = platforms_done platform_lines _ _ c.loop-platform.text.items (either_empty_from_Zip c.loop-platform.platform-iterator c.next.new.self c.next.result c.in-None.is c.next.ensures.steps) c.loop-platform.invariant

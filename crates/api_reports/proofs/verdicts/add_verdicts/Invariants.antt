@@ -1,9 +1,9 @@
 use Rattle.std.proofs.Common.{◌≡◌, ◌++◌}
 use Rattle.std.specs.Iterator.Adapters.{zip_first, zip_second}
 use Rattle.std.specs.Slice.Iter.{iter_rest}
-use Rattle.api_reports.specs.Reports.{unlines, verdict_lines}
+use Rattle.api_reports.specs.Reports.{by_platform, platform_lines, unlines}
 use Rattle.api_reports.proofs.verdicts.add_verdicts.Given as goal
 
 abbrev pub invariant-loop-platform : goal.invariant-loop-platform
 invariant-loop-platform l =
-    l.text.items ++ unlines (verdict_lines (iter_rest (zip_first l.platform-iterator)) (iter_rest (zip_second l.platform-iterator))) ≡ l.fn.text.items ++ unlines (verdict_lines l.platforms l.verdicts)
+    l.text.items ++ unlines (by_platform platform_lines (iter_rest (zip_first l.platform-iterator)) (iter_rest (zip_second l.platform-iterator))) ≡ l.fn.text.items ++ unlines (by_platform platform_lines l.platforms l.verdicts)

@@ -13,11 +13,11 @@ use Rattle.go_typings.specs.PackageEnvironments.{own_defined}
 use Rattle.go_packages.proofs.package.package.Goals as goal
 
 pub returns : goal.returns
-returns c = λ s t.
+returns c = λ s within t.
     let u = source_of c.args.unit.now in
     let a = entries_at c.args.had.now in
     let names = names_listed c.in_ok-listed.listed ∙ ap names_in c.in_ok-listed.ensures.entries in
-    package_of s u a t c.args.tables.now.names.now (subst (λ (xs : List Declaration). AreDeclared xs c.args.tables.now.names.now) c.requires.listed c.requires.tables.names) c.in_ok-listed.ensures.ordered
+    package_of s u within a t c.args.tables.now.names.now (subst (λ (xs : List Declaration). AreDeclared xs c.args.tables.now.names.now) c.requires.listed c.requires.tables.names) c.in_ok-listed.ensures.ordered
     c.in_ok-of.field-0 c.in_ok-of-2.field-0 c.in_ok-shared_objects.shared_objects c.in_ok-shared_defined.shared_defined
     (c.in_ok-of.ensures ∙ c.bytes.ensures) (c.in_ok-of-2.ensures ∙ c.bytes-2.ensures)
     (c.in_ok-shared_objects.ensures

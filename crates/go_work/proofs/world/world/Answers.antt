@@ -1,14 +1,16 @@
 use Rattle.std.proofs.Common.{◌≡◌, ◌+◌, [], ◌∷◌, ◌++◌, arith, sym, ap, ◌∙◌, subst, append_assoc, length-append}
 use Rattle.std.specs.Vec.Iter.{into_iter_items}
 use Rattle.go_base.specs.Lists.{Has}
-use Rattle.go_typings.specs.PackageWorlds.{IsWorldOf, become_none}
-use Rattle.go_work.proofs.NextUnits.{has_at, refused_next, typed_next}
+use Rattle.go_work.proofs.NextUnits.{has_at, refused_next}
+use Rattle.go_work.proofs.TakenUnits.{taken_kept, taken_next, taken_none, taken_world}
 use Rattle.go_work.proofs.UnitPrefixes.{imports_typed, unit_absent}
 use Rattle.go_work.proofs.world.world.Goals as goal
 
 pub loop-unit-init : goal.loop-unit-init
 loop-unit-init g c = record {
-  typed = subst (IsWorldOf c.args.bits []) (sym c.empty-world.ensures) (record { outcomes = []; become = become_none; all_typed = tt });
+  taken = taken_none c.args.bits (record { world = c.empty-world.result; skipped = c.new-skipped.result }) c.empty-world.ensures c.new-skipped.ensures;
+  typed = taken_world c.args.bits [] (record { world = c.empty-world.result; skipped = c.new-skipped.result }) (taken_none c.args.bits (record { world = c.empty-world.result; skipped = c.new-skipped.result }) c.empty-world.ensures c.new-skipped.ensures);
+  kept = taken_kept c.args.bits [] (record { world = c.empty-world.result; skipped = c.new-skipped.result }) (taken_none c.args.bits (record { world = c.empty-world.result; skipped = c.new-skipped.result }) c.empty-world.ensures c.new-skipped.ensures);
   number = search;
   parts = search;
   steps = omega arith;
@@ -28,7 +30,7 @@ add_next-requires-clause-absent g c =
     let front = c.loop-unit.yielded in
     let rest = into_iter_items c.next.new.self in
     let parts : c.args.units.packages ≡ front ++ u ∷ rest = sym c.loop-unit.invariant.parts ∙ ap (λ w. front ++ w) c.in-Some.ensures.steps.0 in
-    unit_absent c.args.bits c.args.units.packages c.args.units.ordered front rest u parts c.loop-unit.world c.loop-unit.invariant.typed
+    unit_absent c.args.bits c.args.units.packages c.args.units.ordered front rest u parts c.loop-unit.checked.world c.loop-unit.invariant.typed
 
 pub returns-in-Err-clause-answers : goal.returns-in-Err-clause-answers
 returns-in-Err-clause-answers g c =
@@ -36,8 +38,8 @@ returns-in-Err-clause-answers g c =
     let front = c.loop-unit.yielded in
     let rest = into_iter_items c.next.new.self in
     let parts : c.args.units.packages ≡ front ++ u ∷ rest = sym c.loop-unit.invariant.parts ∙ ap (λ w. front ++ w) c.in-Some.ensures.steps.0 in
-    (refused_next c.args.bits front rest u c.loop-unit.world c.loop-unit.invariant.typed
-    (imports_typed c.args.bits c.args.units.packages c.args.units.ordered front rest u parts c.loop-unit.world c.loop-unit.invariant.typed u.needed)
+    (refused_next c.args.bits front rest u c.loop-unit.checked.world c.loop-unit.invariant.typed
+    (imports_typed c.args.bits c.args.units.packages c.args.units.ordered front rest u parts c.loop-unit.checked.world c.loop-unit.invariant.typed u.needed)
     c.args.units.packages c.loop-unit.number c.in-Err.error parts c.loop-unit.invariant.number c.in-Err.ensures.refused).0
 
 pub returns-in-Err-clause-handed : goal.returns-in-Err-clause-handed
@@ -46,8 +48,8 @@ returns-in-Err-clause-handed g c =
     let front = c.loop-unit.yielded in
     let rest = into_iter_items c.next.new.self in
     let parts : c.args.units.packages ≡ front ++ u ∷ rest = sym c.loop-unit.invariant.parts ∙ ap (λ w. front ++ w) c.in-Some.ensures.steps.0 in
-    (refused_next c.args.bits front rest u c.loop-unit.world c.loop-unit.invariant.typed
-    (imports_typed c.args.bits c.args.units.packages c.args.units.ordered front rest u parts c.loop-unit.world c.loop-unit.invariant.typed u.needed)
+    (refused_next c.args.bits front rest u c.loop-unit.checked.world c.loop-unit.invariant.typed
+    (imports_typed c.args.bits c.args.units.packages c.args.units.ordered front rest u parts c.loop-unit.checked.world c.loop-unit.invariant.typed u.needed)
     c.args.units.packages c.loop-unit.number c.in-Err.error parts c.loop-unit.invariant.number c.in-Err.ensures.refused).1
 
 pub loop-unit-preserved : goal.loop-unit-preserved
@@ -56,11 +58,14 @@ loop-unit-preserved g c =
     let front = c.loop-unit.yielded in
     let rest = into_iter_items c.next.new.self in
     let parts : c.args.units.packages ≡ front ++ u ∷ rest = sym c.loop-unit.invariant.parts ∙ ap (λ w. front ++ w) c.in-Some.ensures.steps.0 in
+    let taken =
+        taken_next c.args.bits front u c.loop-unit.checked c.add_next.new.checked c.loop-unit.invariant.taken
+        (imports_typed c.args.bits c.args.units.packages c.args.units.ordered front rest u parts c.loop-unit.checked.world c.loop-unit.invariant.typed u.needed)
+        c.in-Ok.ensures.offered in
     record {
-      typed =
-          typed_next c.args.bits front rest u c.loop-unit.world c.loop-unit.invariant.typed
-          (imports_typed c.args.bits c.args.units.packages c.args.units.ordered front rest u parts c.loop-unit.world c.loop-unit.invariant.typed u.needed)
-          c.add_next.new.world c.in-Ok.ensures.typed;
+      taken = taken;
+      typed = taken_world c.args.bits (front ++ u ∷ []) c.add_next.new.checked taken;
+      kept = taken_kept c.args.bits (front ++ u ∷ []) c.add_next.new.checked taken;
       number = ap (λ n. n + 1) c.loop-unit.invariant.number ∙ sym (length-append front (u ∷ []));
       parts = append_assoc front (u ∷ []) rest ∙ sym parts;
       steps = omega (arith, c.loop-unit.invariant.steps, c.in-Ok.ensures.steps);

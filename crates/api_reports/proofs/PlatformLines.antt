@@ -1,0 +1,21 @@
+-- The lines of platforms, one after another.
+use Rattle.std.proofs.Common.{◌≡◌, ◌⊎◌, inl, inr, ℕ, List, [], ◌∷◌, ◌++◌, refl, sym, ap, ◌∙◌, append_assoc, append-nil}
+use Rattle.go_model.specs.declared.files.platform.Platform.{Platform}
+use Rattle.api_reports.specs.Reports.{by_platform, unlines}
+use Rattle.api_reports.proofs.TextLines.{unlines_both}
+
+module _ {A : Type 0} (lines_of : Platform → A → List (List ℕ)) where
+  pub platforms_next : {all : List ℕ} (ps qs : List Platform) (xs ys : List A) (p : Platform) (x : A) (old new : List ℕ) → ps ≡ p ∷ qs → xs ≡ x ∷ ys → new ≡ old ++ unlines (lines_of p x)
+      → old ++ unlines (by_platform lines_of ps xs) ≡ all → new ++ unlines (by_platform lines_of qs ys) ≡ all
+  platforms_next ps qs xs ys p x old new e f g r =
+      let more : List ℕ = unlines (by_platform lines_of qs ys) in
+      ap (λ (w : List ℕ). w ++ more) g ∙ append_assoc old (unlines (lines_of p x)) more ∙ ap (λ (w : List ℕ). old ++ w) (sym (unlines_both (lines_of p x) (by_platform lines_of qs ys)))
+      ∙ (λ i. old ++ unlines (by_platform lines_of (sym e i) (sym f i))) ∙ r
+
+  no_lines : (ps : List Platform) (xs : List A) → (ps ≡ []) ⊎ (xs ≡ []) → by_platform lines_of ps xs ≡ []
+  no_lines ps xs (inl e) = ap (λ (w : List Platform). by_platform lines_of w xs) e
+  no_lines [] xs (inr e) = refl
+  no_lines (p ∷ ps) xs (inr e) = ap (λ (w : List A). by_platform lines_of (p ∷ ps) w) e
+
+  pub platforms_done : {all : List ℕ} (ps : List Platform) (xs : List A) (text : List ℕ) → (ps ≡ []) ⊎ (xs ≡ []) → text ++ unlines (by_platform lines_of ps xs) ≡ all → text ≡ all
+  platforms_done ps xs text h r = sym (append-nil text) ∙ ap (λ (w : List (List ℕ)). text ++ unlines w) (sym (no_lines ps xs h)) ∙ r

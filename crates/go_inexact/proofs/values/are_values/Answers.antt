@@ -1,0 +1,19 @@
+use Rattle.go_exposed.specs.BeyondProfile.{IsValue}
+use Rattle.go_nodes.proofs.EachItems.{each_begins, each_done, each_next, each_not}
+use Rattle.go_type_terms.specs.Answers.{env_in}
+use Rattle.std.proofs.Common.{arith}
+use Rattle.go_inexact.proofs.values.are_values.Goals as goal
+
+pub loop-expr-init : goal.loop-expr-init
+loop-expr-init c = each_begins (IsValue (env_in c.args.context.now)) c.args.exprs.now
+
+pub loop-expr-preserved : goal.loop-expr-preserved
+loop-expr-preserved c =
+    each_next (IsValue (env_in c.args.context.now)) c.args.exprs.now c.loop-expr.expr-index c.expr-item.result c.loop-expr-test.true c.expr-item.is c.loop-expr.invariant c.in_ok-is.is c.if-not-is.false c.in_ok-is.ensures
+
+pub returns-then-not-is : goal.returns-then-not-is
+returns-then-not-is c =
+    each_not (IsValue (env_in c.args.context.now)) c.args.exprs.now c.loop-expr.expr-index c.expr-item.result c.loop-expr-test.true c.expr-item.is c.loop-expr.invariant c.in_ok-is.is c.if-not-is.true c.in_ok-is.ensures
+
+pub returns : goal.returns
+returns c = each_done (IsValue (env_in c.args.context.now)) c.args.exprs.now c.loop-expr.expr-index (omega arith) c.loop-expr.invariant

@@ -1,0 +1,4 @@
+pub mod Chains
+pub mod Maybe
+pub mod Values
+pub mod inner
