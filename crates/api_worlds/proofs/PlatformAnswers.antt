@@ -1,15 +1,18 @@
 -- The world of a platform, or its first refusal, by what is answered of its packages.
-use Rattle.std.proofs.Common.{◌+◌, ◌≤◌, ℕ, List, length, Ok, Err, sym, subst, arith}
+use Rattle.std.proofs.Common.{◌≡◌, ◌+◌, ◌≤◌, ℕ, List, length, Ok, Err, sym, subst, arith}
 use Rattle.std.specs.Prelude.{Result}
 use Rattle.api_texts.specs.declared.lines.Side.{Side}
-use Rattle.api_worlds.specs.PlatformWorlds.{AnswersWorld, AreUnitsOn, CountsAtMost, no_package, all_packages, IsErrorOn, IsRefusedOn, packages_refused, package_refused}
+use Rattle.api_worlds.specs.PlatformWorlds.{AnswersWorld, AreUnitsOn, CountsAtMost, no_package, all_packages, IsErrorOn, IsRefusedOn, packages_refused, package_refused, sources_of}
 use Rattle.api_worlds.specs.LeftOut.{AreLeftOutOn}
 use Rattle.api_worlds.specs.declared.platform_world.PlatformWorld.{PlatformWorld}
 use Rattle.api_worlds.specs.declared.error.PlatformError.{PlatformError}
 use Rattle.api_worlds.specs.declared.error.PlatformError.TheVariants as error
 use Rattle.api_worlds.specs.inner.PlatformSteps.{AnswersOfUnits, AreLinesOf, IsUnitRefusal}
+use Rattle.go_exposed.specs.OfferedWorlds.{IsWorldOf}
 use Rattle.go_model.specs.declared.files.platform.Platform.{Platform}
 use Rattle.go_model.specs.declared.files.tree.Tree.{Tree}
+use Rattle.go_model.specs.files.Platforms.{bits_of}
+use Rattle.go_model.specs.worlds.Worlds.{Packages}
 use Rattle.go_reading.specs.TreeUnits.{AreUnitsOfTrees}
 use Rattle.go_units.specs.declared.unit_error.UnitError.{UnitError}
 use Rattle.go_units.specs.declared.unit_list.Units.{Units}
@@ -26,6 +29,9 @@ module _ (barred : List (List ℕ)) (tree std_tree : Tree) (s : Side) (p : Platf
 
   pub units_left_out : (units : Units) (lines : List (List ℕ)) → AreUnitsOn barred tree std_tree p units → AreLinesOf tree std_tree p units lines → AreLeftOutOn barred tree std_tree p lines
   units_left_out units lines a l = record { units = units; are = a; skipped = l.skipped; skips = l.skips; «is» = l.«is» }
+
+  pub world_kept : (units : Units) (bits : ℕ) (w v : Packages) → bits ≡ bits_of p → v ≡ w → IsWorldOf bits (sources_of units) w → IsWorldOf (bits_of p) (sources_of units) v
+  world_kept units bits w v b e i = subst (λ (n : ℕ). IsWorldOf n (sources_of units) v) b (subst (IsWorldOf bits (sources_of units)) (sym e) i)
 
   pub no_count : (before : ℕ) → CountsAtMost barred tree std_tree p before before
   no_count before = (0, no_package, omega arith)
