@@ -29,10 +29,22 @@ impl Drop for PackageLines {
     }
 }
 
-fn goes_before(path: &[u8], package: &PackageLines) -> bool
-    ensures { result ≡ is_lt (slice_cmp nat_cmp path.now (path_of package.now)) }
+impl PackageLines {
+    ghost use Rattle.std.specs.Prelude.{◌≡◌};
+
+    // The lines, moved out.
+    fn into_lines(self) -> List<Text>
+        ensures { result ≡ self.lines }
+    {
+        let PackageLines { path: _, lines } = self;
+        lines
+    }
+}
+
+fn goes_before(path: &[u8], found: &PackageLines) -> bool
+    ensures { result ≡ is_lt (slice_cmp nat_cmp path.now (path_of found.now)) }
 {
-    order(path, package.path.bytes()) == Ordering::Less
+    order(path, found.path.bytes()) == Ordering::Less
 }
 
 // Where a package of this path belongs: before the first one with a greater path.
@@ -87,11 +99,7 @@ fn add_unit(
 fn add_lines(lines: &mut List<Text>, found: PackageLines) -> Result<(), NoMemory>
     ensures { OnOk result (lines.new ≡ lines.old ++ found.lines) }
 {
-    let PackageLines {
-        path: _,
-        lines: more,
-    } = found;
-    for line in more.into_vec() {
+    for line in found.into_lines().into_vec() {
         lines.push(line)?;
     }
     Ok(())
