@@ -1,9 +1,9 @@
 //! The loads of trees.
-ghost use Rattle.std.specs.Prelude.{◌≡◌, [], List, ℕ, Result, Err, IfOk, IfErr};
+ghost use Rattle.std.specs.Prelude.{◌≡◌, [], IfOk, IfErr};
 ghost use Rattle.go_model.specs.files.Trees.{IsTree, IsModulePath};
 ghost use Rattle.go_outside.specs.Faults.{Told};
 ghost use Rattle.go_load.specs.Loads.{LoadsModule, LoadsFiles, LoadCause};
-ghost use Rattle.go_load.specs.inner.Steps.{Parses, LacksModule, ReadsModule};
+ghost use Rattle.go_load.specs.inner.Steps.{Parses, FindsModule, ReadsModule};
 ghost use Rattle.go_load.specs.Loads.{IsOfWalk};
 ghost use Rattle.go_load.specs.declared.kind.TreeKind.TheVariants as kind;
 
@@ -11,7 +11,7 @@ use crate::error::LoadError;
 use crate::go_mod::module_of;
 use crate::kind::TreeKind;
 use crate::reads::{list, read};
-use crate::walk::walk;
+use crate::walk::{has_go_mod, walk};
 use go_base::text::Text;
 use go_model::files::tree::Tree;
 use go_outside::files::Files;
@@ -30,16 +30,22 @@ fn parse(alloc: Global, bytes: &[u8]) -> Result<Text, LoadError>
     }
 }
 
-/// Why a tree has no `go.mod`.
-fn lacking<F: Files>(alloc: Global, files: &mut F, root: &[u8]) -> LoadError
+/// Whether the root lists a file `go.mod`. A link isn't one, wherever it leads, so that no tree has a
+/// read wait for what another program writes.
+fn find_module<F: Files>(alloc: Global, files: &mut F, root: &[u8]) -> Result<(), LoadError>
     ensures same { F.told files.new ≡ F.told files.old }
-    ensures told { Told (F.told files.old) (λ m. LacksModule m root.now result) }
-    ensures cause { LoadCause {A = List ℕ} (F.faults files.old) (F.faults files.new) (Err result) }
+    ensures told { Told (F.told files.old) (λ m. FindsModule m root.now result) }
+    ensures cause { LoadCause (F.faults files.old) (F.faults files.new) result }
 {
-    match list(alloc, files, root, b"") {
-        Ok(_) => LoadError::NoModule,
-        Err(error) => error,
+    let listing = match list(alloc, files, root, b"") {
+        Ok(listing) => listing,
+        Err(error) => return Err(error),
+    };
+    let entries = listing.items();
+    if has_go_mod(entries) {
+        return Ok(());
     }
+    Err(LoadError::NoModule)
 }
 
 fn read_module<F: Files>(alloc: Global, files: &mut F, root: &[u8]) -> Result<Text, LoadError>
@@ -48,9 +54,11 @@ fn read_module<F: Files>(alloc: Global, files: &mut F, root: &[u8]) -> Result<Te
     ensures cause { LoadCause (F.faults files.old) (F.faults files.new) result }
     ensures module_path { IfOk result IsModulePath }
 {
+    if let Err(error) = find_module(alloc, files, root) {
+        return Err(error);
+    }
     match read(alloc, files, root, b"", b"go.mod") {
         Ok(bytes) => parse(alloc, bytes.bytes()),
-        Err(LoadError::Missing(_)) => Err(lacking(alloc, files, root)),
         Err(error) => Err(error),
     }
 }

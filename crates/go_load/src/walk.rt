@@ -159,7 +159,8 @@ fn is_go_mod(entry: &Entry) -> bool
     entry.name.bytes() == b"go.mod".as_slice()
 }
 
-fn has_go_mod(entries: &[Entry]) -> bool
+/// Whether these entries of a folder have a file `go.mod`.
+pub(crate) fn has_go_mod(entries: &[Entry]) -> bool
     ensures yes { result ≡ true → Has entries.now (file_entry go_mod) }
     ensures no { result ≡ false → Has entries.now (file_entry go_mod) → ⊥ }
 {

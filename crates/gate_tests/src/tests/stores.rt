@@ -114,13 +114,16 @@ fn entry(alloc: Global, name: &[u8], kind: EntryKind) -> Result<Entry, NoMemory>
     })
 }
 
-/// A store without end: each folder holds another one.
+/// A store without end: each folder holds another one, and the first one a `go.mod`.
 #[derive(Drop)]
 struct Endless;
 
 impl Endless {
-    fn entries(&self, alloc: Global) -> Result<List<Entry>, NoMemory> {
+    fn entries(&self, alloc: Global, folder: &[u8]) -> Result<List<Entry>, NoMemory> {
         let mut entries = List::new(alloc);
+        if folder == b"new".as_slice() {
+            entries.push(entry(alloc, b"go.mod", EntryKind::File)?)?;
+        }
         entries.push(entry(alloc, b"d", EntryKind::Folder)?)?;
         Ok(entries)
     }
@@ -131,8 +134,8 @@ impl Files for Endless {
 
     ghost faults = { λ _. 0 };
 
-    fn list(&mut self, alloc: Global, _folder: &[u8]) -> Result<List<Entry>, FilesError> {
-        Ok(self.entries(alloc)?)
+    fn list(&mut self, alloc: Global, folder: &[u8]) -> Result<List<Entry>, FilesError> {
+        Ok(self.entries(alloc, folder)?)
     }
 
     fn read(&mut self, alloc: Global, _path: &[u8], limit: u64) -> Result<Text, FilesError> {

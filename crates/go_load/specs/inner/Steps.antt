@@ -71,14 +71,15 @@ Parses bytes (Err (error.Limit name p)) = ⊥
 Parses bytes (Err error.ReadFault) = ⊥
 Parses bytes (Err error.NoMemory) = Unit {0}
 
--- a tree without a `go.mod`
-abbrev pub LacksModule : Contents → Path → LoadError → Type 0
-LacksModule m root (error.Missing p) = (IsThere m root → ⊥) × (p ≡ [])
-LacksModule m root error.NoModule = IsThere m root
-LacksModule m root error.BadModule = ⊥
-LacksModule m root (error.Limit name p) = ⊥
-LacksModule m root error.ReadFault = Unit {0}
-LacksModule m root error.NoMemory = Unit {0}
+-- looking for a `go.mod` in the root of a tree
+abbrev pub FindsModule : Contents → Path → Result (Unit {0}) LoadError → Type 0
+FindsModule m root (Ok u) = told_module m root ≢ None
+FindsModule m root (Err (error.Missing p)) = (IsThere m root → ⊥) × (p ≡ [])
+FindsModule m root (Err error.NoModule) = IsThere m root × (told_module m root ≡ None)
+FindsModule m root (Err error.BadModule) = ⊥
+FindsModule m root (Err (error.Limit name p)) = ⊥
+FindsModule m root (Err error.ReadFault) = Unit {0}
+FindsModule m root (Err error.NoMemory) = Unit {0}
 
 -- a limit at a path, or want of memory
 abbrev pub IsRefusal : LoadError → LoadError → Type 0
