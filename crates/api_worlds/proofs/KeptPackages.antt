@@ -1,5 +1,5 @@
 -- The lines of packages of which something is left out are those of all packages.
-use Rattle.std.proofs.Common.{◌≡◌, ◌≢◌, ◌<◌, ◌≤◌, ◌+◌, ℕ, Bool, true, false, List, [], ◌∷◌, ◌++◌, map, length, get_or, take, drop, refl, sym, ap, ◌∙◌, subst, append_assoc, append-nil, arith}
+use Rattle.std.proofs.Common.{◌≡◌, ◌==◌, ◌<◌, ◌≤◌, ◌+◌, ℕ, Bool, true, false, List, [], ◌∷◌, ◌++◌, map, length, get_or, take, drop, refl, sym, ap, ◌∙◌, subst, append_assoc, append-nil, arith}
 use Rattle.std.proofs.lemmas.List.{drop_more, take_more}
 use Rattle.std.specs.Cmp.Lexicographic.{slice_cmp}
 use Rattle.std.specs.Ordering.{is_lt, nat_cmp}
@@ -61,13 +61,9 @@ module _ (packages : List PackageLines) (path : List ℕ) where
 -- ---- the lines of all
 
 -- with lines, a package has its place
-pub some_lines : (path : List ℕ) (lines : List (List ℕ)) (ps new : List PackageLines) → length lines ≢ 0 → new ≡ placed path_of (record { path = path; lines = lines }) ps → new ≡ with_lines path lines ps
-some_lines path [] ps new n e = absurd (n refl)
-some_lines path (l ∷ ls) ps new n e = e
-
-pub no_lines : (path : List ℕ) (lines : List (List ℕ)) (ps : List PackageLines) → length lines ≡ 0 → ps ≡ with_lines path lines ps
-no_lines path [] ps e = refl
-no_lines path (l ∷ ls) ps e = absurd (omega (arith, e))
+pub some_lines : (path : List ℕ) (lines : List (List ℕ)) (ps : List PackageLines) → (length lines == 0) ≡ false → placed path_of (record { path = path; lines = lines }) ps ≡ with_lines path lines ps
+some_lines path [] ps e = absurd (cc)
+some_lines path (l ∷ ls) ps e = refl
 
 pub lines_more : (ps : List PackageLines) (p : PackageLines) → all_lines (ps ++ p ∷ []) ≡ all_lines ps ++ p.lines
 lines_more [] p = append-nil p.lines
