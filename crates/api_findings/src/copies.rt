@@ -89,6 +89,6 @@ pub(crate) fn left_out_at(
 {
     match left_out.get(number) {
         None => Ok(None),
-        Some(left_out) => Ok(Some(left_out_copied(alloc, left_out)?)),
+        Some(omitted) => Ok(Some(left_out_copied(alloc, omitted)?)),
     }
 }

@@ -53,8 +53,8 @@ pub fn skipped_text(
     ensures { IfOk result (λ text. text ≡ skipped_text platforms.now left_out.now) }
 {
     let mut text = Vec::new(alloc);
-    for (platform, left_out) in platforms.iter().zip(left_out) {
-        add_platform(&mut text, *platform, left_out)?;
+    for (platform, omitted) in platforms.iter().zip(left_out) {
+        add_platform(&mut text, *platform, omitted)?;
     }
     Ok(Text::from_vec(text))
 }
@@ -111,8 +111,8 @@ pub(crate) fn add_counted(
 ) -> Result<(), NoMemory>
     ensures { OnOk result (text.new.items ≡ text.old.items ++ counted_text platforms.now left_out.now) }
 {
-    for (platform, left_out) in platforms.iter().zip(left_out) {
-        add_counts(text, *platform, left_out)?;
+    for (platform, omitted) in platforms.iter().zip(left_out) {
+        add_counts(text, *platform, omitted)?;
     }
     Ok(())
 }
