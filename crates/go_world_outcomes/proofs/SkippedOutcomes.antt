@@ -1,6 +1,6 @@
 -- Of packages that became something some list is what is left out.
-use Rattle.std.proofs.Common.{◌≡◌, ◌≢◌, ◌⊎◌, ◌<◌, ◌+◌, ℕ, zero, suc, Bool, true, false, nat_eq, List, [], ◌∷◌, length, Some, slice_get, refl, sym, ◌∙◌, subst, inl, inr, arith}
-use Rattle.std.proofs.lemmas.Bool.{eq-eqb, eqb-true}
+use Rattle.std.proofs.Common.{◌≡◌, ◌≢◌, ◌⊎◌, ◌<◌, ◌+◌, ℕ, zero, suc, Bool, true, false, nat_eq, List, [], ◌∷◌, length, Some, slice_get, refl, subst, inl, inr, arith}
+use Rattle.std.proofs.lemmas.Bool.{eqb-false, eqb-true}
 use Rattle.go_existence.specs.Existence.{NotNone}
 use Rattle.go_existence.proofs.DoubleNegation.{bind, decided, so, sure}
 use Rattle.go_exposed.specs.BeyondProfile.{IsBeyond, beyond_number, beyond_type, beyond_value, beyond_import, beyond_another}
@@ -10,7 +10,6 @@ use Rattle.go_exposed.specs.OfferedWorlds.{Become, Becomes, IsWorldOf, become_mo
 use Rattle.go_exposed.specs.SkippedDeclarations.{AreSkippedFrom, IsSkippedOf, Skipped, skipped_as, skipped_kept, skipped_more, skipped_none}
 use Rattle.go_exposed.specs.SkippedWorlds.{AreSkipped, IsSkippedAs, Skip, skip_more, skip_none}
 use Rattle.go_model.specs.worlds.Worlds.{Packages}
-use Rattle.go_rules.proofs.OneKind.{no_truth}
 use Rattle.go_typings.proofs.Cells.{either}
 use Rattle.go_typings.specs.Assignments.{At}
 use Rattle.go_typings.specs.Declarations.{Declaration, declarations}
@@ -20,7 +19,7 @@ use Rattle.go_typings.specs.Sources.{PackageSource, Setting}
 
 same_by : (m n : ℕ) (r : Bool) → nat_eq m n ≡ r → (m ≡ n) ⊎ (m ≢ n)
 same_by m n true e = inl (eqb-true m n e)
-same_by m n false e = inr (λ f. no_truth (sym (eq-eqb m n f) ∙ e))
+same_by m n false e = inr (eqb-false m n e)
 
 same_or : (m n : ℕ) → (m ≡ n) ⊎ (m ≢ n)
 same_or m n = same_by m n (nat_eq m n) refl
