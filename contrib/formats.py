@@ -42,6 +42,11 @@ def told(broken):
     return found + " [%s]" % ", ".join(broken.platforms)
 
 
+def left_out(side, platform, count):
+    """How many declarations of a tree were left out, in words."""
+    return "%d declaration%s of the %s tree left out on %s, which no other module sees" % (count, "s" if count > 1 else "", side, platform)
+
+
 class Run:
     """What was judged: the sides, the platforms, the declarations, and where the new tree stands in its repository."""
 
@@ -143,7 +148,8 @@ def in_json(run):
         for name, verdict in judged.verdicts.items()]
     made = {"module": run.new.module, "old": of_side(run.old), "new": of_side(run.new), "go": run.cut.go, "status": judged.status,
             "refused": judged.fault if judged.is_refused else None, "notes": judged.notes, "platforms": platforms, "breaks": [broken(each) for each in judged.breaks],
-            "lost": judged.lost, "new_lines": judged.new, "class": judged.kind, "version": judged.version}
+            "lost": judged.lost, "new_lines": judged.new, "skipped": [{"tree": side, "platform": name, "declarations": count} for side, name, count in judged.skipped],
+            "class": judged.kind, "version": judged.version}
     return json.dumps(made, indent=2, ensure_ascii=False) + "\n"
 
 
@@ -166,7 +172,7 @@ def sarif(run):
                   "defaultConfiguration": {"level": "error"}, "properties": {"page": "docs/rules.md#" + rule}} for rule in used]
     results = [{"ruleId": rule, "ruleIndex": used.index(rule), "level": "error", "message": {"text": message}, "locations": location(run, place),
                 "partialFingerprints": {"finding/v1": hashlib.sha256((rule + " " + key).encode()).hexdigest()}} for rule, message, place, key in run.findings()]
-    notes = [{"level": "note", "message": {"text": note}} for note in run.judged.notes]
+    notes = [{"level": "note", "message": {"text": note}} for note in run.judged.notes + [left_out(*each) for each in run.judged.skipped]]
     if run.judged.is_refused:
         notes.insert(0, {"level": "error", "message": {"text": run.judged.fault}})
     ended = {"executionSuccessful": not run.judged.is_refused, "exitCode": run.judged.status, "toolExecutionNotifications": notes}

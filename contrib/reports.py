@@ -3,6 +3,7 @@ import re
 
 BREAK = re.compile(r"break (\S+) (\S+) (\S+) (.*)$")
 VERDICT = re.compile(r"judge (\S+): (\w+)$")
+SKIPPED = re.compile(r"skipped (old|new) (\S+) ([0-9]+)$")
 PLACE = re.compile(r"apigate: (?:old|new) \S+: (.*?):([0-9]+):([0-9]+): ")
 
 
@@ -31,6 +32,7 @@ class Judged:
         self.lost = [line[1:] for line in report.splitlines() if line.startswith("-")]
         self.new = [line[1:] for line in report.splitlines() if line.startswith("+")]
         self.verdicts = dict(found.groups() for found in map(VERDICT.match, report.splitlines()) if found)
+        self.skipped = [(side, platform, int(count)) for side, platform, count in (found.groups() for found in map(SKIPPED.match, report.splitlines()) if found)]
         self.kind, self.version = self.last("class "), self.last("version ")
         self.breaks = self.broken()
         self.places = {}

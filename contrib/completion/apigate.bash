@@ -10,6 +10,7 @@ _apigate_options() {
         judge) echo "--old --new $common" ;;
         advise) echo "--old --new --version $common" ;;
         gate) echo "--old --new --api --version --except $common" ;;
+        skipped) echo "--new $common" ;;
         make) echo "--seed --size --workers" ;;
     esac
 }
@@ -29,7 +30,7 @@ _apigate_list() {
 }
 
 _apigate() {
-    local modes="features frozen judge advise gate make"
+    local modes="features frozen judge advise gate skipped make"
     local platforms="linux-386 linux-arm windows-386 linux-amd64 linux-arm64 linux-riscv64 linux-s390x android-arm64 darwin-amd64
         darwin-arm64 ios-arm64 freebsd-amd64 illumos-amd64 windows-amd64"
     local current=${COMP_WORDS[COMP_CWORD]} option at left=""

@@ -25,20 +25,31 @@ type answer struct {
 	Lost    []string
 }
 
-// Answers are all that may be said, with Go's errors.
+// Answers are all that may be said, with Go's errors. Where features may be said, Skipped is what was left out for them, and Cut are the
+// texts of the files without that.
 type Answers struct {
 	Case    string
 	Answers []answer
 	Errors  []string
 	Counts  map[string]int
+	Skipped []Skipped
+	Cut     map[string]string `json:"-"`
 }
 
-// An outcome is what may be said of a package, by classes of differences: that it is typed, or why it is refused, and then the places
-// of all that is lost.
+// An outcome is what may be said of a package, by classes of differences: that it is typed, and what is left out by which causes, or why it
+// is refused, and then the places of all that is lost and not left out.
 type outcome struct {
 	classes []string
 	line    string
 	lost    []string
+	left    map[int]string
+}
+
+// A reading is what Go's type checker says of a package, and its outcomes.
+type reading struct {
+	outcomes []outcome
+	sieve    *sieve
+	typed    typed
 }
 
 // typed is what Go's type checker says of a package.
@@ -236,20 +247,44 @@ func (c *checking) repeated(files []*ast.File, l *Listing, done typed) token.Pos
 	return first
 }
 
-// judged is the outcome where these declarations are faulty, by these classes.
-func (c *checking) judged(f *units.Folder, l *Listing, faulty map[int]bool, classes map[string]bool) outcome {
-	lost := l.lost(faulty)
-	found := outcome{classes: SortedKeys(classes)}
-	for at, d := range l.All {
-		if lost[at] {
-			line := c.told(f, d.Place(), "no typing")
+// judged is the outcome where these declarations are faulty, by these classes, besides those that are lost for what the profile hasn't.
+func (c *checking) judged(s *sieve, faulty map[int]bool, classes map[string]bool) outcome {
+	all := map[int]bool{}
+	for at := range faulty {
+		all[at] = true
+	}
+	for at := range s.certain {
+		all[at] = true
+	}
+	lost := s.lost(all)
+	found, causes := outcome{classes: SortedKeys(classes), left: map[int]string{}}, s.beyond(lost)
+	for at, d := range s.All {
+		switch {
+		case lost[at] && causes[at] != "" && !s.seen[at]:
+			found.left[at] = causes[at]
+		case lost[at]:
+			line := c.told(s.folder, d.Place(), "no typing")
 			if found.line == "" {
-				found.line = line
+				found.line, found.classes = line, SortedKeys(s.because(at, faulty, classes))
 			}
 			found.lost = append(found.lost, line)
 		}
 	}
 	return found
+}
+
+// because are the classes for which a declaration is lost: these, where it leads to what is faulty by them.
+func (s *sieve) because(at int, faulty map[int]bool, classes map[string]bool) map[string]bool {
+	own := map[string]bool{}
+	for to := range s.reached(map[int]bool{at: true}) {
+		if faulty[to] {
+			return classes
+		}
+		if s.certain[to] != "" {
+			own[s.certain[to]] = true
+		}
+	}
+	return own
 }
 
 func SortedKeys(set map[string]bool) []string {
@@ -271,49 +306,61 @@ func (c *checking) twiceDeclared(f *units.Folder, files []*ast.File, l *Listing,
 		return all
 	}
 	if at == token.NoPos {
-		all = append(all, c.judged(f, l, l.faulty(done.errors), nil))
+		all = append(all, c.judged(c.sieveOf(f, l, done.info), l.faulty(done.errors), nil))
 	}
 	return append(all, outcome{classes: []string{baseless}, line: c.told(f, other, "declared twice")})
 }
 
+// isOfConstants says whether a position is in a declaration of constants.
+func (l *Listing) isOfConstants(at token.Pos) bool {
+	for _, d := range l.All {
+		if d.Kind == token.CONST && d.has(at) {
+			return true
+		}
+	}
+	return false
+}
+
 // unsound are the outcomes of a package by Go's errors: Go's own, those without the errors that Go alone finds, and those in which one
 // declaration more is faulty.
-func (c *checking) unsound(f *units.Folder, l *Listing, done typed) (all []outcome) {
+func (c *checking) unsound(s *sieve, done typed) (all []outcome) {
 	var left []types.Error
 	ofGoAlone := map[string]bool{}
 	for _, one := range done.errors {
-		if class := ofGo(one.Msg); class != "" {
+		if class := ofGo(one.Msg); class != "" && !(class == variable && s.isOfConstants(one.Pos)) {
 			ofGoAlone[class] = true
-		} else if l.isTwiceByStars(one) {
+		} else if s.isTwiceByStars(one) {
 			ofGoAlone[starred] = true
 		} else {
 			left = append(left, one)
 		}
 	}
-	all = append(all, c.judged(f, l, l.faulty(done.errors), nil))
-	without := l.faulty(left)
-	for at, d := range l.All {
-		if d.isStarred() && l.addFinders(without, at, done.info) {
+	all = append(all, c.judged(s, s.faulty(done.errors), nil))
+	without := s.faulty(left)
+	for at, d := range s.All {
+		if d.isStarred() && s.addFinders(without, at, done.info) {
 			ofGoAlone[starred] = true
 		}
 	}
 	if len(ofGoAlone) > 0 {
-		all = append(all, c.judged(f, l, without, ofGoAlone))
+		all = append(all, c.judged(s, without, ofGoAlone))
 	}
-	for at := range l.All {
-		if classes := l.Own(at, done.info, done.pack); len(classes) > 0 {
+	for at := range s.All {
+		if classes := s.Own(at, done.info, done.pack); len(classes) > 0 {
 			faulty := map[int]bool{at: true}
 			if classes[aliased] {
-				l.addFinders(faulty, at, done.info)
+				s.addFinders(faulty, at, done.info)
 			}
-			all = append(all, c.judged(f, l, faulty, classes))
+			if one := c.judged(s, faulty, classes); one.line != "" {
+				all = append(all, one)
+			}
 		}
 	}
 	return all
 }
 
-// outcomes are those of a package, Go's own first.
-func (c *checking) outcomes(f *units.Folder, all *Answers) []outcome {
+// read gives the outcomes of a package, Go's own first.
+func (c *checking) read(f *units.Folder, all *Answers) reading {
 	var files []*ast.File
 	for _, file := range f.Files {
 		files = append(files, withUsed(file, c.Set))
@@ -325,23 +372,21 @@ func (c *checking) outcomes(f *units.Folder, all *Answers) []outcome {
 			all.Errors = append(all.Errors, fmt.Sprintf("%s: %s", c.Set.Position(one.Pos), strings.Join(strings.Fields(one.Msg), " ")))
 		}
 	}
-	c.known[f.Path] = done.pack
 	if done.failed {
-		return []outcome{{classes: []string{differences.Failing}, line: "failed"}}
+		return reading{outcomes: []outcome{{classes: []string{differences.Failing}, line: "failed"}}}
 	}
 	if found := c.twiceDeclared(f, files, l, done); len(found) > 0 {
-		return found
+		return reading{outcomes: found}
 	}
-	for _, file := range f.Files {
-		for _, use := range file.Uses {
-			if !c.Found(f, use.Path) {
-				return []outcome{{line: fmt.Sprintf("%s %s: import not found at %d", f.Path, file.Path, use.Place)}}
-			}
-		}
+	if file, place, is := c.needed(f, l); is {
+		return reading{outcomes: []outcome{{line: fmt.Sprintf("%s %s: import not found at %d", f.Path, file, place)}}}
+	}
+	for i, file := range f.Files {
+		files[i] = c.withFound(f, file, file.Tree)
 	}
 	done = c.checkInOrder(f, files, all.Counts)
-	c.known[f.Path] = done.pack
-	return c.unsound(f, l, done)
+	s := c.sieveOf(f, l, done.info)
+	return reading{c.unsound(s, done), s, done}
 }
 
 func isPublic(f *units.Folder) bool {
@@ -400,7 +445,7 @@ func once(lines []string) []string {
 
 // AnswersTo answers a question.
 func AnswersTo(asked units.Question) Answers {
-	all := Answers{Answers: []answer{}, Counts: map[string]int{}}
+	all := Answers{Answers: []answer{}, Counts: map[string]int{}, Cut: map[string]string{}}
 	r, order, refused := units.UnitsOn(asked)
 	if refused != "" {
 		all.Answers = append(all.Answers, answer{[]string{}, []string{strings.TrimSuffix(refused, "\n")}, nil})
@@ -416,11 +461,12 @@ func AnswersTo(asked units.Question) Answers {
 	for _, f := range order {
 		all.Counts["packages"]++
 		goesOn := false
-		var way []string
-		for i, one := range c.outcomes(f, &all) {
+		var way outcome
+		found := c.read(f, &all)
+		for i, one := range found.outcomes {
 			if one.line == "" {
-				if !goesOn || len(one.classes) < len(way) {
-					way = one.classes
+				if !goesOn || len(one.classes) < len(way.classes) {
+					way = one
 				}
 				goesOn = true
 				continue
@@ -432,7 +478,11 @@ func AnswersTo(asked units.Question) Answers {
 		if !goesOn {
 			return all
 		}
-		for _, class := range way {
+		if len(way.left) > 0 {
+			found.typed = c.leaveOut(found.sieve, way.left, found.typed, &all)
+		}
+		c.known[f.Path] = found.typed.pack
+		for _, class := range way.classes {
 			met[class] = true
 		}
 		if isPublic(f) {

@@ -19,8 +19,9 @@ type declaration struct {
 	Method   *ast.FuncDecl
 	Kind     token.Token
 	alias    bool
-	repeated ast.Expr     // the type that a spec of constants repeats
-	leads    map[int]bool // the declarations on which it depends
+	from     *ast.ValueSpec // the spec of which constants or variables have the type and values
+	repeated ast.Expr       // the type that a spec of constants repeats
+	leads    map[int]bool   // the declarations on which it depends
 }
 
 func (d *declaration) Place() token.Pos { return d.Names[0].Pos() }
@@ -70,7 +71,7 @@ func DeclarationsOf(files []*ast.File) (all []*declaration) {
 						if before = from; from != spec {
 							one.repeated = from.Type
 						}
-						one.Names = spec.Names
+						one.Names, one.from = spec.Names, from
 						if from.Type != nil {
 							one.Trees = append(one.Trees, from.Type)
 						}
@@ -290,23 +291,7 @@ func (l *Listing) lost(faulty map[int]bool) map[int]bool {
 			into[to] = append(into[to], at)
 		}
 	}
-	found := map[int]bool{}
-	var queue []int
-	for at := range faulty {
-		found[at] = true
-		queue = append(queue, at)
-	}
-	for len(queue) > 0 {
-		at := queue[0]
-		queue = queue[1:]
-		for _, from := range into[at] {
-			if !found[from] {
-				found[from] = true
-				queue = append(queue, from)
-			}
-		}
-	}
-	return found
+	return spread(faulty, func(at int) []int { return into[at] })
 }
 
 // LeadsTo says whether one or more steps lead from a declaration to another.

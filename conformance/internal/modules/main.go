@@ -4,6 +4,7 @@
 //	                          own sources and those of all that it imports, wherever Go finds them
 //	answers PLATFORM          reads lines of a module's folder, a tab and a folder of declarations, as --std names one; answers each by
 //	                          a line of JSON, which the package answers describes, with refusals in the words of this gate
+//	cut PLATFORM OUT          does the same, and writes each module without what is left out of it, the first into OUT/0
 //	counts FOLDER             tells what the limits count in a module's tree
 //	parts FOLDER              tells as JSON, for each folder of a module with a package, the folders of the module that it stands on
 //	tree CUT MODULE OUT       writes the packages of a folder of declarations as those of a module, where none is internal
@@ -96,13 +97,12 @@ func causes(asked units.Question, module, line string) []string {
 }
 
 // fromFolders answers what a module's features are over a folder of declarations.
-func fromFolders(folder, platform string, std map[string]string) (all answers.Answers) {
+func fromFolders(tree *moduleTree, platform string, std map[string]string) (all answers.Answers) {
 	defer func() {
 		if fault := recover(); fault != nil {
 			all = answers.Answers{Errors: []string{fmt.Sprint(fault)}}
 		}
 	}()
-	tree := readModule(folder)
 	asked := units.Question{Word: "features", Platform: platform, Files: tree.files, StdFiles: std}
 	asked.Files["go.mod"] = "module " + tree.module + "\n"
 	all = answers.AnswersTo(asked)
@@ -119,6 +119,17 @@ func fromFolders(folder, platform string, std map[string]string) (all answers.An
 		one.Lines[0] = "apigate: new " + platform + ": " + inWords(asked, tree.module, one.Lines[0])
 	}
 	return all
+}
+
+// eachTree gives each line's module and the files of its folder of declarations.
+func eachTree(use func(tree *moduleTree, std map[string]string)) {
+	last, files := "", map[string]string{}
+	pairs(func(folder, std string) {
+		if std != last {
+			last, files = std, readBelow(std, false).files
+		}
+		use(readModule(folder), files)
+	})
 }
 
 // partsOf tells what each package of a module stands on in it.
@@ -194,12 +205,19 @@ func main() {
 	case len(words) == 3 && words[0] == "lines":
 		linesOf(words[1], words[2])
 	case len(words) == 2 && words[0] == "answers":
-		last, files := "", map[string]string{}
-		pairs(func(folder, std string) {
-			if std != last {
-				last, files = std, readBelow(std, false).files
+		eachTree(func(tree *moduleTree, std map[string]string) { tell(fromFolders(tree, words[1], std)) })
+	case len(words) == 3 && words[0] == "cut":
+		count := 0
+		eachTree(func(tree *moduleTree, std map[string]string) {
+			answer := fromFolders(tree, words[1], std)
+			for place, text := range tree.files {
+				if cut, is := answer.Cut[place]; is {
+					text = cut
+				}
+				write(filepath.Join(words[2], fmt.Sprint(count)), place, []byte(text))
 			}
-			tell(fromFolders(folder, words[1], files))
+			tell(answer)
+			count++
 		})
 	case len(words) == 2 && words[0] == "counts":
 		tell(readBelow(words[1], true).counts)
@@ -214,7 +232,7 @@ func main() {
 	case len(words) > 5 && words[0] == "shuffled":
 		writeShuffled(words[1], words[2], words[3], words[4], words[5:])
 	default:
-		fmt.Fprintln(os.Stderr, "modules: lines, answers, counts, parts, tree, again, paths or shuffled")
+		fmt.Fprintln(os.Stderr, "modules: lines, answers, cut, counts, parts, tree, again, paths or shuffled")
 		os.Exit(2)
 	}
 }

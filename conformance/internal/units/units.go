@@ -25,14 +25,14 @@ type treeFile struct {
 	Fault, Clause string
 }
 
-type usedImport struct {
-	name, Path string
+type UsedImport struct {
+	Name, Path string
 	Place      int
 }
 
 type ReadFile struct {
 	Path, name string
-	Uses       []usedImport
+	Uses       []UsedImport
 	Tree       *ast.File
 }
 
@@ -394,7 +394,7 @@ func (r *UnitRun) read(f *Folder) string {
 		}
 		for i, spec := range tree.Imports {
 			if named[i] != "" {
-				file.Uses = append(file.Uses, usedImport{named[i], Unquoted(spec), set.Position(spec.Path.Pos()).Offset})
+				file.Uses = append(file.Uses, UsedImport{named[i], Unquoted(spec), set.Position(spec.Path.Pos()).Offset})
 			}
 		}
 		f.Files = append(f.Files, file)
@@ -531,7 +531,7 @@ func (r *UnitRun) write(out io.Writer, f *Folder) {
 			if r.Found(f, use.Path) {
 				found = "found"
 			}
-			fmt.Fprintf(out, "    %s %s %s %d\n", use.name, use.Path, found, use.Place)
+			fmt.Fprintf(out, "    %s %s %s %d\n", use.Name, use.Path, found, use.Place)
 		}
 	}
 }

@@ -11,7 +11,7 @@ use Rattle.go_model.specs.declared.files.platform.Platform.{Platform}
 use Rattle.go_model.specs.declared.files.tree.Tree.{Tree}
 use Rattle.go_model.specs.worlds.Worlds.{Packages}
 use Rattle.go_reading.specs.TreeUnits.{AreUnitsOfTrees}
-use Rattle.go_typings.specs.PackageWorlds.{IsWorldOf}
+use Rattle.go_exposed.specs.OfferedWorlds.{IsWorldOf}
 use Rattle.go_units.specs.declared.unit_error.UnitError.{UnitError}
 use Rattle.go_units.specs.declared.unit_list.Units.{Units}
 

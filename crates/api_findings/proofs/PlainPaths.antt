@@ -13,7 +13,8 @@ use Rattle.go_base.specs.Lists.{Each, Has}
 use Rattle.go_model.specs.declared.types.package.Package.{Package}
 use Rattle.go_model.specs.files.Trees.{are_elements, begins_element, is_element, is_element_byte, is_within}
 use Rattle.go_model.specs.worlds.Worlds.{Packages, path_of}
-use Rattle.go_typings.specs.PackageWorlds.{Become, become_none, become_more, Becomes, IsWorldOf, Outcome, blocked, over, refused, typed, with_outcome}
+use Rattle.go_exposed.specs.OfferedWorlds.{Become, become_none, become_more, Becomes, IsWorldOf}
+use Rattle.go_typings.specs.PackageWorlds.{Outcome, blocked, over, refused, typed, with_outcome}
 use Rattle.go_typings.specs.Sources.{PackageSource}
 
 -- ---- paths of elements

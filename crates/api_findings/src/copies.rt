@@ -53,15 +53,30 @@ pub(crate) fn verdict_at(
     }
 }
 
+fn text_copied(alloc: Global, text: &Text) -> Result<Text, NoMemory>
+    ensures { IfOk result (λ copy. copy ≡ text.now) }
+{
+    Text::of(alloc, text.bytes())
+}
+
 fn texts_copied(alloc: Global, texts: &[Text]) -> Result<List<Text>, NoMemory>
     ensures { IfOk result (λ copy. copy ≡ texts.now) }
 {
     let mut copy = List::new(alloc);
     for text in texts {
-        let same = Text::of(alloc, text.bytes())?;
+        let same = text_copied(alloc, text)?;
         copy.push(same)?;
     }
     Ok(copy)
+}
+
+fn left_out_copied(alloc: Global, left_out: &LeftOut) -> Result<LeftOut, NoMemory>
+    ensures { IfOk result (λ copy. copy ≡ left_out.now) }
+{
+    Ok(LeftOut {
+        old: left_out.old,
+        new: texts_copied(alloc, left_out.new.items())?,
+    })
 }
 
 /// The same as what was left out on the platform of this number, where there is one.
@@ -74,9 +89,6 @@ pub(crate) fn left_out_at(
 {
     match left_out.get(number) {
         None => Ok(None),
-        Some(left_out) => Ok(Some(LeftOut {
-            old: left_out.old,
-            new: texts_copied(alloc, left_out.new.items())?,
-        })),
+        Some(omitted) => Ok(Some(left_out_copied(alloc, omitted)?)),
     }
 }

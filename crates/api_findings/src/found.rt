@@ -70,12 +70,14 @@ fn featured(alloc: Global, world: PlatformWorld) -> Result<Found, NoMemory>
     ensures found { IfOk result (λ found. (found.verdict ≡ None) × IsListing (IsFeature world.world) found.lines) }
     ensures left_out { IfOk result (λ found. found.left_out ≡ left_out_alone world.left_out) }
 {
-    let (world, new) = world.into_parts();
-    let lines = features(alloc, &world)?;
+    let lines = features(alloc, &world.world)?;
     Ok(Found {
         lines,
         verdict: None,
-        left_out: LeftOut { old: 0, new },
+        left_out: LeftOut {
+            old: 0,
+            new: world.into_left_out(),
+        },
     })
 }
 
@@ -85,16 +87,15 @@ fn compared(alloc: Global, old: &PlatformWorld, new: PlatformWorld) -> Result<Fo
     ensures found { IfOk result (IsCompared old.now.world new.world) }
     ensures left_out { IfOk result (λ found. found.left_out ≡ left_out_of old.now.left_out new.left_out) }
 {
-    let (new, left_out) = new.into_parts();
     let before = features(alloc, &old.world)?;
-    let lines = features(alloc, &new)?;
-    let verdict = judge_listed(alloc, &old.world, &new, before.items(), lines.items())?;
+    let lines = features(alloc, &new.world)?;
+    let verdict = judge_listed(alloc, &old.world, &new.world, before.items(), lines.items())?;
     Ok(Found {
         lines,
         verdict: Some(verdict),
         left_out: LeftOut {
             old: old.left_out.items().len(),
-            new: left_out,
+            new: new.into_left_out(),
         },
     })
 }

@@ -67,9 +67,9 @@ fn decide<F: Files, G: Gate, L: Copy>(
 /// `out`, a fault line to `err`, in pieces of at most 65,536 bytes, none of them empty.
 ///
 /// The report of `features` is the feature lines of the new tree; that of `frozen` the lines that it lost and gained
-/// against frozen lines; that of `judge` what is broken on each platform where the new tree takes the place of the old one, and the
-/// class of the release; that of `advise` the class and the version that follows the last one; that of `gate` what `frozen`
-/// and `judge` tell, and that version. In mode `make` both trees are the generator's, and nothing is asked of the store: the
+/// against frozen lines; that of `judge` what is broken on each platform where the new tree takes the place of the old one, how much was
+/// left out of both, and the class of the release; that of `advise` how much was left out, the class and the version that follows the last
+/// one; that of `gate` what `frozen` and `judge` tell, and that version; that of `skipped` what was left out of the new tree. In mode `make` both trees are the generator's, and nothing is asked of the store: the
 /// report is how many packages and feature lines they have and how much is broken, and the class.
 ///
 /// The status is `Words` exactly where the words aren't good. Else it is `Refused` where the trees, the files of frozen lines

@@ -1,7 +1,8 @@
 -- The lines of platforms, one after another.
-use Rattle.std.proofs.Common.{◌≡◌, ◌⊎◌, inl, inr, ℕ, List, [], ◌∷◌, ◌++◌, refl, sym, ap, ◌∙◌, append_assoc, append-nil}
+use Rattle.std.proofs.Common.{◌≡◌, ◌≢◌, ◌⊎◌, inl, inr, ℕ, zero, suc, List, [], ◌∷◌, ◌++◌, refl, sym, ap, ◌∙◌, append_assoc, append-nil, arith}
 use Rattle.go_model.specs.declared.files.platform.Platform.{Platform}
-use Rattle.api_reports.specs.Reports.{by_platform, unlines}
+use Rattle.api_reports.specs.Reports.{by_platform, count_line, count_lines, unlines}
+use Rattle.api_texts.specs.declared.lines.Side.{Side}
 use Rattle.api_reports.proofs.TextLines.{unlines_both}
 
 module _ {A : Type 0} (lines_of : Platform → A → List (List ℕ)) where
@@ -19,3 +20,13 @@ module _ {A : Type 0} (lines_of : Platform → A → List (List ℕ)) where
 
   pub platforms_done : {all : List ℕ} (ps : List Platform) (xs : List A) (text : List ℕ) → (ps ≡ []) ⊎ (xs ≡ []) → text ++ unlines (by_platform lines_of ps xs) ≡ all → text ≡ all
   platforms_done ps xs text h r = sym (append-nil text) ∙ ap (λ (w : List (List ℕ)). text ++ unlines w) (sym (no_lines ps xs h)) ∙ r
+
+-- ---- counts
+
+pub counted_none : (s : Side) (p : Platform) (n : ℕ) (text : List ℕ) → n ≡ 0 → text ≡ text ++ unlines (count_lines s p n)
+counted_none s p zero text e = sym (append-nil text)
+counted_none s p (suc n) text e = absurd (omega (arith, e))
+
+pub counted_some : (s : Side) (p : Platform) (n : ℕ) (text new : List ℕ) → n ≢ 0 → new ≡ text ++ count_line s p n ++ 10 ∷ [] → new ≡ text ++ unlines (count_lines s p n)
+counted_some s p zero text new n e = absurd (n refl)
+counted_some s p (suc n) text new h e = e

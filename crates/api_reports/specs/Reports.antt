@@ -70,10 +70,14 @@ skipped_lines p l = map (skipped_line p) l.new
 abbrev pub skipped_text : List Platform → List LeftOut → List ℕ
 skipped_text ps ls = unlines (by_platform skipped_lines ps ls)
 
--- how many were left out of a tree on a platform, where some were
+-- the line of how many were left out of a tree on a platform
+abbrev pub count_line : Side → Platform → ℕ → List ℕ
+count_line s p n = codes "skipped " ++ side_name s ++ codes " " ++ name_of p ++ codes " " ++ decimal n
+
+-- that, where some were
 abbrev pub count_lines : Side → Platform → ℕ → List (List ℕ)
 count_lines s p zero = []
-count_lines s p (suc n) = (codes "skipped " ++ side_name s ++ codes " " ++ name_of p ++ codes " " ++ decimal (suc n)) ∷ []
+count_lines s p (suc n) = count_line s p (suc n) ∷ []
 
 -- of the old tree and of the new one
 abbrev pub counted_lines : Platform → LeftOut → List (List ℕ)

@@ -1,6 +1,6 @@
 //! The texts of what was left out.
 ghost use Rattle.std.specs.Prelude.{◌≡◌, ◌++◌, ◌∷◌, [], OnOk, IfOk, map};
-ghost use Rattle.api_reports.specs.Reports.{by_platform, count_lines, counted_lines, counted_text, skipped_line, skipped_lines, skipped_text, unlines};
+ghost use Rattle.api_reports.specs.Reports.{by_platform, count_line, count_lines, counted_lines, counted_text, skipped_line, skipped_lines, skipped_text, unlines};
 
 use api_texts::left_out::LeftOut;
 use api_texts::lines::Side;
@@ -10,24 +10,38 @@ use go_model::files::platform::Platform;
 use itoa::Buffer;
 use std::alloc::Global;
 
-fn add_skipped(text: &mut Vec<u8>, platform: Platform, declaration: &[u8]) -> Result<(), NoMemory>
+fn add_skipped(
+    text: &mut Vec<u8>,
+    platform: Platform,
+    declaration: &Text,
+) -> Result<(), NoMemory>
     ensures { OnOk result (text.new.items ≡ text.old.items ++ skipped_line platform declaration.now ++ 10 ∷ []) }
 {
     text.extend_from_slice(b"skipped ")?;
     text.extend_from_slice(platform.name())?;
     text.extend_from_slice(b" ")?;
-    text.extend_from_slice(declaration)?;
+    text.extend_from_slice(declaration.bytes())?;
     text.push(b'\n')?;
+    Ok(())
+}
+
+fn add_declarations(
+    text: &mut Vec<u8>,
+    platform: Platform,
+    declarations: &[Text],
+) -> Result<(), NoMemory>
+    ensures { OnOk result (text.new.items ≡ text.old.items ++ unlines (map (skipped_line platform) declarations.now)) }
+{
+    for declaration in declarations {
+        add_skipped(text, platform, declaration)?;
+    }
     Ok(())
 }
 
 fn add_platform(text: &mut Vec<u8>, platform: Platform, left_out: &LeftOut) -> Result<(), NoMemory>
     ensures { OnOk result (text.new.items ≡ text.old.items ++ unlines (skipped_lines platform left_out.now)) }
 {
-    for declaration in left_out.new.items() {
-        add_skipped(text, platform, declaration.bytes())?;
-    }
-    Ok(())
+    add_declarations(text, platform, left_out.new.items())
 }
 
 /// The text of what was left out of the new tree: for each platform, which has it in the same place, a line for each declaration.
@@ -39,13 +53,33 @@ pub fn skipped_text(
     ensures { IfOk result (λ text. text ≡ skipped_text platforms.now left_out.now) }
 {
     let mut text = Vec::new(alloc);
-    for (platform, left_out) in platforms.iter().zip(left_out) {
-        add_platform(&mut text, *platform, left_out)?;
+    for (platform, omitted) in platforms.iter().zip(left_out) {
+        add_platform(&mut text, *platform, omitted)?;
     }
     Ok(Text::from_vec(text))
 }
 
+fn add_count_line(
+    text: &mut Vec<u8>,
+    side: Side,
+    platform: Platform,
+    count: usize,
+) -> Result<(), NoMemory>
+    ensures { OnOk result (text.new.items ≡ text.old.items ++ count_line side platform count ++ 10 ∷ []) }
+{
+    let mut buffer = Buffer::new();
+    text.extend_from_slice(b"skipped ")?;
+    text.extend_from_slice(side.name())?;
+    text.extend_from_slice(b" ")?;
+    text.extend_from_slice(platform.name())?;
+    text.extend_from_slice(b" ")?;
+    text.extend_from_slice(buffer.format(count).as_bytes())?;
+    text.push(b'\n')?;
+    Ok(())
+}
+
 // How many were left out of a tree, where some were.
+#[tactic(auto, using(crate::proofs::PlatformLines::counted_none, crate::proofs::PlatformLines::counted_some))]
 fn add_count(
     text: &mut Vec<u8>,
     side: Side,
@@ -57,14 +91,7 @@ fn add_count(
     if count == 0 {
         return Ok(());
     }
-    let mut buffer = Buffer::new();
-    text.extend_from_slice(b"skipped ")?;
-    text.extend_from_slice(side.name())?;
-    text.extend_from_slice(b" ")?;
-    text.extend_from_slice(platform.name())?;
-    text.extend_from_slice(b" ")?;
-    text.extend_from_slice(buffer.format(count).as_bytes())?;
-    text.push(b'\n')?;
+    add_count_line(text, side, platform, count)?;
     Ok(())
 }
 
@@ -84,8 +111,8 @@ pub(crate) fn add_counted(
 ) -> Result<(), NoMemory>
     ensures { OnOk result (text.new.items ≡ text.old.items ++ counted_text platforms.now left_out.now) }
 {
-    for (platform, left_out) in platforms.iter().zip(left_out) {
-        add_counts(text, *platform, left_out)?;
+    for (platform, omitted) in platforms.iter().zip(left_out) {
+        add_counts(text, *platform, omitted)?;
     }
     Ok(())
 }

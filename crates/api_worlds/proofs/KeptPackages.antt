@@ -1,5 +1,5 @@
 -- The lines of packages of which something is left out are those of all packages.
-use Rattle.std.proofs.Common.{◌≡◌, ◌<◌, ◌≤◌, ◌+◌, ℕ, Bool, true, false, List, [], ◌∷◌, ◌++◌, map, length, get_or, take, drop, refl, sym, ap, ◌∙◌, subst, append_assoc, append-nil}
+use Rattle.std.proofs.Common.{◌≡◌, ◌==◌, ◌<◌, ◌≤◌, ◌+◌, ℕ, Bool, true, false, List, [], ◌∷◌, ◌++◌, map, length, get_or, take, drop, refl, sym, ap, ◌∙◌, subst, append_assoc, append-nil, arith}
 use Rattle.std.proofs.lemmas.List.{drop_more, take_more}
 use Rattle.std.specs.Cmp.Lexicographic.{slice_cmp}
 use Rattle.std.specs.Ordering.{is_lt, nat_cmp}
@@ -7,14 +7,20 @@ use Rattle.std.specs.Prelude.{if◌then◌else◌, insert}
 use Rattle.api_refusals.specs.SkippedTexts.{skipped_texts}
 use Rattle.api_worlds.specs.LeftOut.{all_lines, lines_with, path_of, with_lines}
 use Rattle.api_worlds.specs.declared.left_out.PackageLines.{PackageLines}
+use Rattle.api_worlds.specs.PlatformWorlds.{sources_of}
 use Rattle.api_worlds.specs.inner.KeptLines.{kept_lines, lines_from}
+use Rattle.api_worlds.specs.inner.PlatformSteps.{AreLinesOf}
 use Rattle.go_base.proofs.Lists.{drop_past, take_past}
 use Rattle.go_base.specs.Keys.{placed}
 use Rattle.go_exposed.specs.SkippedValues.{all_skipped}
+use Rattle.go_exposed.specs.SkippedWorlds.{AreSkipped}
 use Rattle.go_exposed.specs.declared.skipped.Skipped.{Skipped}
+use Rattle.go_model.specs.declared.files.platform.Platform.{Platform}
 use Rattle.go_model.specs.declared.files.tree.Tree.{Tree}
+use Rattle.go_model.specs.files.Platforms.{bits_of}
 use Rattle.go_units.specs.declared.unit.«Unit».{«Unit» as PackageUnit}
-use Rattle.go_work.specs.KeptUnits.{kept_unit, kept_units}
+use Rattle.go_units.specs.declared.unit_list.Units.{Units}
+use Rattle.go_work.specs.KeptUnits.{AreKept, kept_unit, kept_units}
 use Rattle.go_work.specs.declared.checked.SkippedUnit.{SkippedUnit}
 
 -- ---- the place of a package
@@ -54,6 +60,15 @@ module _ (packages : List PackageLines) (path : List ℕ) where
 
 -- ---- the lines of all
 
+-- with lines, a package has its place
+pub some_lines : (path : List ℕ) (lines : List (List ℕ)) (ps : List PackageLines) → (length lines == 0) ≡ false → placed path_of (record { path = path; lines = lines }) ps ≡ with_lines path lines ps
+some_lines path [] ps e = absurd (cc)
+some_lines path (l ∷ ls) ps e = refl
+
+pub lines_more : (ps : List PackageLines) (p : PackageLines) → all_lines (ps ++ p ∷ []) ≡ all_lines ps ++ p.lines
+lines_more [] p = append-nil p.lines
+lines_more (q ∷ ps) p = ap (λ (w : List (List ℕ)). q.lines ++ w) (lines_more ps p) ∙ sym (append_assoc q.lines (all_lines ps) p.lines)
+
 module _ (tree std_tree : Tree) where
   pub kept_next : {all : List PackageLines} (kept : List SkippedUnit) (i : ℕ) (k : SkippedUnit) (old new : List PackageLines) → i < length kept → k ≡ get_or kept i k → new ≡ lines_from tree std_tree old k
       → kept_lines tree std_tree old (drop i kept) ≡ all → kept_lines tree std_tree new (drop (i + 1) kept) ≡ all
@@ -72,3 +87,11 @@ module _ (tree std_tree : Tree) where
   kept_all [] xss ps = refl
   kept_all (u ∷ us) [] ps = refl
   kept_all (u ∷ us) (xs ∷ xss) ps = kept_by u xs (kept_units us xss) ps ∙ kept_all us xss (with_lines u.path (skipped_texts tree std_tree u (all_skipped xs)) ps)
+
+  -- the lines of the kept units are those of the platform
+  pub lines_kept : (p : Platform) (units : Units) (bits : ℕ) (kept : List SkippedUnit) (lines : List (List ℕ)) → bits ≡ bits_of p → AreKept bits units.packages kept → lines ≡ all_lines (kept_lines tree std_tree [] kept) → AreLinesOf tree std_tree p units lines
+  lines_kept p units bits kept lines b k e = record {
+    skipped = map all_skipped k.skipped;
+    skips = subst (λ (n : ℕ). AreSkipped n (sources_of units) (map all_skipped k.skipped)) b k.skips;
+    «is» = e ∙ ap (λ (ks : List SkippedUnit). all_lines (kept_lines tree std_tree [] ks)) k.«is» ∙ ap all_lines (kept_all units.packages k.skipped []);
+  }

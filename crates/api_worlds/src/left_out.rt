@@ -1,10 +1,11 @@
 //! What is left out of the packages of trees, as lines.
-ghost use Rattle.std.specs.Prelude.{◌≡◌, ◌++◌, [], IfOk, OnOk, insert};
+ghost use Rattle.std.specs.Prelude.{◌≡◌, ◌++◌, [], IfOk, OnOk};
+ghost use Rattle.std.specs.Cmp.Lexicographic.{slice_cmp};
+ghost use Rattle.std.specs.Ordering.{is_lt, nat_cmp};
 ghost use Rattle.api_refusals.specs.SkippedTexts.{skipped_texts};
 ghost use Rattle.api_worlds.specs.LeftOut.{all_lines, path_of, with_lines};
-ghost use Rattle.api_worlds.specs.declared.left_out.PackageLines.{PackageLines as Placed};
 ghost use Rattle.api_worlds.specs.inner.KeptLines.{kept_lines, lines_from};
-ghost use Rattle.go_base.specs.Keys.{placed};
+ghost use Rattle.go_base.specs.Keys.{PlaceFor, placed};
 
 use api_refusals::skipped::skipped_texts;
 use go_base::list::List;
@@ -28,19 +29,46 @@ impl Drop for PackageLines {
     }
 }
 
+impl PackageLines {
+    ghost use Rattle.std.specs.Prelude.{◌≡◌};
+
+    // The lines, moved out.
+    fn into_lines(self) -> List<Text>
+        ensures { result ≡ self.lines }
+    {
+        let PackageLines { path: _, lines } = self;
+        lines
+    }
+}
+
+fn goes_before(path: &[u8], found: &PackageLines) -> bool
+    ensures { result ≡ is_lt (slice_cmp nat_cmp path.now (path_of found.now)) }
+{
+    order(path, found.path.bytes()) == Ordering::Less
+}
+
 // Where a package of this path belongs: before the first one with a greater path.
 fn place_for(packages: &[PackageLines], path: &[u8]) -> usize
-    ensures { (p : Placed) → p.path ≡ path.now → placed path_of p packages.now ≡ insert packages.now result p }
+    ensures { PlaceFor path_of packages.now path.now result }
 {
     for at in 0..packages.len() {
-        if order(path, packages[at].path.bytes()) == Ordering::Less {
+        if goes_before(path, &packages[at]) {
             return at;
         }
     }
     packages.len()
 }
 
-// Adds the lines of a package in its place, where there are some.
+// Adds the lines of a package in its place.
+fn put(packages: &mut Vec<PackageLines>, found: PackageLines) -> Result<(), NoMemory>
+    ensures { OnOk result (packages.new.items ≡ placed path_of found packages.old.items) }
+{
+    let at = place_for(packages, found.path.bytes());
+    packages.insert(at, found)?;
+    Ok(())
+}
+
+// The same, where there are some.
 fn add_package(
     packages: &mut Vec<PackageLines>,
     path: Text,
@@ -51,9 +79,7 @@ fn add_package(
     if lines.items().is_empty() {
         return Ok(());
     }
-    let at = place_for(packages, path.bytes());
-    packages.insert(at, PackageLines { path, lines })?;
-    Ok(())
+    put(packages, PackageLines { path, lines })
 }
 
 fn add_unit(
@@ -73,11 +99,7 @@ fn add_unit(
 fn add_lines(lines: &mut List<Text>, found: PackageLines) -> Result<(), NoMemory>
     ensures { OnOk result (lines.new ≡ lines.old ++ found.lines) }
 {
-    let PackageLines {
-        path: _,
-        lines: more,
-    } = package;
-    for line in more.into_vec() {
+    for line in found.into_lines().into_vec() {
         lines.push(line)?;
     }
     Ok(())

@@ -99,10 +99,10 @@ fn with_left_out(
 ) -> Result<PlatformWorld, NoMemory>
     ensures { IfOk result (λ found. (found.world ≡ checked.world) × (found.left_out ≡ all_lines (kept_lines trees.now.tree.now trees.now.std_tree.now [] checked.skipped))) }
 {
-    let left_out = left_out(alloc, trees.tree, trees.std_tree, checked.skipped.items())?;
+    let lines = left_out(alloc, trees.tree, trees.std_tree, checked.skipped.items())?;
     Ok(PlatformWorld {
         world: checked.into_world(),
-        left_out,
+        left_out: lines,
     })
 }
 

@@ -1,6 +1,6 @@
 -- Of packages that became something some list is what is left out.
 use Rattle.std.proofs.Common.{◌≡◌, ◌≢◌, ◌⊎◌, ◌<◌, ◌+◌, ℕ, zero, suc, Bool, true, false, nat_eq, List, [], ◌∷◌, length, Some, slice_get, refl, subst, inl, inr, arith}
-use Rattle.std.proofs.lemmas.Bool.Decides.{nat_tests}
+use Rattle.std.proofs.lemmas.Bool.{eqb-false, eqb-true}
 use Rattle.go_existence.specs.Existence.{NotNone}
 use Rattle.go_existence.proofs.DoubleNegation.{bind, decided, so, sure}
 use Rattle.go_exposed.specs.BeyondProfile.{IsBeyond, beyond_number, beyond_type, beyond_value, beyond_import, beyond_another}
@@ -18,8 +18,8 @@ use Rattle.go_typings.specs.References.{DependsOn}
 use Rattle.go_typings.specs.Sources.{PackageSource, Setting}
 
 same_by : (m n : ℕ) (r : Bool) → nat_eq m n ≡ r → (m ≡ n) ⊎ (m ≢ n)
-same_by m n true e = inl (grind (arith, nat_tests, e))
-same_by m n false e = inr (λ f. grind (arith, nat_tests, e, f))
+same_by m n true e = inl (eqb-true m n e)
+same_by m n false e = inr (eqb-false m n e)
 
 same_or : (m n : ℕ) → (m ≡ n) ⊎ (m ≢ n)
 same_or m n = same_by m n (nat_eq m n) refl

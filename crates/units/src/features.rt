@@ -76,7 +76,7 @@ pub fn features(alloc: Global, platform: Platform, units: Units) -> Result<Vec<u
     let answer = world(alloc, units, platform.int_bits(), &OpenGate, &mut steps);
     let _counted = steps.end();
     match answer {
-        Ok(world) => of_world(alloc, &world),
+        Ok(checked) => of_world(alloc, &checked.world),
         Err(error) => of_error(alloc, error),
     }
 }

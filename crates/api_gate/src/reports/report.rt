@@ -67,12 +67,7 @@ pub fn report(alloc: Global, request: &Request, inputs: &Inputs, mut found: Find
     ensures { IsOfFindings request.now inputs.now found.features found.verdicts found.left_out result }
 {
     let features = mem::replace(&mut found.features, PlatformLines::new(alloc));
-    report_on(
-        alloc,
-        request,
-        inputs,
-        features,
-        found.verdicts.items(),
-        found.left_out.items(),
-    )
+    let verdicts = found.verdicts.items();
+    let left_out = found.left_out.items();
+    report_on(alloc, request, inputs, features, verdicts, left_out)
 }

@@ -10,12 +10,12 @@ loop-at-init g c = (
 )
 
 pub add_next-requires-clause-left_out : goal.add_next-requires-clause-left_out
-add_next-requires-clause-left_out g c = λ κs lives h.
+add_next-requires-clause-left_out g c = λ h.
     left_alike c.args.trees.now.barred.now c.args.trees.now.std_tree.now (option_copied c.args.trees.now.old_tree) c.args.trees.now.tree.now c.args.platforms.now c.args.firsts.now c.requires.firsts c.loop-at.at c.loop-at.all.left_out c.loop-at-test.true c.loop-at.invariant.1
     (as_many c.args.trees.now.barred.now (option_copied c.args.trees.now.old_tree) c.args.trees.now.tree.now c.args.trees.now.std_tree.now c.args.platforms.now c.loop-at.at c.loop-at.all.features c.loop-at.all.verdicts c.loop-at.all.left_out c.args.steps.now c.loop-at.steps c.loop-at.invariant.0 c.loop-at.invariant.1 h)
 
 pub add_next-requires-clause-alike : goal.add_next-requires-clause-alike
-add_next-requires-clause-alike g c = λ κs lives.
+add_next-requires-clause-alike g c =
     alike_earlier c.args.trees.now.barred.now (option_copied c.args.trees.now.old_tree) c.args.trees.now.tree.now c.args.trees.now.std_tree.now c.args.platforms.now c.args.firsts.now c.requires.firsts c.loop-at.at c.loop-at.all.features c.loop-at.all.verdicts c.args.steps.now c.loop-at.steps c.loop-at-test.true c.loop-at.invariant.0
 
 pub returns-in-Err-clause-answer : goal.returns-in-Err-clause-answer

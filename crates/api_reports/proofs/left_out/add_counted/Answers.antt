@@ -5,7 +5,7 @@ use Rattle.api_reports.proofs.left_out.add_counted.Goals as goal
 
 pub loop-platform-preserved : goal.loop-platform-preserved
 loop-platform-preserved c =
-    let more = Zip-more c.loop-platform.platform-iterator c.next.new.self c.next.result (c.in-Some.platform, c.in-Some.left_out) c.in-Some.is c.next.ensures.steps in
+    let more = Zip-more c.loop-platform.platform-iterator c.next.new.self c.next.result (c.in-Some.platform, c.in-Some.omitted) c.in-Some.is c.next.ensures.steps in
     platforms_next counted_lines _ _ _ _ _ _ c.loop-platform.text.items _ more.0 more.1 c.in_ok-add_counts.ensures c.loop-platform.invariant
 
 pub returns : goal.returns

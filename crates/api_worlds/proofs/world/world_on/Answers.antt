@@ -1,8 +1,8 @@
-use Rattle.api_worlds.proofs.PlatformAnswers.{no_count, units_answer, units_count, units_error, units_left_out}
+use Rattle.api_worlds.proofs.PlatformAnswers.{lines_answer, no_count, units_answer, units_count, units_error}
 use Rattle.api_worlds.proofs.world.world_on.Goals as goal
 
-pub world_of-requires-after_bounds : goal.world_of-requires-after_bounds
-world_of-requires-after_bounds g c κs within = λ u h.
+pub world_of-requires : goal.world_of-requires
+world_of-requires g c = λ u h.
     let k = c.unit_paths.ensures c.args.trees.now.platform c.args.trees.now.barred.now c.args.trees.now.tree.now c.args.trees.now.std_tree.now c.in-Ok.units c.requires.tree c.requires.std c.requires.named c.in-Ok.ensures u h in
     record { pathed = k.0; foreign = k.1 }
 
@@ -20,4 +20,4 @@ returns-in-Ok-clause-steps g c =
     units_count c.args.trees.now.barred.now c.args.trees.now.tree.now c.args.trees.now.std_tree.now c.args.side c.args.trees.now.platform c.in-Ok.units c.args.steps.now c.world_of.new.steps c.in-Ok.ensures c.world_of.ensures.steps
 
 pub returns-in-Ok-clause-left_out : goal.returns-in-Ok-clause-left_out
-returns-in-Ok-clause-left_out g c = search
+returns-in-Ok-clause-left_out g c = lines_answer c.args.trees.now.barred.now c.args.trees.now.tree.now c.args.trees.now.std_tree.now c.args.side c.args.trees.now.platform c.in-Ok.units c.world_of.result c.in-Ok.ensures c.world_of.ensures.left_out

@@ -7,5 +7,5 @@ use Rattle.api_gate.proofs.reports.report.report.Goals as goal
 
 pub returns : goal.returns
 returns c =
-    subst (λ (p : List (List Line) × List Verdict × List LeftOut). IsOfFindings c.args.request.now c.args.inputs.now p.0 p.1 p.2 c.report_on.result) (λ i. (c.replace-features.ensures.value i, c.items.ensures i, c.items-left_out.ensures i))
+    subst (λ (p : List (List Line) × List Verdict × List LeftOut). IsOfFindings c.args.request.now c.args.inputs.now p.0 p.1 p.2 c.report_on.result) (λ i. (c.replace-features.ensures.value i, c.items-verdicts.ensures i, c.items-left_out.ensures i))
     c.report_on.ensures

@@ -20,4 +20,4 @@ pub returns-in-Ok-make_report : goal.returns-in-Ok-make_report
 returns-in-Ok-make_report c = make_decides c.args.request.now c.args.inputs.now c.args.lists c.args.verdicts.now c.args.left_out.now c.in-Ok-make_report.text c.in-Make.is c.in-Ok-make_report.ensures
 
 pub returns-in-Ok-skipped_text : goal.returns-in-Ok-skipped_text
-returns-in-Ok-skipped_text c = skipped_decides c.args.request.now c.args.inputs.now c.args.lists c.args.verdicts.now c.args.left_out.now c.in-Ok-skipped_text.text c.in-Skipped.is c.in-Ok-skipped_text.ensures
+returns-in-Ok-skipped_text c = skipped_decides c.args.request.now c.args.inputs.now c.args.lists c.args.verdicts.now c.args.left_out.now c.in-Ok-skipped_text.text c.in-Skipped.is (rw c.items.ensures at c.in-Ok-skipped_text.ensures)
