@@ -79,7 +79,6 @@ pub left_entries : (u : PackageSource) (lost : List Bool) (old new : List (Optio
     → ((n : ℕ) → n < length old → entries_at new n ≡ (if is_flagged lost n then None else entries_at old n)) → entries_at new ≡ entries_of (not_lost u (is_flagged lost)) (entries_at old)
 left_entries u lost old new size count kept = λ i n. at n i
   where
-
     below : (n : ℕ) → nat_lt n (length (declarations u)) ≡ true → n < length old
     below n e = let h : n < length (declarations u) = grind (arith, nat_tests, e) in subst (λ k. n < k) (sym size) h
 

@@ -59,9 +59,9 @@ loop-unit-preserved g c =
     let rest = into_iter_items c.next.new.self in
     let parts : c.args.units.packages ≡ front ++ u ∷ rest = sym c.loop-unit.invariant.parts ∙ ap (λ w. front ++ w) c.in-Some.ensures.steps.0 in
     let taken =
-        taken_next c.args.bits front u c.loop-unit.checked c.add_next.new.checked c.loop-unit.invariant.taken
-        (imports_typed c.args.bits c.args.units.packages c.args.units.ordered front rest u parts c.loop-unit.checked.world c.loop-unit.invariant.typed u.needed)
-        c.in-Ok.ensures.offered in
+    taken_next c.args.bits front u c.loop-unit.checked c.add_next.new.checked c.loop-unit.invariant.taken
+    (imports_typed c.args.bits c.args.units.packages c.args.units.ordered front rest u parts c.loop-unit.checked.world c.loop-unit.invariant.typed u.needed)
+    c.in-Ok.ensures.offered in
     record {
       taken = taken;
       typed = taken_world c.args.bits (front ++ u ∷ []) c.add_next.new.checked taken;
