@@ -1,8 +1,7 @@
 -- Rows that tell of each declaration tell of the package, and scopes show the same steps as the environments of its declarations.
-use Rattle.std.proofs.Common.{◌≡◌, ◌≢◌, ◌↔◌, ℕ, zero, suc, ◌<◌, Bool, true, List, [], ◌∷◌, length, Some, refl, ◌⊎◌, inl, inr, arith}
+use Rattle.std.proofs.Common.{◌≡◌, ◌≢◌, ◌↔◌, ℕ, zero, suc, ◌<◌, List, [], ◌∷◌, length, Some, refl, ◌⊎◌, inl, inr, arith}
 use Rattle.std.specs.Prelude.{slice_get}
 use Rattle.go_base.specs.Lists.{Has}
-use Rattle.go_graphs.specs.Flags.{is_flagged}
 use Rattle.go_graphs.specs.Walks.{row_of}
 use Rattle.go_leads.specs.Listed.{Lists}
 use Rattle.go_package_scopes.proofs.SameAnswers.{finds_same, names_same}

@@ -21,10 +21,10 @@ use Rattle.go_rules.specs.Scopes.{Scopes, env_of}
 use Rattle.go_sifting.specs.Graphs.{IsGraphOf}
 use Rattle.go_sifting.specs.declared.graph.DeclarationGraph.{DeclarationGraph}
 use Rattle.go_typings.specs.Assignments.{At}
-use Rattle.go_typings.specs.DeclarationNodes.{length_references, nodes, references, strong_references}
+use Rattle.go_typings.specs.DeclarationNodes.{length_references, strong_references}
 use Rattle.go_typings.specs.Declarations.{Declaration, Form, declarations}
 use Rattle.go_typings.specs.PackageEnvironments.{Entries, environment}
-use Rattle.go_typings.specs.References.{DependsOn, FindsMethod, NamesDeclaration}
+use Rattle.go_typings.specs.References.{DependsOn, NamesDeclaration}
 use Rattle.go_typings.specs.Sources.{PackageSource, Setting}
 use Rattle.go_typings.proofs.Cells.{some_once}
 use Rattle.go_declaration_graph.specs.declared.rows.DeclarationRows.{DeclarationRows}

@@ -21,8 +21,7 @@ use Rattle.go_package_scopes.specs.PackageScopes.{IsScopeOf, at_declaration}
 use Rattle.go_rules.specs.Environments.{Env}
 use Rattle.go_rules.specs.Names.{Named}
 use Rattle.go_rules.specs.Scopes.{Scopes, env_of}
-use Rattle.go_sifting.specs.Orders.{AreRowsAmong, IsOrderOf}
-use Rattle.go_sifting.specs.Graphs.{Leads}
+use Rattle.go_sifting.specs.Orders.{IsOrderOf}
 use Rattle.go_sifting.specs.declared.order.DeclarationOrder.{DeclarationOrder}
 use Rattle.go_typings.specs.Assignments.{At}
 use Rattle.go_typings.specs.DeclarationNodes.{length_references, strong_references}

@@ -1,5 +1,5 @@
 -- The numbers that are reached along the rows of a package's order are those of the declarations that are reached.
-use Rattle.std.proofs.Common.{◌≡◌, ℕ, ◌<◌, Bool, true, List, length, sym, subst, ◌⊎◌, inl, inr}
+use Rattle.std.proofs.Common.{◌≡◌, ℕ, ◌<◌, true, length, subst, inl, inr}
 use Rattle.std.proofs.lemmas.Option.{slice_get_within}
 use Rattle.go_graphs.specs.Flags.{AreFlagsOf, is_flagged}
 use Rattle.go_sifting.specs.Graphs.{Leads}

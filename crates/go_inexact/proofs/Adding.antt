@@ -1,6 +1,6 @@
 -- What a conversion adds to trees: its argument.
 use Rattle.std.proofs.lemmas.Bool.{eqb-true}
-use Rattle.std.proofs.Common.{◌≡◌, ◌+◌, ◌==◌, ℕ, Bool, true, false, List, [], ◌∷◌, ◌++◌, arith, length, get_or, take, sym, ap, ◌∙◌, subst}
+use Rattle.std.proofs.Common.{◌≡◌, ◌+◌, ◌-◌, ◌==◌, ℕ, Bool, true, false, List, [], ◌∷◌, ◌++◌, arith, length, get_or, take, sym, ap, ◌∙◌, subst}
 use Rattle.go_inexact.proofs.Arguments.{last_of, last_same, not_empty}
 use Rattle.go_inexact.specs.Chains.{IsTypeForm, NamesBasic}
 use Rattle.go_inexact.specs.inner.Added.{AddsArgument, AddsConverted, ConvertsLast}
@@ -12,6 +12,14 @@ use Rattle.go_syntax.specs.declared.expression.Expr.{Expr, Expr-F, out-Expr, rol
 use Rattle.go_syntax.specs.declared.expression.Expr.TheVariants as expr
 use Rattle.go_syntax.specs.declared.expression.Expr.TheVariants.{outs-Primary}
 use Rattle.go_syntax.specs.declared.expression.Post.{Post, out-Post}
+
+no_items : {A : Type 0} → true ≡ false → A
+no_items e = absurd (cc)
+
+-- the number of the last of some posts
+pub last_number : (ps : List Post) → (length ps == 0) ≡ false → length ps - 1 + 1 ≡ length ps
+last_number [] q = no_items q
+last_number (p ∷ ps) q = omega arith
 
 module _ (E : Env) (e : Expr) where
   -- no post converts

@@ -14,7 +14,7 @@ use Rattle.go_model.specs.declared.types.package.ConstTerm.{ConstTerm}
 use Rattle.go_model.specs.declared.types.term.Term.{Term}
 use Rattle.go_rules.specs.Environments.{Env}
 use Rattle.go_rules.specs.Expressions.{Has as HasOperand, HasForm, IsCall, has_operand, has_type, unary_operator}
-use Rattle.go_rules.specs.Nodes.{ExprLayer, Node, expression, expression_parts, value, type}
+use Rattle.go_rules.specs.Nodes.{ExprLayer, Node, expression, expression_parts}
 use Rattle.go_rules.specs.Operands.{constant_of, type_name}
 use Rattle.go_rules.specs.declared.operand.Operand.{Operand}
 use Rattle.go_rules.specs.declared.operand.Mode.TheVariants as mode

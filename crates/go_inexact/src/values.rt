@@ -63,8 +63,8 @@ pub(crate) fn are_values_of(
     ensures { IfOk result (λ answer. Decides answer (Each (IsValueOf (env_in context.now) term.now) exprs.now)) }
 {
     for expr in exprs {
-        let is = is_value_of(context, alloc, term, expr)?;
-        if !is {
+        let holds = is_value_of(context, alloc, term, expr)?;
+        if !holds {
             return Ok(false);
         }
     }
@@ -78,7 +78,7 @@ fn is_value(context: &Context<'_>, alloc: Global, expr: &Expr) -> Result<bool, N
     match type_expr(context, alloc, expr) {
         Err(ExprError::Untyped) => Ok(false),
         Err(ExprError::NoMemory) => Err(NoMemory),
-        Ok(_) => may_be_constant(context, alloc, expr),
+        Ok(_operand) => may_be_constant(context, alloc, expr),
     }
 }
 
@@ -91,8 +91,8 @@ pub(crate) fn are_values(
     ensures { IfOk result (λ answer. Decides answer (Each (IsValue (env_in context.now)) exprs.now)) }
 {
     for expr in exprs {
-        let is = is_value(context, alloc, expr)?;
-        if !is {
+        let holds = is_value(context, alloc, expr)?;
+        if !holds {
             return Ok(false);
         }
     }
@@ -131,8 +131,8 @@ pub(crate) fn one_is_inexact(
     ensures { IfOk result (λ answer. Decides answer (OneIsInexact (env_in context.now) exprs.now)) }
 {
     for expr in exprs {
-        let is = is_inexact_value(context, alloc, expr)?;
-        if is {
+        let holds = is_inexact_value(context, alloc, expr)?;
+        if holds {
             return Ok(true);
         }
     }

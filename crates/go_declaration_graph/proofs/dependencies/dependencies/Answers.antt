@@ -1,4 +1,4 @@
-use Rattle.std.proofs.Common.{ℕ, List, ap, subst, sym, ◌∙◌, map}
+use Rattle.std.proofs.Common.{List, ap, subst, sym, ◌∙◌, map}
 use Rattle.std.proofs.lemmas.Result.{IfOk-weaker}
 use Rattle.go_declaration_graph.proofs.DependencyRows.{dependency_rows}
 use Rattle.go_declaration_graph.specs.inner.DependencyRows.{HasDependencies}

@@ -1,8 +1,8 @@
-use Rattle.std.proofs.Common.{◌≡◌, Bool, true, false, List, arith, ap, sym, ◌∙◌}
+use Rattle.std.proofs.Common.{Bool, List, arith, ap, sym, ◌∙◌}
 use Rattle.go_declarations.specs.Listings.{declaration_of, declarations_of}
 use Rattle.go_graphs.specs.Flags.{is_flagged}
 use Rattle.go_declaration_graph.specs.inner.Rows.{LeadsIn}
-use Rattle.go_declaration_graph.proofs.GraphRows.{item_at, moved_next}
+use Rattle.go_declaration_graph.proofs.GraphRows.{item_at}
 use Rattle.go_declaration_graph.proofs.OrderRows.{among_more}
 use Rattle.go_declaration_graph.proofs.PendingNumbers.{pending_more, pending_passed}
 use Rattle.go_declaration_graph.proofs.order.visit.Goals as goal

@@ -3,7 +3,7 @@ use Rattle.std.proofs.lemmas.Result.{IfOk-weaker}
 use Rattle.go_inexact.proofs.Adding.{adds_other, adds_primary}
 use Rattle.go_inexact.specs.inner.Added.{AddsArgument, AddsConverted}
 use Rattle.go_nodes.specs.Trees.{nodes_in}
-use Rattle.go_syntax.specs.declared.expression.Expr.{Expr, Expr-F, out-Expr}
+use Rattle.go_syntax.specs.declared.expression.Expr.{Expr-F, out-Expr}
 use Rattle.go_syntax.specs.declared.expression.Expr.TheVariants.{outs-Primary}
 use Rattle.go_type_terms.specs.Answers.{env_in}
 use Rattle.go_inexact.proofs.conversions.add_converted.Goals as goal

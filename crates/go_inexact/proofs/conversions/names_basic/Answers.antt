@@ -8,8 +8,8 @@ pub returns-in-Some : goal.returns-in-Some
 returns-in-Some c =
     names_decides (env_in c.args.context.now) c.args.operand.now c.args.posts.now c.in-Ok.found c.in-Ok.ensures c.in-Some.term.now c.in-Some.ensures c.basic_under.result c.is_some.result c.basic_under.ensures c.is_some.ensures
 
-pub returns-in-None : goal.returns-in-None
-returns-in-None c = names_no_type (env_in c.args.context.now) c.args.operand.now c.args.posts.now c.in-Ok.found c.in-Ok.ensures c.in-None.ensures
+pub returns-in-Ok : goal.returns-in-Ok
+returns-in-Ok c = names_no_type (env_in c.args.context.now) c.args.operand.now c.args.posts.now c.in-Ok.found c.in-Ok.ensures c.in-None.ensures
 
 pub returns-in-Err-Untyped : goal.returns-in-Err-Untyped
 returns-in-Err-Untyped c =

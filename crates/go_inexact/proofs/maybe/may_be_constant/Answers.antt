@@ -4,7 +4,7 @@ use Rattle.go_type_terms.specs.Answers.{env_in}
 use Rattle.go_inexact.proofs.maybe.may_be_constant.Goals as goal
 
 pub loop-init : goal.loop-init
-loop-init c = maybe_begins (env_in c.args.context.now) c.args.expr.now (nodes_in c.new.result) (nodes_in c.push.new.self) c.new.ensures c.in_ok-push.ensures
+loop-init c = maybe_begins (env_in c.args.context.now) c.args.expr.now (nodes_in c.new-trees.result) (nodes_in c.push.new.self) c.new-trees.ensures c.in_ok-push.ensures
 
 pub loop-preserved : goal.loop-preserved
 loop-preserved c =

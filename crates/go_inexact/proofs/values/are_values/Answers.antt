@@ -9,11 +9,11 @@ loop-expr-init c = each_begins (IsValue (env_in c.args.context.now)) c.args.expr
 
 pub loop-expr-preserved : goal.loop-expr-preserved
 loop-expr-preserved c =
-    each_next (IsValue (env_in c.args.context.now)) c.args.exprs.now c.loop-expr.expr-index c.expr-item.result c.loop-expr-test.true c.expr-item.is c.loop-expr.invariant c.in_ok-is.is c.if-not-is.false c.in_ok-is.ensures
+    each_next (IsValue (env_in c.args.context.now)) c.args.exprs.now c.loop-expr.expr-index c.expr-item.result c.loop-expr-test.true c.expr-item.is c.loop-expr.invariant c.in_ok-holds.holds c.if-not-holds.false c.in_ok-holds.ensures
 
-pub returns-then-not-is : goal.returns-then-not-is
-returns-then-not-is c =
-    each_not (IsValue (env_in c.args.context.now)) c.args.exprs.now c.loop-expr.expr-index c.expr-item.result c.loop-expr-test.true c.expr-item.is c.loop-expr.invariant c.in_ok-is.is c.if-not-is.true c.in_ok-is.ensures
+pub returns-then-not-holds : goal.returns-then-not-holds
+returns-then-not-holds c =
+    each_not (IsValue (env_in c.args.context.now)) c.args.exprs.now c.loop-expr.expr-index c.expr-item.result c.loop-expr-test.true c.expr-item.is c.loop-expr.invariant c.in_ok-holds.holds c.if-not-holds.true c.in_ok-holds.ensures
 
 pub returns : goal.returns
 returns c = each_done (IsValue (env_in c.args.context.now)) c.args.exprs.now c.loop-expr.expr-index (omega arith) c.loop-expr.invariant

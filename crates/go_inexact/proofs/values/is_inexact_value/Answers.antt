@@ -13,5 +13,5 @@ returns-in-Err-Untyped c =
 pub returns-in-Some : goal.returns-in-Some
 returns-in-Some c = inexact_decides (env_in c.args.context.now) c.args.expr.now c.in-Ok.operand c.in-Some.term.now c.is_inexact.result c.in-Ok.ensures c.in-Some.ensures c.is_inexact.ensures
 
-pub returns-in-None : goal.returns-in-None
-returns-in-None c = not_plain (env_in c.args.context.now) c.args.expr.now c.in-Ok.operand c.in-Ok.ensures c.in-None.ensures
+pub returns : goal.returns
+returns c = not_plain (env_in c.args.context.now) c.args.expr.now c.in-Ok.operand c.in-Ok.ensures c.in-None.ensures

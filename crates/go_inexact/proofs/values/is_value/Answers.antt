@@ -17,4 +17,4 @@ pub returns-in-Ok : goal.returns-in-Ok
 returns-in-Ok c =
     let E = env_in c.args.context.now in
     let e = c.args.expr.now in
-    IfOk-weaker c.may_be_constant.result (λ b. Decides b (MayBeConstant E e)) (λ b. Decides b (IsValue E e)) (λ b d. value_decides E e c.in-Ok.field-0 b c.in-Ok.ensures d) c.may_be_constant.ensures
+    IfOk-weaker c.may_be_constant.result (λ b. Decides b (MayBeConstant E e)) (λ b. Decides b (IsValue E e)) (λ b d. value_decides E e c.in-Ok._operand b c.in-Ok.ensures d) c.may_be_constant.ensures
