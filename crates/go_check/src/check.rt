@@ -53,7 +53,7 @@ struct Settled<'w> {
 }
 
 // The entries of a package's declarations, and which are lost.
-fn settled<'w>(
+fn settle<'w>(
     alloc: Global,
     unit: &Unit,
     imports: &'w World,
@@ -106,7 +106,7 @@ fn offer_declarations(
         names: &names,
         methods: &methods,
     };
-    let settled = settled(alloc, unit, imports, bits, profile, &tables, &hints)?;
+    let settled = settle(alloc, unit, imports, bits, profile, &tables, &hints)?;
     let Settled { mut env, had, lost } = settled;
     answer(alloc, &mut env, unit, &tables, had, &lost)
 }
@@ -138,28 +138,41 @@ fn type_declarations(
         names: &names,
         methods: &methods,
     };
-    let settled = settled(alloc, unit, imports, bits, profile, &tables, &hints)?;
+    let settled = settle(alloc, unit, imports, bits, profile, &tables, &hints)?;
     whole(alloc, unit, &tables, &settled.had, &settled.lost)
 }
 
-// The first import that isn't found and from which a declaration that is seen selects.
+// The first import that isn't found and from which a declaration that is seen selects, where these are the package's tables.
+fn needed_by(
+    alloc: Global,
+    unit: &Unit,
+    tables: &PackageTables<'_>,
+) -> Result<Option<Place>, NoMemory>
+    requires listed { declarations_of tables.now.declarations.now ≡ all_declarations (source_of unit.now) }
+    requires tables { AreTables tables.now }
+    ensures some { IfOk result (λ found. IfSome found (offered.IsMissing (source_of unit.now))) }
+    ensures none { IfOk result (λ found. IfNone found ((q : Spot) → offered.IsMissing (source_of unit.now) q → ⊥)) }
+{
+    let depends = dependencies(alloc, tables)?;
+    let rows = depends.items();
+    let seen = seen(alloc, unit, tables.declarations, rows)?;
+    first_needed(alloc, unit, tables.declarations, &seen)
+}
+
+// The same, told from the unit alone.
 fn needed_of_all(alloc: Global, unit: &Unit) -> Result<Option<Place>, NoMemory>
     ensures some { IfOk result (λ found. IfSome found (offered.IsMissing (source_of unit.now))) }
     ensures none { IfOk result (λ found. IfNone found ((q : Spot) → offered.IsMissing (source_of unit.now) q → ⊥)) }
 {
     let declarations = declarations_in(alloc, unit)?;
-    let listed = declarations.items();
-    let names = DeclaredNames::of(alloc, listed)?;
-    let methods = DeclaredMethods::of(alloc, listed, &names)?;
+    let names = DeclaredNames::of(alloc, declarations.items())?;
+    let methods = DeclaredMethods::of(alloc, declarations.items(), &names)?;
     let tables = PackageTables {
-        declarations: listed,
+        declarations: declarations.items(),
         names: &names,
         methods: &methods,
     };
-    let depends = dependencies(alloc, &tables)?;
-    let rows = depends.items();
-    let seen = seen(alloc, unit, listed, rows)?;
-    first_needed(alloc, unit, listed, &seen)
+    needed_by(alloc, unit, &tables)
 }
 
 // The same, told without the declarations where each import is found.

@@ -25,4 +25,4 @@ returns-clause-lost c s i =
     (subst (λ (xs : List Bool). AreFlagsOf count (Stands s u a) xs) (sym c.deref-3.ensures.value) standing)
 
 pub returns-clause-moved : goal.returns-clause-moved
-returns-clause-moved c = moved_on _ _ _ c.met.ensures.moved c.lost_of.ensures.moved
+returns-clause-moved c = moved_on c.args.env.now c.met.new.env c.lost_of.new.env c.met.ensures.moved c.lost_of.ensures.moved

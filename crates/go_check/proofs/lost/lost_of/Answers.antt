@@ -12,4 +12,4 @@ pub returns-clause-lost : goal.returns-clause-lost
 returns-clause-lost c s u a same pathed scope standing = c.sifted-in-None.ensures.lost s u a same pathed (moved_scope s u a _ _ c.order.ensures.moved scope) standing
 
 pub returns-clause-moved : goal.returns-clause-moved
-returns-clause-moved c = moved_on _ _ _ c.order.ensures.moved c.sifted-in-None.ensures.moved
+returns-clause-moved c = moved_on c.args.env.now c.order.new.env c.sifted-in-None.new.env c.order.ensures.moved c.sifted-in-None.ensures.moved

@@ -8,7 +8,7 @@ use Rattle.go_package_entries.specs.PackageStates.{had_in, scopes_in}
 use Rattle.go_package_entries.specs.Settings.{setting_of}
 use Rattle.go_sources.specs.UnitSources.{source_of}
 use Rattle.go_typings.specs.Declarations.{declarations}
-use Rattle.go_check.proofs.check.settled.Goals as goal
+use Rattle.go_check.proofs.check.settle.Goals as goal
 
 pub returns : goal.returns
 returns c =
