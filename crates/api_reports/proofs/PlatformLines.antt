@@ -27,6 +27,12 @@ pub counted_none : (s : Side) (p : Platform) (n : ℕ) (text : List ℕ) → n �
 counted_none s p zero text e = sym (append-nil text)
 counted_none s p (suc n) text e = absurd (omega (arith, e))
 
+one_line : (lines : List (List ℕ)) (line : List ℕ) → lines ≡ line ∷ [] → unlines lines ≡ line ++ 10 ∷ []
+one_line lines line e = ap unlines e
+
+some_line : (s : Side) (p : Platform) (n : ℕ) → n ≢ 0 → count_lines s p n ≡ count_line s p n ∷ []
+some_line s p zero h = absurd (h refl)
+some_line s p (suc n) h = refl
+
 pub counted_some : (s : Side) (p : Platform) (n : ℕ) (text new : List ℕ) → n ≢ 0 → new ≡ text ++ count_line s p n ++ 10 ∷ [] → new ≡ text ++ unlines (count_lines s p n)
-counted_some s p zero text new n e = absurd (n refl)
-counted_some s p (suc n) text new h e = e
+counted_some s p n text new h e = e ∙ append_assoc text (count_line s p n) (10 ∷ []) ∙ ap (λ (w : List ℕ). text ++ w) (sym (one_line (count_lines s p n) (count_line s p n) (some_line s p n h)))

@@ -10,11 +10,7 @@ use go_model::files::platform::Platform;
 use itoa::Buffer;
 use std::alloc::Global;
 
-fn add_skipped(
-    text: &mut Vec<u8>,
-    platform: Platform,
-    declaration: &Text,
-) -> Result<(), NoMemory>
+fn add_skipped(text: &mut Vec<u8>, platform: Platform, declaration: &Text) -> Result<(), NoMemory>
     ensures { OnOk result (text.new.items ≡ text.old.items ++ skipped_line platform declaration.now ++ 10 ∷ []) }
 {
     text.extend_from_slice(b"skipped ")?;

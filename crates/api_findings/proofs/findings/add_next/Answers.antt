@@ -21,3 +21,7 @@ pub returns-in-Ok-clause-left_out : goal.returns-in-Ok-clause-left_out
 returns-in-Ok-clause-left_out g c =
     left_out_again c.args.trees.now.barred.now c.args.trees.now.std_tree.now (option_copied c.args.trees.now.old_tree) c.args.trees.now.tree.now c.alike_units.ensures c.args.platform c.args.all.now.left_out c.push_again.new.self.left_out
     (slice_get c.args.all.now.left_out c.args.first) (c.requires.left_out (subst (λ n. c.args.first < n) c.len.ensures c.if-first-len.true)) c.in-Ok.ensures.left_out
+
+pub push-requires : goal.push-requires
+push-requires g c =
+    in_order c.args.trees.now.barred.now (option_copied c.args.trees.now.old_tree) c.args.trees.now.tree.now c.args.trees.now.std_tree.now c.args.platform c.in-Ok-found_on.found c.in-Ok-found_on.ensures.answer

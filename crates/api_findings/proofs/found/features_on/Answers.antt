@@ -16,8 +16,8 @@ returns-in-Ok-featured-clause-answer g c =
 pub returns-in-Ok-featured-clause-steps : goal.returns-in-Ok-featured-clause-steps
 returns-in-Ok-featured-clause-steps g c = alone_count c.args.trees.now.barred.now c.args.trees.now.tree.now c.args.trees.now.std_tree.now c.args.platform c.args.steps.now c.world_on.new.steps c.world_on.ensures.steps
 
-pub returns-clause-steps : goal.returns-clause-steps
-returns-clause-steps g c = alone_count c.args.trees.now.barred.now c.args.trees.now.tree.now c.args.trees.now.std_tree.now c.args.platform c.args.steps.now c.world_on.new.steps c.world_on.ensures.steps
+pub returns-in-Err-featured-clause-steps : goal.returns-in-Err-featured-clause-steps
+returns-in-Err-featured-clause-steps g c = alone_count c.args.trees.now.barred.now c.args.trees.now.tree.now c.args.trees.now.std_tree.now c.args.platform c.args.steps.now c.world_on.new.steps c.world_on.ensures.steps
 
 pub returns-in-Ok-featured-clause-left_out : goal.returns-in-Ok-featured-clause-left_out
 returns-in-Ok-featured-clause-left_out g c =
