@@ -1,0 +1,5 @@
+mod Clauses
+mod FolderNames
+mod Openings
+mod OutlineNames
+mod Words

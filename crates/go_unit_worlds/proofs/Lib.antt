@@ -1,0 +1,3 @@
+mod JoinedInTurn
+mod SharedWorlds
+mod WorldsInTurn
