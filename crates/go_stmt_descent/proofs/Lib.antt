@@ -1,0 +1,12 @@
+pub mod Blocks
+pub mod CompleteCommunications
+pub mod CompleteHeaders
+pub mod CompleteKinds
+pub mod CompleteStatements
+pub mod Follows
+pub mod Found
+pub mod Higher
+pub mod OtherBodies
+pub mod Readings
+pub mod SoundHeaders
+pub mod SoundStatements

@@ -1,0 +1,3 @@
+pub mod Communications
+pub mod Headers
+pub mod Statements

@@ -1,0 +1,6 @@
+//! Recursive descent over the terminals of statements: what the reader of each rule finds, and the laws that this is what
+//! the grammar derives, where the bodies of function literals are skipped.
+#![tactic(auto)]
+
+pub mod headers;
+pub mod laws;
