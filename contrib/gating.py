@@ -31,6 +31,14 @@ class Stop(Exception):
         self.status = status
 
 
+class Refused(Exception):
+    """What the program says of a tree that it refuses."""
+
+    def __init__(self, status, fault):
+        super().__init__(fault)
+        self.status, self.fault = status, fault
+
+
 def numbers(version):
     """The three numbers of a release, or None for what is none."""
     release = RELEASE.match(version)
@@ -130,19 +138,32 @@ def told(words):
     return ran.returncode, ran.stdout.decode(), ran.stderr.decode(errors="replace")
 
 
-def gate(room, std, platforms, old, new, api, exceptions, version):
+def common(std, platforms):
+    """The words of each mode that reads trees."""
+    return ["--std", std, "--platforms", platforms]
+
+
+def promised(std, platforms, old):
+    """The features of the old tree; raises what ends the run where they can't be told."""
+    status, report, fault = told(["features", "--new", old, *common(std, platforms)])
+    if status:
+        # what is new to this run is the old tree
+        raise Refused(status, fault.replace("apigate: new", "apigate: old", 1))
+    return report
+
+
+def gate(room, std, platforms, old, new, api, exceptions, version, promises=promised):
     """Runs the gate; without files of frozen lines the features of the old tree are the promises. Returns its status, report and line on
     standard error."""
-    common = ["--std", std, "--platforms", platforms]
     if not api:
         api = os.path.join(room, "api.txt")
-        status, report, fault = told(["features", "--new", old, *common])
-        if status:
-            # what is new to this run is the old tree
-            return status, "", fault.replace("apigate: new", "apigate: old", 1)
+        try:
+            report = promises(std, platforms, old)
+        except Refused as refused:
+            return refused.status, "", refused.fault
         with open(api, "w", encoding="utf-8") as file:
             file.write(report)
-    words = ["gate", "--old", old, "--new", new, *common, "--api", api, "--version", version]
+    words = ["gate", "--old", old, "--new", new, *common(std, platforms), "--api", api, "--version", version]
     return told(words + (["--except", exceptions] if exceptions else []))
 
 
