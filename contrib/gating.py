@@ -1,5 +1,6 @@
 """What the recipes have in common: how programs are run, and within which limits, versions, why nothing was judged, and how a run ends."""
 import collections
+import contextlib
 import os
 import re
 import resource
@@ -81,14 +82,23 @@ def within(words, **how):
     data = min(limits.megabytes << 20, sys.maxsize if most == resource.RLIM_INFINITY else most)
 
     def before():
+        # a group of its own, so that what it runs itself ends with it
+        os.setpgrp()
         resource.setrlimit(resource.RLIMIT_DATA, (data, data))
         resource.setrlimit(resource.RLIMIT_CORE, (0, 0))
 
-    given = {} if "input" in how else {"stdin": subprocess.DEVNULL}
-    try:
-        ended = subprocess.run(words, capture_output=True, preexec_fn=before, timeout=limits.seconds, check=False, **given, **how)
-    except subprocess.TimeoutExpired:
-        raise Stop("%s took more than %d seconds, and was ended; nothing was judged" % (name, limits.seconds)) from None
+    given = how.pop("input", None)
+    source = subprocess.DEVNULL if given is None else subprocess.PIPE
+    with subprocess.Popen(words, stdin=source, stdout=subprocess.PIPE, stderr=subprocess.PIPE, preexec_fn=before, **how) as ran:
+        try:
+            ended = subprocess.CompletedProcess(words, 0, *ran.communicate(given, timeout=limits.seconds))
+        except BaseException as error:
+            with contextlib.suppress(ProcessLookupError):
+                os.killpg(ran.pid, signal.SIGKILL)
+            if not isinstance(error, subprocess.TimeoutExpired):
+                raise
+            raise Stop("%s took more than %d seconds, and was ended; nothing was judged" % (name, limits.seconds)) from None
+        ended.returncode = ran.returncode
     if ended.returncode < 0:
         raise Stop("%s was ended by signal %d; nothing was judged" % (name, -ended.returncode))
     return ended
