@@ -9,6 +9,9 @@ import subprocess
 import sys
 
 TOP = os.path.dirname(os.path.dirname(os.path.abspath(__file__)))
+sys.path.append(os.path.join(TOP, "tools"))
+import bounds
+
 PROGRAM = os.path.join(TOP, "apigate")
 NUMBER = "(0|[1-9][0-9]*)"
 RELEASE = re.compile(r"v?%s\.%s\.%s$" % (NUMBER, NUMBER, NUMBER))
@@ -69,11 +72,10 @@ def limit(seconds, megabytes):
 
 def within(words, **how):
     """Runs a program within the limits, with nothing to read but what it is given, and keeps what it says. Where it is ended for them, nothing was judged."""
-    name, most = BUILT.sub("", os.path.basename(words[0])), resource.getrlimit(resource.RLIMIT_DATA)[1]
-    data = min(limits.megabytes << 20, sys.maxsize if most == resource.RLIM_INFINITY else most)
+    name = BUILT.sub("", os.path.basename(words[0]))
 
     def before():
-        resource.setrlimit(resource.RLIMIT_DATA, (data, data))
+        bounds.bound(limits.megabytes << 20)
         resource.setrlimit(resource.RLIMIT_CORE, (0, 0))
 
     given = {} if "input" in how else {"stdin": subprocess.DEVNULL}
@@ -95,7 +97,7 @@ def check_module(folder):
 
 def at_hand():
     """The program itself where it stands ready, so that the launcher needn't look at all sources at each run; else nothing."""
-    sys.path += [os.path.join(TOP, ".ci"), os.path.join(TOP, "tools")]
+    sys.path.append(os.path.join(TOP, ".ci"))
     try:
         import building
         import delivered
