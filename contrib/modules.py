@@ -14,6 +14,7 @@ NEW_FORM_LINE = re.compile(rb"^//go:build[ \t][^\n]*", re.M)
 ELEMENT = re.compile(r"[A-Za-z0-9~][A-Za-z0-9._~-]*$|_$")
 # where Debian's packages of Go modules stand
 DEBIAN = "/usr/share/gocode"
+MOST = 256 << 20
 
 
 def walked(folder):
@@ -28,8 +29,9 @@ def walked(folder):
 
 
 def content(path):
+    """The bytes of a file, as far as memory is sure to hold them; apigate refuses far smaller ones."""
     with open(path, "rb") as file:
-        return file.read()
+        return file.read(MOST)
 
 
 def old_form(folder):
