@@ -65,9 +65,17 @@ def count(text):
 
 
 def limit(seconds, megabytes):
-    """Sets the limits."""
+    """Sets the limits, that of data also for this script, which reads files of the module too."""
     global limits
     limits = Limits(seconds, megabytes)
+    most = resource.getrlimit(resource.RLIMIT_DATA)[1]
+    resource.setrlimit(resource.RLIMIT_DATA, (bounds.least(megabytes << 20, most), most))
+
+
+def unlimited():
+    """Takes back what limit() set for this script."""
+    most = resource.getrlimit(resource.RLIMIT_DATA)[1]
+    resource.setrlimit(resource.RLIMIT_DATA, (most, most))
 
 
 def within(words, **how):
@@ -119,7 +127,7 @@ def ready():
         found = at_hand()
     if not found:
         # without limits: a proof takes hours, and reads no module
-        tried = subprocess.run([PROGRAM, "make", "--seed", "1", "--size", "1"], stdin=subprocess.DEVNULL, stdout=subprocess.DEVNULL, check=False)
+        tried = subprocess.run([PROGRAM, "make", "--seed", "1", "--size", "1"], stdin=subprocess.DEVNULL, stdout=subprocess.DEVNULL, preexec_fn=unlimited, check=False)
         if tried.returncode:
             raise Stop("the program can't be run", tried.returncode)
         found = PROGRAM
@@ -172,4 +180,11 @@ def main(run):
     except OSError as error:
         say("%s: %s" % (os.path.basename(sys.argv[0]), shown(str(error))))
         status = 4
+    except MemoryError:
+        status = 6
+        say("%s: out of memory; nothing was judged" % os.path.basename(sys.argv[0]))
+    except Exception as error:
+        # where it isn't caught, the interpreter ends with the status of a verdict
+        say("%s: %s: %s" % (os.path.basename(sys.argv[0]), type(error).__name__, shown(str(error))))
+        status = REFUSED
     sys.exit(status)
