@@ -12,6 +12,8 @@ MODES = {
     "gate": "gate --old old --new new --std std --api api.txt --except except.txt --version v1.2.3 --platforms linux-amd64,linux-386",
     "skipped": "skipped --new new --std std",
     "make": "make --seed 1 --size 3",
+    "features by two workers": "features --new new --std std --workers 2",
+    "make by two workers": "make --seed 1 --size 3 --workers 2",
 }
 
 
