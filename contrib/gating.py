@@ -10,6 +10,9 @@ import subprocess
 import sys
 
 TOP = os.path.dirname(os.path.dirname(os.path.abspath(__file__)))
+sys.path.append(os.path.join(TOP, "tools"))
+import bounds
+
 PROGRAM = os.path.join(TOP, "apigate")
 NUMBER = "(0|[1-9][0-9]*)"
 RELEASE = re.compile(r"v?%s\.%s\.%s$" % (NUMBER, NUMBER, NUMBER))
@@ -71,20 +74,27 @@ def count(text):
 
 
 def limit(seconds, megabytes):
-    """Sets the limits."""
+    """Sets the limits, that of data also for this script, which reads files of the module too."""
     global limits
     limits = Limits(seconds, megabytes)
+    most = resource.getrlimit(resource.RLIMIT_DATA)[1]
+    resource.setrlimit(resource.RLIMIT_DATA, (bounds.least(megabytes << 20, most), most))
+
+
+def unlimited():
+    """Takes back what limit() set for this script."""
+    most = resource.getrlimit(resource.RLIMIT_DATA)[1]
+    resource.setrlimit(resource.RLIMIT_DATA, (most, most))
 
 
 def within(words, **how):
     """Runs a program within the limits, with nothing to read but what it is given, and keeps what it says. Where it is ended for them, nothing was judged."""
-    name, most = BUILT.sub("", os.path.basename(words[0])), resource.getrlimit(resource.RLIMIT_DATA)[1]
-    data = min(limits.megabytes << 20, sys.maxsize if most == resource.RLIM_INFINITY else most)
+    name = BUILT.sub("", os.path.basename(words[0]))
 
     def before():
         # a group of its own, so that what it runs itself ends with it
         os.setpgrp()
-        resource.setrlimit(resource.RLIMIT_DATA, (data, data))
+        bounds.bound(limits.megabytes << 20)
         resource.setrlimit(resource.RLIMIT_CORE, (0, 0))
 
     given = how.pop("input", None)
@@ -113,7 +123,7 @@ def check_module(folder):
 
 def at_hand():
     """The program itself where it stands ready, so that the launcher needn't look at all sources at each run; else nothing."""
-    sys.path += [os.path.join(TOP, ".ci"), os.path.join(TOP, "tools")]
+    sys.path.append(os.path.join(TOP, ".ci"))
     try:
         import building
         import delivered
@@ -135,7 +145,7 @@ def ready():
         found = at_hand()
     if not found:
         # without limits: a proof takes hours, and reads no module
-        tried = subprocess.run([PROGRAM, "make", "--seed", "1", "--size", "1"], stdin=subprocess.DEVNULL, stdout=subprocess.DEVNULL, check=False)
+        tried = subprocess.run([PROGRAM, "make", "--seed", "1", "--size", "1"], stdin=subprocess.DEVNULL, stdout=subprocess.DEVNULL, preexec_fn=unlimited, check=False)
         if tried.returncode:
             raise Stop("the program can't be run", tried.returncode)
         found = PROGRAM
@@ -201,4 +211,11 @@ def main(run):
     except OSError as error:
         say("%s: %s" % (os.path.basename(sys.argv[0]), shown(str(error))))
         status = 4
+    except MemoryError:
+        status = 6
+        say("%s: out of memory; nothing was judged" % os.path.basename(sys.argv[0]))
+    except Exception as error:
+        # where it isn't caught, the interpreter ends with the status of a verdict
+        say("%s: %s: %s" % (os.path.basename(sys.argv[0]), type(error).__name__, shown(str(error))))
+        status = REFUSED
     sys.exit(status)

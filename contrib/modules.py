@@ -16,6 +16,8 @@ NEW_FORM_LINE = re.compile(rb"^//go:build[ \t][^\n]*", re.M)
 ELEMENT = re.compile(r"[A-Za-z0-9~][A-Za-z0-9._~-]*$|_$")
 # where Debian's packages of Go modules stand
 DEBIAN = "/usr/share/gocode"
+# the most bytes of a file that apigate reads
+MOST = 4 << 20
 
 
 def walked(folder):
@@ -35,10 +37,11 @@ def content(path):
 
 
 def old_form(folder):
-    """The files that have build lines of the old form alone."""
+    """The files that have build lines of the old form alone, but for those that are too large for apigate."""
     found = []
     for name in walked(folder):
-        text = content(os.path.join(folder, name))
+        path = os.path.join(folder, name)
+        text = content(path) if os.path.getsize(path) <= MOST else b""
         if OLD_FORM.search(text) and not NEW_FORM.search(text):
             found.append(name)
     return found
