@@ -145,7 +145,11 @@ measures_image r builtins.Len l = length_image r l
 measures_image r builtins.Cap l = capacity_image r l
 measures_image r f l = refl
 
-module _ (E F G : Env) (r : Naming) (pairs : List TypePair) (std : TypeName → Bool) (is_open : Sel → Bool) (K : Keeps E F r pairs std is_open) (grows : Grows E G) (barred : G.profile ≡ true) where
+-- what a name of a type stands for, it stands for in an environment that has more
+pub names_grow : (E G : Env) → Grows E G → (q : QualifiedName) (t : Term) → IsTypeName E q t → IsTypeName G q t
+names_grow E G grows q t a = subst (λ D. IsTypeName D q t) (joined_is E G grows) (type_name_more E G grows q t a)
+
+module _ (E F G : Env) (r : Naming) (pairs : List TypePair) (std : TypeName → Bool) (is_open : Sel → Bool) (K : Keeps E F r pairs std is_open) (more : (q : QualifiedName) (t : Term) → IsTypeName E q t → IsTypeName G q t) (barred : G.profile ≡ true) where
   abbrev to : Term → Term
   to = image r same_sels
 
@@ -166,9 +170,6 @@ module _ (E F G : Env) (r : Naming) (pairs : List TypePair) (std : TypeName → 
 
   pub type_name_kept : (q : QualifiedName) (t : Term) → IsTypeName E q t → IsTypeName F q (to t) × R t
   type_name_kept q t d = by_name q.qualifier q.name t d
-
-  more : (q : QualifiedName) (t : Term) → IsTypeName E q t → IsTypeName G q t
-  more q t a = subst (λ D. IsTypeName D q t) (joined_is E G grows) (type_name_more E G grows q t a)
 
   client_sel : (n : Name) → IsClientSel (selector_of E n.text)
   client_sel n = selected.client_sel E F r pairs std is_open K n
@@ -481,7 +482,7 @@ module _ (E F G : Env) (r : Naming) (pairs : List TypePair) (std : TypeName → 
     pub has_kept : {e : Expr} {o : Operand} → Has E e o → Meets G (expression e) → (q : Operand) × Has F e q × A o q
     has_kept (has_operand {e = e} a s) m = let f = form_kept a (meets_parts G (expression e) m) in (f.0, has_operand f.1 (within_after r pairs std is_open f.2 s), f.2)
 
-    form_kept : {l : ExprLayer} {o : Operand} → HasForm E l o → Met (expression_parts l) → (q : Operand) × HasForm F l q × A o q
+    pub form_kept : {l : ExprLayer} {o : Operand} → HasForm E l o → Met (expression_parts l) → (q : Operand) × HasForm F l q × A o q
     form_kept has_int h = (_, has_int, after_constant tt)
     form_kept has_rune h = (_, has_rune, after_constant tt)
     form_kept (has_string i) h = (_, has_string i, after_constant tt)
@@ -591,7 +592,7 @@ module _ (E F G : Env) (r : Naming) (pairs : List TypePair) (std : TypeName → 
     optional_kept optional_none h = optional_none
     optional_kept (optional_some a i) h = let f = has_kept a h.0 in optional_some f.1 (index f.2 i)
 
-    each_kept : {es : List Expr} {os : List Operand} → HasEach E es os → Met (map expression es) → (qs : List Operand) × HasEach F es qs × AreAfter r pairs std is_open os qs
+    pub each_kept : {es : List Expr} {os : List Operand} → HasEach E es os → Met (map expression es) → (qs : List Operand) × HasEach F es qs × AreAfter r pairs std is_open os qs
     each_kept each_none h = ([], each_none, tt)
     each_kept (each_more a x) h = let f = has_kept a h.0 in let g = each_kept x h.1 in (f.0 ∷ g.0, each_more f.1 g.1, (f.2, g.2))
 
