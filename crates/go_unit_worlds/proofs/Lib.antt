@@ -1,3 +1,3 @@
-mod JoinedInTurn
+pub mod JoinedInTurn
 mod SharedWorlds
 mod WorldsInTurn
