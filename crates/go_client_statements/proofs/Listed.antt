@@ -77,11 +77,11 @@ module _ (E F : Env) (r : Naming) (pairs : List TypePair) (std : TypeName → Bo
 
   pub tag_kept : {e : Option Expr} {t : Term} → IsTag E e t → Met (tag_nodes e) → IsTag F e (to t) × R t
   tag_kept no_tag m = (subst (IsTag F None) (sym (values.basic_stays E F r pairs std is_open K basic.Bool)) no_tag, values.basic_reached E F r pairs std is_open K basic.Bool)
-  tag_kept (tag a v) m = let f = values.has E F r pairs std is_open K a m.0 in let g = values.value_type E F r pairs std is_open K f.2 v in (tag f.1 g.0, g.1)
+  tag_kept (tag a v) m = let f = values.has E F E r pairs std is_open K (λ q t n. n) K.barred a m.0 in let g = values.value_type E F r pairs std is_open K f.2 v in (tag f.1 g.0, g.1)
 
   one_case : (t : Term) (e : Expr) → R t → IsCase E t e → Meets E (expression e) → IsCase F (to t) e
   one_case t e h (o, s, a, c) m =
-      let f = values.has E F r pairs std is_open K a m in
+      let f = values.has E F E r pairs std is_open K (λ q t n. n) K.barred a m in
       let g = operators.comparison_kept E F r pairs std is_open K (after_value same_mode h) f.2 c in
       (f.0, g.0, f.1, g.1)
 

@@ -12,7 +12,7 @@ use Rattle.go_model.specs.declared.types.package.Entity.TheVariants as entity
 use Rattle.go_model.specs.declared.types.term.Term.{Term, Term-F}
 use Rattle.go_rules.specs.Asks.{Meets}
 use Rattle.go_rules.specs.Environments.{Env}
-use Rattle.go_rules.specs.Expressions.{Has, OfType}
+use Rattle.go_rules.specs.Expressions.{Has, IsTypeName, OfType}
 use Rattle.go_rules.specs.Nodes.{Node, expression, optional, type}
 use Rattle.go_rules.specs.Usability.{UsableAs}
 use Rattle.go_rules.specs.declared.operand.Operand.{Operand}
@@ -22,6 +22,7 @@ use Rattle.go_statement_rules.specs.Statements.{fits, form_env}
 use Rattle.go_syntax.specs.declared.declaration.ConstSpec.{ConstSpec}
 use Rattle.go_syntax.specs.declared.declaration.VarSpec.{VarSpec}
 use Rattle.go_syntax.specs.declared.expression.Expr.{Expr}
+use Rattle.go_syntax.specs.declared.name.QualifiedName.{QualifiedName}
 use Rattle.go_syntax.specs.declared.types.«Type».{«Type» as Typ}
 use Rattle.go_type_images.specs.EntryImages.{const_to, entity_to}
 use Rattle.go_type_images.specs.Images.{Naming, image, same_sels}
@@ -64,7 +65,7 @@ pub values_of : (P : Node → Type 0) (o : Option Typ) (rest : List Node) → Ea
 values_of P None rest h = h
 values_of P (Some u) rest h = h.1
 
-module _ (E F : Env) (r : Naming) (pairs : List TypePair) (std : TypeName → Bool) (is_open : Sel → Bool) (K : Keeps E F r pairs std is_open) where
+module _ (E F G : Env) (r : Naming) (pairs : List TypePair) (std : TypeName → Bool) (is_open : Sel → Bool) (K : Keeps E F r pairs std is_open) (more : (q : QualifiedName) (t : Term) → IsTypeName E q t → IsTypeName G q t) (barred : G.profile ≡ true) where
   abbrev to : Term → Term
   to = image r same_sels
 
@@ -72,7 +73,7 @@ module _ (E F : Env) (r : Naming) (pairs : List TypePair) (std : TypeName → Bo
   R = IsReached pairs std is_open
 
   abbrev Met : List Node → Type 0
-  Met bs = Each (Meets E) bs
+  Met bs = Each (Meets G) bs
 
   abbrev entities_to : List Entity → List Entity
   entities_to xs = map (entity_to r) xs
@@ -80,21 +81,21 @@ module _ (E F : Env) (r : Naming) (pairs : List TypePair) (std : TypeName → Bo
   abbrev pub Entities : List Entity → Type 0
   Entities xs = Each (EntityReached pairs std is_open) xs
 
-  type_kept : {t : Typ} {u : Term} → OfType E t u → Meets E (type t) → OfType F t (to u) × R u
-  type_kept a m = expressions.type_kept E F E r pairs std is_open K (λ x u i. i) K.barred a m
+  type_kept : {t : Typ} {u : Term} → OfType E t u → Meets G (type t) → OfType F t (to u) × R u
+  type_kept a m = expressions.type_kept E F G r pairs std is_open K more barred a m
 
   -- ---- constants
 
-  pub constant_type_kept : {o : Option Typ} {c d : ConstTerm} {v : Value} → TypeOfConstant E o c v d → ConstReached pairs std is_open c → ((t : Typ) → o ≡ Some t → Meets E (type t)) → TypeOfConstant F o (const_to r c) v (const_to r d) × ConstReached pairs std is_open d
+  pub constant_type_kept : {o : Option Typ} {c d : ConstTerm} {v : Value} → TypeOfConstant E o c v d → ConstReached pairs std is_open c → ((t : Typ) → o ≡ Some t → Meets G (type t)) → TypeOfConstant F o (const_to r c) v (const_to r d) × ConstReached pairs std is_open d
   constant_type_kept own_kind h m = (own_kind, h)
   constant_type_kept (given_type {t = t} {u = u} {b = b} {c = c} {v = v} a e i w) h m =
       let f = type_kept a (m t refl) in
       (given_type f.0 (V.form_kept E F r pairs std is_open K u (Term-F.Plain b) f.1 refl e).0 i (values.usable E F r pairs std is_open K (after_constant {c = c} {v = v} h) f.1 w), f.1)
 
-  pub constants_kept : {o : Option Typ} {es : List Expr} {xs : List Entity} → AreConstants E o es xs → ((t : Typ) → o ≡ Some t → Meets E (type t)) → Met (map expression es) → AreConstants F o es (entities_to xs) × Entities xs
+  pub constants_kept : {o : Option Typ} {es : List Expr} {xs : List Entity} → AreConstants E o es xs → ((t : Typ) → o ≡ Some t → Meets G (type t)) → Met (map expression es) → AreConstants F o es (entities_to xs) × Entities xs
   constants_kept constants_none m n = (constants_none, tt)
   constants_kept (constants_more {e = e} a k x) m n =
-      let f = values.has E F r pairs std is_open K a n.0 in
+      let f = values.has E F G r pairs std is_open K more barred a n.0 in
       let g = results.constant_after r pairs std is_open f.2 in
       let i = constant_type_kept k g.1 m in
       let j = constants_kept x m n.1 in
@@ -124,15 +125,15 @@ module _ (E F : Env) (r : Naming) (pairs : List TypePair) (std : TypeName → Bo
 
   pub constants_given : (ds : List Declaration) (s : ConstSpec) (place : ℕ) (xs : List Entity) → Gives E ds (constants s place) (objects xs) → Met (nodes (constants s place)) → GivesImages ds (constants s place) xs
   constants_given ds s place xs (gives_constants x e) m =
-      let f = constants_kept x (λ t i. typed_form (Meets E) s.type_ t (map expression s.values) i m) (values_of (Meets E) s.type_ (map expression s.values) m) in
+      let f = constants_kept x (λ t i. typed_form (Meets G) s.type_ t (map expression s.values) i m) (values_of (Meets G) s.type_ (map expression s.values) m) in
       (gives_constants f.0 e, f.1)
 
   pub variables_given : (ds : List Declaration) (s : VarSpec) (xs : List Entity) → Gives E ds (variables s) (objects xs) → Met (nodes (variables s)) → GivesImages ds (variables s) xs
   variables_given ds s xs (gives_typed_variables {t = t} {u = u} e a) m =
-      let f = type_kept a (typed_form (Meets E) s.type_ t (map expression s.values) e m) in
+      let f = type_kept a (typed_form (Meets G) s.type_ t (map expression s.values) e m) in
       (subst (λ ys. Gives F ds (variables s) (objects ys)) (sym (variables_like (length s.names) u)) (gives_typed_variables e f.0), each_like (length s.names) u f.1)
   variables_given ds s xs (gives_variables {ts = ts} e x y) m =
-      let f = values.initialize_kept E F r pairs std is_open K x (values_of (Meets E) s.type_ (map expression s.values) m) in
+      let f = values.initialize_kept E F G r pairs std is_open K more barred x (values_of (Meets G) s.type_ (map expression s.values) m) in
       let g = values.value_types E F r pairs std is_open K f.0 f.2 y in
       (subst (λ ys. Gives F ds (variables s) (objects ys)) (sym (variables_of ts)) (gives_variables e f.1 g.0), each_variable ts g.1)
 
@@ -152,10 +153,10 @@ module _ (E F : Env) (r : Naming) (pairs : List TypePair) (std : TypeName → Bo
   each_usable t (o ∷ os) [] h a u = absurd a
   each_usable t (o ∷ os) (q ∷ qs) h a u = (values.usable E F r pairs std is_open K a.0 h u.0, each_usable t os qs h a.1 u.1)
 
-  fit_of : (t : Typ) (n : ℕ) (es : List Expr) → Meets E (type t) → Met (map expression es) → ValuesFit E (Some t) n es → ValuesFit F (Some t) n es
+  fit_of : (t : Typ) (n : ℕ) (es : List Expr) → Meets G (type t) → Met (map expression es) → ValuesFit E (Some t) n es → ValuesFit F (Some t) n es
   fit_of t n [] m w h = tt
   fit_of t n (e ∷ es) m w (v, os, a, x, c) =
-      let f = type_kept a m in let g = values.initialize_kept E F r pairs std is_open K x w in
+      let f = type_kept a m in let g = values.initialize_kept E F G r pairs std is_open K more barred x w in
       (to v, g.0, f.0, g.1, each_usable v os g.0 f.1 g.2 c)
 
   pub values_fit : (o : Option Typ) (n : ℕ) (es : List Expr) → Met (optional type o ++ map expression es) → ValuesFit E o n es → ValuesFit F o n es
@@ -166,7 +167,7 @@ module _ (E F : Env) (r : Naming) (pairs : List TypePair) (std : TypeName → Bo
 
 -- the values of a declaration's form are fit in the environment around it, which differs from the declaration's own in `iota` alone
 pub fits_kept : (E F : Env) (r : Naming) (pairs : List TypePair) (std : TypeName → Bool) (is_open : Sel → Bool) → Keeps E F r pairs std is_open → (f : Form) → Each (Meets (form_env E f)) (nodes f) → fits E f → fits F f
-fits_kept E F r pairs std is_open K (variables s) m h = values_fit E F r pairs std is_open K s.type_ (length s.names) s.values m h
+fits_kept E F r pairs std is_open K (variables s) m h = values_fit E F E r pairs std is_open K (λ q t n. n) K.barred s.type_ (length s.names) s.values m h
 fits_kept E F r pairs std is_open K (constants s place) m h = tt
 fits_kept E F r pairs std is_open K (alias s) m h = tt
 fits_kept E F r pairs std is_open K (definition s) m h = tt

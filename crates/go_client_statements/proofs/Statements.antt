@@ -161,7 +161,7 @@ module _ (E F : Env) (r : Naming) (pairs : List TypePair) (std : TypeName → Bo
   mutual
     operand_kept : {f : Enclosing} {s : Scopes} {e : Expr} {o : Operand} → In s → IsOperand E blocks f s e o → (q : Operand) × IsOperand F blocks (enclosing_to r f) (scopes_to r s) e q × A o q
     operand_kept {s = s} i (is_operand x y) =
-        let g = values.has (inside s) (inside_too s) r pairs std is_open (deep s i) x.is x.meets in
+        let g = values.has (inside s) (inside_too s) (inside s) r pairs std is_open (deep s i) (λ q t n. n) K.barred x.is x.meets in
         (g.0, is_operand (record { is = g.1; meets = meets_kept (inside s) (inside_too s) r pairs std is_open (deep s i) _ x.meets }) (literals_kept i (inside s) (λ q t n. n) K.barred x.meets y), g.2)
 
     pub literals_kept : {f : Enclosing} {s : Scopes} {at : Node} → In s → (G : Env) → Names s G → G.profile ≡ true → Meets G at → LiteralsAreTyped E blocks f s at → LiteralsAreTyped F blocks (enclosing_to r f) (scopes_to r s) at
@@ -209,7 +209,7 @@ module _ (E F : Env) (r : Naming) (pairs : List TypePair) (std : TypeName → Bo
         let G = form_env (inside s) form in
         let H = form_env (inside_too s) form in
         let D = form_keeps (inside s) (inside_too s) r pairs std is_open (deep s i) form in
-        let g = local_given G H r pairs std is_open D [] form xs l.0 x (mets z) in
+        let g = local_given G H G r pairs std is_open D (λ q t n. n) D.barred [] form xs l.0 x (mets z) in
         let declared = subst (λ ms. Declares (scopes_to r s) (some_names (names_of form)) ms (scopes_to r t)) (locals_of r xs) (declares_to r d) in
         let rest = declared_kept (declares_local pairs std is_open i (locals_reached pairs std is_open xs g.1) d) l.1 w in
         (declared_more g.0 (fits_kept (inside s) (inside_too s) r pairs std is_open (deep s i) form (mets z) y) (met_kept i G H D (form_names (inside s) form) z) declared rest.0, rest.1)
@@ -232,7 +232,7 @@ module _ (E F : Env) (r : Naming) (pairs : List TypePair) (std : TypeName → Bo
 
     leaves_kept : {f : Enclosing} {s t : Scopes} {k : KindLayer} → Of f → In s → Leaves E blocks f s k t → Leaves F blocks (enclosing_to r f) (scopes_to r s) k (scopes_to r t) × In t
     leaves_kept h i leaves_empty = (leaves_empty, i)
-    leaves_kept {s = s} h i (leaves_call x y) = let a = operand_kept i x in (leaves_call a.1 (values.call_kept (inside s) (inside_too s) r pairs std is_open (deep s i) y (operand_met x)), i)
+    leaves_kept {s = s} h i (leaves_call x y) = let a = operand_kept i x in (leaves_call a.1 (values.call_kept (inside s) (inside_too s) (inside s) r pairs std is_open (deep s i) (λ q t n. n) K.barred y (operand_met x)), i)
     leaves_kept h i (leaves_receive_alone x y) = let a = operand_kept i x in (leaves_receive_alone a.1 y, i)
     leaves_kept {s = s} h i (leaves_send {t = t} {u = u} {d = d} x y z w v k) =
         let a = operand_kept i x in let b = operand_kept i v in
@@ -250,18 +250,18 @@ module _ (E F : Env) (r : Naming) (pairs : List TypePair) (std : TypeName → Bo
         let c = values.operates_kept (inside s) (inside_too s) r pairs std is_open (deep s i) op a.2 b.2 w in
         (leaves_operation a.1 g.0 b.1 c.1 (values.usable (inside s) (inside_too s) r pairs std is_open (deep s i) c.2 g.1 v), i)
     leaves_kept {s = s} h i (leaves_assignment {es = es} {xs = xs} x y z) =
-        let a = values.initialize_kept (inside s) (inside_too s) r pairs std is_open (deep s i) x (map_right (Meets (inside s)) expression es xs (mets z)) in
-        (leaves_assignment a.1 (values.assigned_kept (inside s) (inside_too s) r pairs std is_open (deep s i) a.0 a.2 y (map_left (Meets (inside s)) expression es xs (mets z))) (all_met i z), i)
+        let a = values.initialize_kept (inside s) (inside_too s) (inside s) r pairs std is_open (deep s i) (λ q t n. n) K.barred x (map_right (Meets (inside s)) expression es xs (mets z)) in
+        (leaves_assignment a.1 (values.assigned_kept (inside s) (inside_too s) (inside s) r pairs std is_open (deep s i) (λ q t n. n) K.barred a.0 a.2 y (map_left (Meets (inside s)) expression es xs (mets z))) (all_met i z), i)
     leaves_kept h i (leaves_definition {scope = scope} {outer = outer} x y z w v u) =
-        let a = values.initialize_kept (inside (scope ∷ outer)) (inside_too (scope ∷ outer)) r pairs std is_open (deep (scope ∷ outer) i) y (mets v) in
+        let a = values.initialize_kept (inside (scope ∷ outer)) (inside_too (scope ∷ outer)) (inside (scope ∷ outer)) r pairs std is_open (deep (scope ∷ outer) i) (λ q t n. n) K.barred y (mets v) in
         let d = values.defined_kept (inside (scope ∷ outer)) (inside_too (scope ∷ outer)) r pairs std is_open (deep (scope ∷ outer) i) scope i.0 a.0 a.2 z in
         (leaves_definition x a.1 d.0 w (all_met i v) (declares_to r u), declares_local pairs std is_open i d.1 u)
     leaves_kept h i (leaves_constants_declared {specs = specs} x) = let a = declared_kept i (constants_local no_spec 0 specs) x in (leaves_constants_declared a.0, a.1)
     leaves_kept h i (leaves_variables_declared {specs = specs} x) = let a = declared_kept i (variables_local specs) x in (leaves_variables_declared a.0, a.1)
     leaves_kept h i (leaves_labeled x) = let a = leaves_kept h i x in (leaves_labeled a.0, a.1)
-    leaves_kept {s = s} h i (leaves_go x y) = let a = operand_kept i x in (leaves_go a.1 (values.call_kept (inside s) (inside_too s) r pairs std is_open (deep s i) y (operand_met x)), i)
-    leaves_kept {s = s} h i (leaves_defer x y) = let a = operand_kept i x in (leaves_defer a.1 (values.call_kept (inside s) (inside_too s) r pairs std is_open (deep s i) y (operand_met x)), i)
-    leaves_kept {s = s} h i (leaves_return x y) = (leaves_return (values.returns_kept (inside s) (inside_too s) r pairs std is_open (deep s i) h x (mets y)) (all_met i y), i)
+    leaves_kept {s = s} h i (leaves_go x y) = let a = operand_kept i x in (leaves_go a.1 (values.call_kept (inside s) (inside_too s) (inside s) r pairs std is_open (deep s i) (λ q t n. n) K.barred y (operand_met x)), i)
+    leaves_kept {s = s} h i (leaves_defer x y) = let a = operand_kept i x in (leaves_defer a.1 (values.call_kept (inside s) (inside_too s) (inside s) r pairs std is_open (deep s i) (λ q t n. n) K.barred y (operand_met x)), i)
+    leaves_kept {s = s} h i (leaves_return x y) = (leaves_return (values.returns_kept (inside s) (inside_too s) (inside s) r pairs std is_open (deep s i) (λ q t n. n) K.barred h x (mets y)) (all_met i y), i)
     leaves_kept h i leaves_break = (leaves_break, i)
     leaves_kept h i leaves_continue = (leaves_continue, i)
     leaves_kept h i leaves_goto = (leaves_goto, i)
@@ -290,7 +290,7 @@ module _ (E F : Env) (r : Naming) (pairs : List TypePair) (std : TypeName → Bo
         let a = operand_kept i x in
         let g = listed.ranges_kept (inside s) (inside_too s) r pairs std is_open (deep s i) a.2 y in
         let n = length es in
-        let c = values.assigned_kept (inside s) (inside_too s) r pairs std is_open (deep s i) _ (results.plains_after r pairs std is_open (take n ts) (each_take R n ts g.1)) w (mets v) in
+        let c = values.assigned_kept (inside s) (inside_too s) (inside s) r pairs std is_open (deep s i) (λ q t n. n) K.barred _ (results.plains_after r pairs std is_open (take n ts) (each_take R n ts g.1)) w (mets v) in
         (leaves_range_assigned a.1 g.0 (subst (λ k. n ≤ k) (sym (map_length to ts)) z) (subst (λ us. AreAssigned (inside_too s) es (map plain us)) (sym (map_take to n ts)) c) (all_met i v) (block_kept h i u), i)
     leaves_kept {s = s} h i (leaves_range_defined {t = t} {ns = ns} {ts = ts} x y z w v u) =
         let a = operand_kept i x in

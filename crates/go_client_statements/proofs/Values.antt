@@ -17,7 +17,7 @@ use Rattle.go_model.specs.declared.types.package.ConstTerm.TheVariants as consta
 use Rattle.go_model.specs.declared.types.term.Term.{Term, Term-F, out-roll-Term}
 use Rattle.go_rules.specs.Asks.{Meets}
 use Rattle.go_rules.specs.Environments.{Env}
-use Rattle.go_rules.specs.Expressions.{Has, has_operand, HasEach, HasForm, has_constant_prefix, has_imported, has_paren, has_prefix, has_primary, has_receive, HasPost, post_assertion, post_builtin, post_call, post_conversion, HasPosts, posts_more, posts_none, IsCall, calls_at, chain, product_operator, sum_operator}
+use Rattle.go_rules.specs.Expressions.{Has, IsTypeName, has_operand, HasEach, HasForm, has_constant_prefix, has_imported, has_paren, has_prefix, has_primary, has_receive, HasPost, post_assertion, post_builtin, post_call, post_conversion, HasPosts, posts_more, posts_none, IsCall, calls_at, chain, product_operator, sum_operator}
 use Rattle.go_rules.specs.Names.{Named, value_at}
 use Rattle.go_rules.specs.Nodes.{ExprLayer, Node, PostLayer, expression, expression_parts}
 use Rattle.go_rules.specs.Operands.{basic_term, computed, constant_of, default_type, is_variable, loose, plain, tuple, value_of, variable}
@@ -33,6 +33,7 @@ use Rattle.go_statement_rules.specs.Assignments.{AreAssigned, assigned_blank, as
 use Rattle.go_syntax.specs.declared.expression.Expr.{Expr, Expr-F, out-Expr}
 use Rattle.go_syntax.specs.declared.expression.Post.{Post, Post-F, out-Post}
 use Rattle.go_syntax.specs.declared.name.Name.{Name}
+use Rattle.go_syntax.specs.declared.name.QualifiedName.{QualifiedName}
 use Rattle.go_syntax.specs.declared.types.«Type».{«Type» as Typ}
 use Rattle.go_type_images.specs.EntryImages.{const_to}
 use Rattle.go_type_images.specs.Images.{Naming, image, same_sels}
@@ -159,18 +160,6 @@ module _ (E F : Env) (r : Naming) (pairs : List TypePair) (std : TypeName → Bo
   abbrev Bs : List Operand → List Operand → Type 0
   Bs = AreAfter r pairs std is_open
 
-  abbrev Met : List Node → Type 0
-  Met bs = Each (Meets E) bs
-
-  pub has : {e : Expr} {o : Operand} → Has E e o → Meets E (expression e) → (q : Operand) × Has F e q × B o q
-  has a m = expressions.has_kept E F E r pairs std is_open K (λ x u i. i) K.barred a m
-
-  form : {l : ExprLayer} {o : Operand} → HasForm E l o → Met (expression_parts l) → (q : Operand) × HasForm F l q × B o q
-  form a m = expressions.form_kept E F E r pairs std is_open K (λ x u i. i) K.barred a m
-
-  each : {es : List Expr} {os : List Operand} → HasEach E es os → Met (map expression es) → (qs : List Operand) × HasEach F es qs × Bs os qs
-  each a m = expressions.each_kept E F E r pairs std is_open K (λ x u i. i) K.barred a m
-
   pub usable : {o q : Operand} {t : Term} → B o q → R t → UsableAs E o t → UsableAs F q (to t)
   usable a h u = usable_kept E F r pairs std is_open K a h u
 
@@ -218,28 +207,7 @@ module _ (E F : Env) (r : Naming) (pairs : List TypePair) (std : TypeName → Bo
   by_element : {e : Expr} {t : Term} → (q : Operand) × Has F e q × B (value_of mode.MapElement t) q → GivesValueAndTruth F e (to t) × R t
   by_element {e = e} f = let g = element_after r pairs std is_open f.2 in (two_of_map (subst (Has F e) g.0 f.1), g.1)
 
-  two_kept : {e : Expr} {t : Term} → GivesValueAndTruth E e t → Meets E (expression e) → GivesValueAndTruth F e (to t) × R t
-  two_kept (two_of_map a) m = by_element (has a m)
-  two_kept (two_of_value i a) m = by_plain i (has a m)
-
-  pub initialize_kept : {n : ℕ} {es : List Expr} {os : List Operand} → Initialize E n es os → Met (map expression es) → (qs : List Operand) × Initialize F n es qs × Bs os qs
-  initialize_kept (by_each x e) m = let f = each x m in (f.0, by_each f.1 e, f.2)
-  initialize_kept (by_call {e = e} {ts = ts} a l w) m =
-      let f = has a m.0 in let g = results.tuple_after r pairs std is_open f.2 in
-      (map plain (map to ts), by_call (subst (Has F e) g.0 f.1) (map_length to ts ∙ l) w, results.plains_after r pairs std is_open ts g.1)
-  initialize_kept (by_two {t = t} x e) m = let f = two_kept x m.0 in (plain (to t) ∷ loose untyped.BoolKind ∷ [], by_two f.0 e, (after_value same_mode f.1, after_bare tt, tt))
-
-  -- ---- assignments
-
-  pub assigned_kept : {es : List Expr} {os : List Operand} (qs : List Operand) → Bs os qs → AreAssigned E es os → Met (map expression es) → AreAssigned F es qs
-  assigned_kept [] a assigned_none m = assigned_none
-  assigned_kept (q ∷ qs) a assigned_none m = absurd a
-  assigned_kept [] a (assigned_blank i t x) m = absurd a
-  assigned_kept (q ∷ qs) a (assigned_blank i t x) m = assigned_blank i (value_type a.0 t).0 (assigned_kept qs a.1 x m.1)
-  assigned_kept [] a (assigned_side b i u x) m = absurd a
-  assigned_kept (q ∷ qs) a (assigned_side b i u x) m =
-      let f = has b m.0 in let g = assigned_after r pairs std is_open i f.2 in
-      assigned_side f.1 g.0 (usable a.0 g.1 u) (assigned_kept qs a.1 x m.1)
+  -- ---- operators of assignments
 
   pub operates_kept : (op : AssignOperator) {l o s m p : Operand} → B l m → B o p → Operates E op l o s → (z : Operand) × Operates F op m p z × B s z
   operates_kept (assign.Sum op) a b x = operators.computes_kept E F r pairs std is_open K a b x
@@ -276,18 +244,66 @@ module _ (E F : Env) (r : Naming) (pairs : List TypePair) (std : TypeName → Bo
   results_kept [] a h (results_more u x) = absurd a
   results_kept (q ∷ qs) a h (results_more u x) = results_more (usable a.0 h.0 u) (results_kept qs a.1 h.1 x)
 
-  pub returns_kept : {ts : List Term} {es : List Expr} → Each R ts → Returns E ts es → Met (map expression es) → Returns F (map to ts) es
+-- ---- expressions, which meet what they are asked in a larger environment
+
+module _ (E F G : Env) (r : Naming) (pairs : List TypePair) (std : TypeName → Bool) (is_open : Sel → Bool) (K : Keeps E F r pairs std is_open) (more : (q : QualifiedName) (t : Term) → IsTypeName E q t → IsTypeName G q t) (barred : G.profile ≡ true) where
+  abbrev image_to : Term → Term
+  image_to = image r same_sels
+
+  abbrev Reached : Term → Type 0
+  Reached = IsReached pairs std is_open
+
+  abbrev Follows : Operand → Operand → Type 0
+  Follows = After r pairs std is_open
+
+  abbrev AllFollow : List Operand → List Operand → Type 0
+  AllFollow = AreAfter r pairs std is_open
+
+  abbrev Met : List Node → Type 0
+  Met bs = Each (Meets G) bs
+
+  pub has : {e : Expr} {o : Operand} → Has E e o → Meets G (expression e) → (q : Operand) × Has F e q × Follows o q
+  has a m = expressions.has_kept E F G r pairs std is_open K more barred a m
+
+  form : {l : ExprLayer} {o : Operand} → HasForm E l o → Met (expression_parts l) → (q : Operand) × HasForm F l q × Follows o q
+  form a m = expressions.form_kept E F G r pairs std is_open K more barred a m
+
+  each : {es : List Expr} {os : List Operand} → HasEach E es os → Met (map expression es) → (qs : List Operand) × HasEach F es qs × AllFollow os qs
+  each a m = expressions.each_kept E F G r pairs std is_open K more barred a m
+
+  two_kept : {e : Expr} {t : Term} → GivesValueAndTruth E e t → Meets G (expression e) → GivesValueAndTruth F e (image_to t) × Reached t
+  two_kept (two_of_map a) m = by_element E F r pairs std is_open K (has a m)
+  two_kept (two_of_value i a) m = by_plain E F r pairs std is_open K i (has a m)
+
+  pub initialize_kept : {n : ℕ} {es : List Expr} {os : List Operand} → Initialize E n es os → Met (map expression es) → (qs : List Operand) × Initialize F n es qs × AllFollow os qs
+  initialize_kept (by_each x e) m = let f = each x m in (f.0, by_each f.1 e, f.2)
+  initialize_kept (by_call {e = e} {ts = ts} a l w) m =
+      let f = has a m.0 in let g = results.tuple_after r pairs std is_open f.2 in
+      (map plain (map image_to ts), by_call (subst (Has F e) g.0 f.1) (map_length image_to ts ∙ l) w, results.plains_after r pairs std is_open ts g.1)
+  initialize_kept (by_two {t = t} x e) m = let f = two_kept x m.0 in (plain (image_to t) ∷ loose untyped.BoolKind ∷ [], by_two f.0 e, (after_value same_mode f.1, after_bare tt, tt))
+
+  -- ---- assignments, results and calls that stand alone
+
+  pub assigned_kept : {es : List Expr} {os : List Operand} (qs : List Operand) → AllFollow os qs → AreAssigned E es os → Met (map expression es) → AreAssigned F es qs
+  assigned_kept [] a assigned_none m = assigned_none
+  assigned_kept (q ∷ qs) a assigned_none m = absurd a
+  assigned_kept [] a (assigned_blank i t x) m = absurd a
+  assigned_kept (q ∷ qs) a (assigned_blank i t x) m = assigned_blank i (value_type E F r pairs std is_open K a.0 t).0 (assigned_kept qs a.1 x m.1)
+  assigned_kept [] a (assigned_side b i u x) m = absurd a
+  assigned_kept (q ∷ qs) a (assigned_side b i u x) m =
+      let f = has b m.0 in let g = assigned_after r pairs std is_open i f.2 in
+      assigned_side f.1 g.0 (usable E F r pairs std is_open K a.0 g.1 u) (assigned_kept qs a.1 x m.1)
+
+  pub returns_kept : {ts : List Term} {es : List Expr} → Each Reached ts → Returns E ts es → Met (map expression es) → Returns F (map image_to ts) es
   returns_kept h returns_nothing m = returns_nothing
-  returns_kept h (returns_each a x) m = let f = each a m in returns_each f.1 (results_kept f.0 f.2 h x)
+  returns_kept h (returns_each a x) m = let f = each a m in returns_each f.1 (results_kept E F r pairs std is_open K f.0 f.2 h x)
   returns_kept h (returns_call {e = e} {ts = us} a x) m =
       let f = has a m.0 in let g = results.tuple_after r pairs std is_open f.2 in
-      returns_call (subst (Has F e) g.0 f.1) (results_kept (map plain (map to us)) (results.plains_after r pairs std is_open us g.1) h x)
+      returns_call (subst (Has F e) g.0 f.1) (results_kept E F r pairs std is_open K (map plain (map image_to us)) (results.plains_after r pairs std is_open us g.1) h x)
 
-  -- ---- calls that stand alone
-
-  pub call_kept : {e : Expr} → IsCallAlone E e → Meets E (expression e) → IsCallAlone F e
+  pub call_kept : {e : Expr} → IsCallAlone E e → Meets G (expression e) → IsCallAlone F e
   call_kept (call_alone {x = x} before c i k a s) m =
-      let q = met.calls_met E m (calls_at [] i k) in
-      let f = form a (met.chain_met E x before q.operand q.posts) in
+      let q = met.calls_met G m (calls_at [] i k) in
+      let f = form a (met.chain_met G x before q.operand q.posts) in
       call_alone before c i k f.1 (called_alone r pairs std is_open f.2 s)
-  call_kept (call_in_parentheses {e = e} i x) m = call_in_parentheses i (call_kept x (subst (λ l. Met (expression_parts l)) i (meets_parts E (expression e) m)).0)
+  call_kept (call_in_parentheses {e = e} i x) m = call_in_parentheses i (call_kept x (subst (λ l. Met (expression_parts l)) i (meets_parts G (expression e) m)).0)
