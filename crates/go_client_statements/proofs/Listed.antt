@@ -149,16 +149,16 @@ module _ (E F : Env) (r : Naming) (pairs : List TypePair) (std : TypeName → Bo
   pub ranges_kept : {o q : Operand} {ts : List Term} → B o q → Ranges E o ts → Ranges F q (map to ts) × Each R ts
   ranges_kept {q = q} a (ranges_array {t = t} {e = e} i x) =
       let f = typed_after r pairs std is_open a i in let g = operators.array_kept E F r pairs std is_open K f.1 x in
-      (subst (λ z. Ranges F q (z ∷ to e ∷ [])) (sym int_stays) (ranges_array f.0 g.0), (int_reached, g.1, tt))
+      (subst (λ z. Ranges F q (z ∷ to e ∷ [])) (sym int_stays) (ranges_array f.0 g.0), (int_reached, (g.1, tt)))
   ranges_kept {q = q} a (ranges_slice {t = t} {e = e} i x) =
       let f = typed_after r pairs std is_open a i in let g = V.form_kept E F r pairs std is_open K t (Term-F.Slice e) f.1 refl x in
-      (subst (λ z. Ranges F q (z ∷ to e ∷ [])) (sym int_stays) (ranges_slice f.0 g.0), (int_reached, g.1 e (inl refl), tt))
+      (subst (λ z. Ranges F q (z ∷ to e ∷ [])) (sym int_stays) (ranges_slice f.0 g.0), (int_reached, (g.1 e (inl refl), tt)))
   ranges_kept {q = q} a (ranges_string x) =
       (subst (λ z. Ranges F q (z ∷ to (basic_term basic.Int32) ∷ [])) (sym int_stays) (subst (λ z. Ranges F q (basic_term basic.Int ∷ z ∷ [])) (sym (values.basic_stays E F r pairs std is_open K basic.Int32)) (ranges_string (operators.string_kept E F r pairs std is_open K a x))),
-      (int_reached, values.basic_reached E F r pairs std is_open K basic.Int32, tt))
+      (int_reached, (values.basic_reached E F r pairs std is_open K basic.Int32, tt)))
   ranges_kept a (ranges_map {t = t} {k = k} {e = e} i x) =
       let f = typed_after r pairs std is_open a i in let g = V.form_kept E F r pairs std is_open K t (Term-F.Map k e) f.1 refl x in
-      (ranges_map f.0 g.0, (g.1 k (inl refl), g.1 e (inr (inl refl)), tt))
+      (ranges_map f.0 g.0, (g.1 k (inl refl), (g.1 e (inr (inl refl)), tt)))
   ranges_kept a (ranges_channel {t = t} {e = e} {d = d} i x w) =
       let f = typed_after r pairs std is_open a i in let g = V.form_kept E F r pairs std is_open K t (Term-F.Chan d e) f.1 refl x in
       (ranges_channel f.0 g.0 w, (g.1 e (inl refl), tt))

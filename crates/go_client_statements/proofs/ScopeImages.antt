@@ -106,7 +106,7 @@ module _ (pairs : List TypePair) (std : TypeName → Bool) (is_open : Sel → Bo
 
   placed_local : (o : Ordering) (x : List ℕ × Seen) (xs ys : Named Seen) (name : List ℕ) (m : Seen) → L x.1 → ScopeReached pairs std is_open xs → ScopeReached pairs std is_open ys → L m
       → ScopeReached pairs std is_open (match_ordering o ((name, m) ∷ x ∷ xs) ((x.0, m) ∷ xs) (x ∷ ys))
-  placed_local Less x xs ys name m h k j l = (l, h, k)
+  placed_local Less x xs ys name m h k j l = (l, (h, k))
   placed_local Equal x xs ys name m h k j l = (l, k)
   placed_local Greater x xs ys name m h k j l = (h, j)
 

@@ -280,7 +280,7 @@ module _ (E F G : Env) (r : Naming) (pairs : List TypePair) (std : TypeName → 
   initialize_kept (by_call {e = e} {ts = ts} a l w) m =
       let f = has a m.0 in let g = results.tuple_after r pairs std is_open f.2 in
       (map plain (map image_to ts), by_call (subst (Has F e) g.0 f.1) (map_length image_to ts ∙ l) w, results.plains_after r pairs std is_open ts g.1)
-  initialize_kept (by_two {t = t} x e) m = let f = two_kept x m.0 in (plain (image_to t) ∷ loose untyped.BoolKind ∷ [], by_two f.0 e, (after_value same_mode f.1, after_bare tt, tt))
+  initialize_kept (by_two {t = t} x e) m = let f = two_kept x m.0 in (plain (image_to t) ∷ loose untyped.BoolKind ∷ [], by_two f.0 e, (after_value same_mode f.1, (after_bare tt, tt)))
 
   -- ---- assignments, results and calls that stand alone
 
