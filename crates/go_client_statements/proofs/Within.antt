@@ -47,10 +47,10 @@ seen_type_name i j (seen.Object x) t e = e
 seen_type_name i j (seen.Import path) t e = e
 seen_type_name i j (seen.Universe q) t e = predeclared_type_name i j q t e
 
-module _ (E G : Env) (meaning : (name : List ℕ) (m : Seen) → E.meaning name ≡ Some m → G.meaning name ≡ Some m) (object : (path name : List ℕ) (x : Entity) → E.object path name ≡ Some x → G.object path name ≡ Some x) where
+module _ (E G : Env) (same_meaning : (name : List ℕ) (m : Seen) → E.meaning name ≡ Some m → G.meaning name ≡ Some m) (same_object : (path name : List ℕ) (x : Entity) → E.object path name ≡ Some x → G.object path name ≡ Some x) where
   names_by : (q : Option Name) (n : Name) (t : Term) → NamesType E q n t → NamesType G q n t
-  names_by None n t d = record { names = d.names; meaning = d.meaning; means = meaning n.text d.meaning d.means; denotes = seen_type_name E.iota G.iota d.meaning t d.denotes }
-  names_by (Some q) n t d = record { names = d.names; path = d.path; object = d.object; imported = meaning q.text (seen.Import d.path) d.imported; exported = d.exported; declared = object d.path n.text d.object d.declared; denotes = d.denotes }
+  names_by None n t d = record { names = d.names; meaning = d.meaning; means = same_meaning n.text d.meaning d.means; denotes = seen_type_name E.iota G.iota d.meaning t d.denotes }
+  names_by (Some q) n t d = record { names = d.names; path = d.path; object = d.object; imported = same_meaning q.text (seen.Import d.path) d.imported; exported = d.exported; declared = same_object d.path n.text d.object d.declared; denotes = d.denotes }
 
   -- a name of a type stands for the same where names mean the same
   pub same_names : (q : QualifiedName) (t : Term) → IsTypeName E q t → IsTypeName G q t
