@@ -749,7 +749,7 @@ module _ (E F G : Env) (r : Naming) (pairs : List TypePair) (std : TypeName → 
     result_kept (result_parameters x) h = let f = parameters_kept x h in (result_parameters f.0, f.1)
     result_kept (result_type a) h = let f = type_kept a h.0 in (result_type f.0, (f.1, tt))
 
-    fields_kept : {ds : List FieldDecl} {fs : List Field} → OfFields E ds fs → Each (λ d. FieldMeets G (out-FieldDecl d)) ds → Met (fields_parts ds) → OfFields F ds (fields_to fs) × MadeFields fs
+    pub fields_kept : {ds : List FieldDecl} {fs : List Field} → OfFields E ds fs → Each (λ d. FieldMeets G (out-FieldDecl d)) ds → Met (fields_parts ds) → OfFields F ds (fields_to fs) × MadeFields fs
     fields_kept fields_none n h = (fields_none, (tt, tt))
     fields_kept (fields_named {d = d} {ds = ds} {ns = ns} {tag = tag} {u = u} {fs = fs} e a x) n h =
         let g = type_kept a (subst (λ l. Met (field_parts l)) e (each_left (Meets G) (field_parts (out-FieldDecl d)) (fields_parts ds) h)).0 in
@@ -761,7 +761,7 @@ module _ (E F G : Env) (r : Naming) (pairs : List TypePair) (std : TypeName → 
         let own = embeds_own star q u (subst (FieldMeets G) e n.0) a in
         (subst (OfFields F (d ∷ ds)) (λ i. (ap (λ t. field_of F true t tag q.name) (sym (starred_image star u)) ∙ sym (field_image true (starred star u) tag q.name)) i ∷ fields_to fs) (fields_embedded (to u) e g.0 k.0), ((field_made true (starred star u) tag q.name (λ y. own), k.1.0), (field_reached true (starred star u) tag q.name (starred_reached star u g.1), k.1.1)))
 
-    methods_kept : {xs : List InterfaceElem} {ms : List Method} → OfMethods E xs ms → Each (λ x. ElementMeets G (out-InterfaceElem x)) xs → Met (elems_parts xs) → OfMethods F xs (methods_to ms) × MadeMethods ms
+    pub methods_kept : {xs : List InterfaceElem} {ms : List Method} → OfMethods E xs ms → Each (λ x. ElementMeets G (out-InterfaceElem x)) xs → Met (elems_parts xs) → OfMethods F xs (methods_to ms) × MadeMethods ms
     methods_kept methods_none n h = (methods_none, (tt, tt))
     methods_kept (methods_method {x = x} {xs = xs} {n = name} {g = g} {h = k} {ms = ms} e a y) n h =
         let p = meets_parts G (at_signature g) (subst (λ l. Met (elem_parts l)) e (each_left (Meets G) (elem_parts (out-InterfaceElem x)) (elems_parts xs) h)).0 in
