@@ -1,7 +1,12 @@
+pub mod AliasEnds
 pub mod AskedDeclarations
+pub mod Counts
+pub mod DefinedImages
+pub mod EntriesKept
 pub mod EntryImages
 pub mod Environments
 pub mod Falling
 pub mod FieldKeys
 pub mod GivenImages
 pub mod ReachedEntries
+pub mod WrittenTypes

@@ -6,7 +6,7 @@ ghost use Rattle.go_model.specs.declared.types.names.TypeName.{TypeName};
 ghost use Rattle.go_rules.specs.Asks.{Meets};
 ghost use Rattle.go_type_images.specs.Images.{Naming};
 ghost use Rattle.go_type_images.specs.declared.pair.TypePair.{TypePair};
-ghost use Rattle.go_typings.specs.Assignments.{Within};
+ghost use Rattle.go_typings.specs.Assignments.{Below, Within};
 ghost use Rattle.go_typings.specs.DeclarationAsks.{Asks};
 ghost use Rattle.go_typings.specs.DeclarationNodes.{nodes};
 ghost use Rattle.go_typings.specs.DeclarationRules.{Gives};
@@ -14,7 +14,7 @@ ghost use Rattle.go_typings.specs.Declarations.{Declaration, declarations};
 ghost use Rattle.go_typings.specs.PackageEnvironments.{Entries, Entry, environment};
 ghost use Rattle.go_typings.specs.References.{Falls};
 ghost use Rattle.go_typings.specs.Sources.{PackageSource, Setting};
-ghost use Rattle.go_typings.specs.Typings.{Typing};
+ghost use Rattle.go_typings.specs.Typings.{Typing, given};
 ghost use Rattle.go_client_types.specs.Keeping.{Keeps};
 ghost use Rattle.go_client_packages.specs.ClientEntries.{DefinesNone, EntriesReached, EntryReached, entries_image, entry_image};
 ghost use Rattle.go_client_packages.specs.ClientSettings.{KeepsSettings};
@@ -32,4 +32,13 @@ pub fn kept_declarations()
         → (d : Declaration) (n : ℕ) → Asks (environment s u a d) u n d.form → Asks (environment t u (entries_image r a) d) u n d.form }
     ensures falls { (s t : Setting) (u : PackageSource) (r : Naming) (pairs : List TypePair) (std : TypeName → Bool) (is_open : Sel → Bool) → KeepsSettings s t u r pairs std is_open → (a : Entries) → EntriesReached pairs std is_open a
         → (within : ℕ → Bool) → Typing s u within a → (rank : ℕ → ℕ) → Falls s u a within rank → Falls t u (entries_image r a) within rank }
+{}
+
+/// Over such packages the entries of a client's typing are of types that it reaches, and their images are had from below: each is given under
+/// the images of those before it, also where a type is defined by the name of another one, since no aliases of the client lead from that to
+/// a struct or interface of another package.
+pub fn kept_entries()
+    ensures reached { (s t : Setting) (u : PackageSource) (r : Naming) (pairs : List TypePair) (std : TypeName → Bool) (is_open : Sel → Bool) → KeepsSettings s t u r pairs std is_open → (within : ℕ → Bool) (a : Entries) → Typing s u within a → EntriesReached pairs std is_open a }
+    ensures had { (s t : Setting) (u : PackageSource) (r : Naming) (pairs : List TypePair) (std : TypeName → Bool) (is_open : Sel → Bool) → KeepsSettings s t u r pairs std is_open → (within : ℕ → Bool) (a : Entries) → Typing s u within a
+        → Below (given t u) (declarations u) within (entries_image r a) }
 {}
