@@ -15,7 +15,7 @@ use Rattle.go_type_images.specs.declared.pair.TypePair.{TypePair}
 use Rattle.api_correspond.specs.Publics.{types_of}
 use Rattle.api_correspond.specs.Rules.{is_std_sel, Counts, KeepsInSet, have_method_sets}
 use Rattle.api_breaks.specs.declared.broken.Lost.{Lost}
-use Rattle.api_breaks.specs.inner.MethodSets.{KeptIn, lost_of, KeepsCalled, IsLostIn, AreLostIn, KeepsSet, IsSetLoss, KeepsSets, IsMethodSetLoss}
+use Rattle.api_breaks.specs.inner.MethodSets.{KeptIn, lost_of, KeepsCalled, IsLostIn, AreLostIn, KeepsMethodSet, IsLostMethod, KeepsSets, IsMethodSetLoss}
 use Rattle.api_breaks.specs.inner.Telling.{Tells, KeptBy}
 use Rattle.api_breaks.proofs.Telling.{told_kept, told_lost, told_as, told_both}
 
@@ -49,7 +49,7 @@ module _ (w : Packages) (callable : Candidates) (m : Method) (ls : List Lost) wh
 
 -- the methods of a set
 module _ (old new : Packages) (t u : Term) where
-  pub set_lost : (ms items : List Method) (callable : Candidates) (xs ys : List Lost) → IsMethodSet (types_of old) t ms → HoldMethodSet (types_of new) u callable → items ≡ ms → Tells (KeptBy (KeepsCalled old callable) items) (AreLostIn old callable items) xs ys → Tells (KeepsSet old new t u) (IsSetLoss old new t u) xs ys
+  pub set_lost : (ms items : List Method) (callable : Candidates) (xs ys : List Lost) → IsMethodSet (types_of old) t ms → HoldMethodSet (types_of new) u callable → items ≡ ms → Tells (KeptBy (KeepsCalled old callable) items) (AreLostIn old callable items) xs ys → Tells (KeepsMethodSet old new t u) (IsLostMethod old new t u) xs ys
   set_lost ms items callable xs ys m h e g = told_as xs ys kept to back (subst (λ (x : List Method). Tells (KeptBy (KeepsCalled old callable) x) (AreLostIn old callable x) xs ys) e g)
     where
       -- a method by its selector and its signature
@@ -69,22 +69,22 @@ module _ (old new : Packages) (t u : Term) where
       kept_in : (s : Sel) (g : Signature) → KeptIn old callable (made s g) → KeepsInSet old new u s g
       kept_in s g k = (k.0, subst (λ (x : Sel). InSet (types_of new) u x k.0) (sym (at_sel s g)) ((h (method_sel (made s g)) k.0).0 k.1), (λ i. k.2 (subst (λ (x : Sel). is_std_sel old x ≡ true) (at_sel s g) i) ∙ sym (at_type s g)))
 
-      kept : KeptBy (KeepsCalled old callable) ms → KeepsSet old new t u
+      kept : KeptBy (KeepsCalled old callable) ms → KeepsMethodSet old new t u
       kept k s g c i = kept_in s g (k (made s g) (m.complete (made s g) (in_set s g i)) (subst (Counts old) (at_sel s g) c))
 
-      to : (l : Lost) → AreLostIn old callable ms l → IsSetLoss old new t u l
+      to : (l : Lost) → AreLostIn old callable ms l → IsLostMethod old new t u l
       to l k = (method_sel k.0, (out-Method k.0).signature, k.2.0, m.sound k.0 k.1, (λ s. k.2.1 (s.0, (h (method_sel k.0) s.0).1 s.1, s.2)), k.2.2)
 
-      back : (l : Lost) → IsSetLoss old new t u l → AreLostIn old callable ms l
+      back : (l : Lost) → IsLostMethod old new t u l → AreLostIn old callable ms l
       back l k = (made k.0 k.1, m.complete (made k.0 k.1) (in_set k.0 k.1 k.3), (subst (Counts old) (at_sel k.0 k.1) k.2, (λ s. k.4 (kept_in k.0 k.1 s)), ap lost_of (sym (at_sel k.0 k.1)) ∙ k.5))
 
-pub set_over : (old new : Packages) (t u v w : Term) (xs ys : List Lost) → t ≡ v → u ≡ w → Tells (KeepsSet old new t u) (IsSetLoss old new t u) xs ys → Tells (KeepsSet old new v w) (IsSetLoss old new v w) xs ys
-set_over old new t u v w xs ys e f g = subst (λ (x : Term). Tells (KeepsSet old new x w) (IsSetLoss old new x w) xs ys) e (subst (λ (y : Term). Tells (KeepsSet old new t y) (IsSetLoss old new t y) xs ys) f g)
+pub set_over : (old new : Packages) (t u v w : Term) (xs ys : List Lost) → t ≡ v → u ≡ w → Tells (KeepsMethodSet old new t u) (IsLostMethod old new t u) xs ys → Tells (KeepsMethodSet old new v w) (IsLostMethod old new v w) xs ys
+set_over old new t u v w xs ys e f g = subst (λ (x : Term). Tells (KeepsMethodSet old new x w) (IsLostMethod old new x w) xs ys) e (subst (λ (y : Term). Tells (KeepsMethodSet old new t y) (IsLostMethod old new t y) xs ys) f g)
 
 -- two types
 module _ (old new : Packages) (p : TypePair) where
   pub sets_apart : (ls : List Lost) → have_method_sets old new p ≡ false → Tells (KeepsSets old new p) (IsMethodSetLoss old new p) ls ls
   sets_apart ls e = told_kept ls (λ h. absurd (true≢false (sym h ∙ e))) (λ l h. true≢false (sym h.0 ∙ e))
 
-  pub sets_lost : (a b c : List Lost) → have_method_sets old new p ≡ true → Tells (KeepsSet old new p.old p.new) (IsSetLoss old new p.old p.new) a b → Tells (KeepsSet old new (pointer_to p.old) (pointer_to p.new)) (IsSetLoss old new (pointer_to p.old) (pointer_to p.new)) b c → Tells (KeepsSets old new p) (IsMethodSetLoss old new p) a c
+  pub sets_lost : (a b c : List Lost) → have_method_sets old new p ≡ true → Tells (KeepsMethodSet old new p.old p.new) (IsLostMethod old new p.old p.new) a b → Tells (KeepsMethodSet old new (pointer_to p.old) (pointer_to p.new)) (IsLostMethod old new (pointer_to p.old) (pointer_to p.new)) b c → Tells (KeepsSets old new p) (IsMethodSetLoss old new p) a c
   sets_lost a b c e f g = told_both a b c (λ k l h. (k, l)) (λ x h. (e, inl h)) (λ x h. (e, inr h)) (λ x h. h.1) f g

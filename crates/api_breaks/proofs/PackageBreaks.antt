@@ -1,20 +1,19 @@
 -- What packages lose, object by object and path by path, is what the rules say.
-use Rattle.std.proofs.Common.{◌≡◌, ◌↔◌, ◌⊎◌, ◌≤◌, inl, inr, ℕ, Bool, true, false, length, take, Option, None, Some, List, [], ◌∷◌, ◌++◌, map, refl, sym, ap, ◌∙◌, subst}
-use mathlib.Core.Bool.{true≢false}
-use Rattle.std.specs.Prelude.{IsTrue}
-use Rattle.go_base.specs.Lists.{Has, Ascending}
+use Rattle.std.proofs.Common.{◌≡◌, ◌↔◌, ◌⊎◌, ◌≤◌, inl, inr, ℕ, length, take, Option, None, Some, List, [], ◌∷◌, ◌++◌, map, refl, sym, ap, ◌∙◌, subst}
+use Rattle.go_base.specs.Lists.{Has}
 use Rattle.go_base.specs.Growing.{Grows}
 use Rattle.go_base.specs.Keys.{first_with}
 use Rattle.go_base.proofs.Lists.{take_past}
 use Rattle.go_base.proofs.Members.{each_has}
 use Rattle.go_base.proofs.Ordered.{first_key}
-use Rattle.go_model.specs.worlds.Worlds.{Packages, IsWorld, IsPackage, object_name, object_in, path_of, table_of}
+use Rattle.go_model.specs.worlds.Worlds.{Packages, IsWorld, object_name, object_in, path_of}
 use Rattle.go_model.specs.declared.types.package.Package.{Package}
 use Rattle.go_model.specs.declared.types.package.Object.{Object}
 use Rattle.go_model.specs.declared.types.package.Entity.{Entity}
 use Rattle.api_correspond.specs.Publics.{package_at, IsPublic, IsExportedName, Exports, qualified}
 use Rattle.api_correspond.specs.Rules.{CoversName, KeepsName, CoversObjects, KeepsKind, KeepsConstant, KeepsObject, KeepsPath}
 use Rattle.api_correspond.specs.inner.Members.{OfSome}
+use Rattle.api_correspond.proofs.ExportedObjects.{object_there, objects_ordered, package_there}
 use Rattle.api_correspond.proofs.Growing.{grows_none, grows_one, grows_as, grows_both, of_none}
 use Rattle.api_correspond.proofs.Lookups.{first_member, member_first}
 use Rattle.api_breaks.proofs.DecidedRules.{has_text, same_texts, kind_decided, constant_decided}
@@ -23,13 +22,6 @@ use Rattle.api_breaks.specs.declared.broken.Sort.{Sort}
 use Rattle.api_breaks.specs.declared.broken.Lost.TheVariants as lost
 use Rattle.api_breaks.specs.Breaks.{broken, sort_of, IsPackageBreak, package_gone, package_renamed, object_gone, object_of_other_kind, constant_apart}
 use Rattle.api_breaks.specs.inner.Objects.{IsOtherKind, IsOtherConstant, IsGone, IsOfObject, IsOfObjects, IsRenamed, IsOfBoth, IsOfPackages, IsOfPath}
-
--- what the test of a name's bytes tells of the name
-pub unexported : (name shown : List ℕ) (b : Bool) → shown ≡ name → IsTrue b ↔ IsExportedName shown → b ≡ false → IsExportedName name → ⊥
-unexported name shown b e d f x = true≢false (sym (d.1 (subst IsExportedName (sym e) x)) ∙ f)
-
-pub exported : (name shown : List ℕ) (b : Bool) → shown ≡ name → IsTrue b ↔ IsExportedName shown → b ≡ true → IsExportedName name
-exported name shown b e d f = subst IsExportedName e (d.0 f)
 
 -- one object
 module _ (path : List ℕ) (q : Package) (a : Object) (bs : List Break) where
@@ -101,18 +93,8 @@ module _ (old new : Packages) (path : List ℕ) (bs : List Break) where
 
 -- all paths
 module _ (old new : Packages) (world : IsWorld old) where
-  kept_package : (path : List ℕ) (p : Package) → package_at old path ≡ Some p → Ascending (map object_name p.objects)
-  kept_package path p e = (each_has (IsPackage (table_of old.packages)) old.packages p world.packaged (first_member path_of old.packages path p (sym e))).objects
-
-  object_there : (o : Option Package) (p : Package) (a : Object) (name : List ℕ) → o ≡ Some p → first_with object_name p.objects name ≡ Some a → object_in o name ≡ Some a
-  object_there o p a name e h = ap (λ (x : Option Package). object_in x name) e ∙ h
-
   object_back : (o : Option Package) (p : Package) (a : Object) (name : List ℕ) → o ≡ Some p → object_in o name ≡ Some a → first_with object_name p.objects name ≡ Some a
   object_back o p a name e h = sym (ap (λ (x : Option Package). object_in x name) e) ∙ h
-
-  package_there : (o : Option Package) (a : Object) (name : List ℕ) → object_in o name ≡ Some a → (p : Package) × (o ≡ Some p) × (first_with object_name p.objects name ≡ Some a)
-  package_there None a name e = absurd (cc)
-  package_there (Some p) a name e = (p, refl, e)
 
   both : (path : List ℕ) (b : Break) (x y : Option Package) → IsOfPackages path x y b → (p : Package) × (q : Package) × (x ≡ Some p) × (y ≡ Some q) × IsOfBoth path p q b
   both path b (Some p) (Some q) h = (p, q, refl, refl, h)
@@ -124,12 +106,12 @@ module _ (old new : Packages) (world : IsWorld old) where
 
   -- an object that the new package of its path doesn't have
   gone_sound : (path : List ℕ) (p q : Package) (a : Object) (b : Break) → IsPublic old path → IsPublic new path → package_at old path ≡ Some p → package_at new path ≡ Some q → Has p.objects a → IsExportedName a.name → (o : Option Object) → first_with object_name q.objects a.name ≡ o → IsGone path a o b → IsPackageBreak old new b
-  gone_sound path p q a b s t e f m x None r h = object_gone path a (record { exported = record { shown = s; exported = x; there = object_there (package_at old path) p a a.name e (member_first object_name p.objects a (kept_package path p e) m) }; still = t })
+  gone_sound path p q a b s t e f m x None r h = object_gone path a (record { exported = record { shown = s; exported = x; there = object_there (package_at old path) p a a.name e (member_first object_name p.objects a (objects_ordered old world path p e) m) }; still = t })
       (λ k. none_some (first_with object_name q.objects a.name) k.0 r (ap (first_with object_name q.objects) (sym k.2) ∙ object_back (package_at new path) q k.0 k.0.name f k.1.there))
       h
   gone_sound path p q a b s t e f m x (Some c) r h =
       let same : c.name ≡ a.name = first_key object_name q.objects a.name c (sym r) in
-      let before : Exports old path a = record { shown = s; exported = x; there = object_there (package_at old path) p a a.name e (member_first object_name p.objects a (kept_package path p e) m) } in
+      let before : Exports old path a = record { shown = s; exported = x; there = object_there (package_at old path) p a a.name e (member_first object_name p.objects a (objects_ordered old world path p e) m) } in
       let after : Exports new path c = record { shown = t; exported = subst IsExportedName (sym same) x; there = object_there (package_at new path) q c c.name f (ap (first_with object_name q.objects) same ∙ r) } in
       let both_have : CoversObjects old new path a c = record { before = before; after = after; same = same } in
       elim h [ inl k ↦ object_of_other_kind path a c both_have k.0 k.1 | inr k ↦ constant_apart path a c both_have k.0 k.1 ]

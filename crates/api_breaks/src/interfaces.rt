@@ -2,48 +2,31 @@
 ghost use Rattle.std.specs.Prelude.{◌≡◌, ◌↔◌, ◌++◌, ◌∷◌, [], map, IsTrue, OnOk};
 ghost use Rattle.go_base.specs.Keys.{item_of};
 ghost use Rattle.go_model.specs.types.MethodSets.{method_sel};
-ghost use Rattle.go_model.specs.types.Underlying.{methods_of};
 ghost use Rattle.go_model.specs.types.Terms.{error_type};
-ghost use Rattle.go_model.specs.declared.types.term.Term.{out-Term};
 ghost use Rattle.go_selectors.specs.Answers.{Decides};
 ghost use Rattle.api_correspond.specs.Publics.{of_std};
-ghost use Rattle.api_correspond.specs.Rules.{is_sealing, is_std_sel, Counts};
+ghost use Rattle.api_correspond.specs.Rules.{is_std_sel, Counts};
 ghost use Rattle.api_correspond.specs.inner.BySel.{ArePlaces};
 ghost use Rattle.api_correspond.specs.inner.Tables.{ItemAt};
 ghost use Rattle.api_breaks.specs.inner.Interfaces.{HasSealing, Serves, HasServing, ServesAt, HasSel, KeepsMethod, IsMethodGone, AreMethodsGone, WasMethod, IsMethodNew, AreMethodsNew, IsSealedApart, KeepsWhere, IsNewWhere, KeepsMethods, IsOfMethods, KeepsInterface, IsInterfaceLoss, lost_method};
 ghost use Rattle.api_breaks.specs.inner.Telling.{Tells, KeptBy};
 
 use crate::broken::Lost;
-use crate::pairs::{are_interfaces, are_of_module, is_empty, under};
+use crate::pairs::{are_interfaces, is_empty};
 use api_correspond::by_sel::{method_places, places_at};
 use api_correspond::embedded::is_exported;
-use api_correspond::publics::has_module_path;
+use api_correspond::levels::{methods_of, under};
+use api_correspond::publics::{are_of_module, is_sealing};
 use go_base::list::List;
 use go_base::memory::NoMemory;
 use go_model::types::names::Sel;
 use go_model::types::package::{Defined, Package};
-use go_model::types::term::{Method, Term};
+use go_model::types::term::Method;
 use go_model::types::world::World;
 use go_selectors::identity::{same_sel, same_signature};
 use go_type_images::pair::TypePair;
 use std::alloc::Global;
 use std::collections::BTreeMap;
-
-fn methods_of(term: &Term) -> &[Method]
-    ensures { result.now ≡ methods_of (out-Term term.now) }
-{
-    match term {
-        Term::Interface(methods) => methods.items(),
-        _ => &[],
-    }
-}
-
-// Whether no other package can declare a method of this selector.
-fn is_sealing(world: &World, sel: &Sel) -> bool
-    ensures { result ≡ is_sealing world.now sel.now }
-{
-    has_module_path(world, &sel.package)
-}
 
 fn has_sealing(world: &World, methods: &[Method]) -> bool
     ensures { Decides result (HasSealing world.now methods.now) }

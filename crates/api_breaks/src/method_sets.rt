@@ -1,18 +1,18 @@
 //! What method sets lose.
-ghost use Rattle.std.specs.Prelude.{◌≡◌, IfOk, OnOk};
-ghost use Rattle.go_model.specs.types.MethodSets.{IsMethodSet};
+ghost use Rattle.std.specs.Prelude.{◌≡◌, OnOk};
 ghost use Rattle.go_model.specs.types.Terms.{error_type, pointer_to};
 ghost use Rattle.go_selectors.specs.Answers.{Decides};
 ghost use Rattle.go_selectors.specs.Candidates.{Candidates, HoldMethodSet};
 ghost use Rattle.api_correspond.specs.Publics.{types_of};
 ghost use Rattle.api_correspond.specs.Rules.{have_method_sets};
-ghost use Rattle.api_breaks.specs.inner.MethodSets.{KeptIn, KeepsCalled, IsLostIn, AreLostIn, KeepsSet, IsSetLoss, KeepsSets, IsMethodSetLoss, are_plain};
+ghost use Rattle.api_breaks.specs.inner.MethodSets.{KeptIn, KeepsCalled, IsLostIn, AreLostIn, KeepsMethodSet, IsLostMethod, KeepsSets, IsMethodSetLoss, are_plain};
 ghost use Rattle.api_breaks.specs.inner.Telling.{Tells, KeptBy};
 
 use crate::broken::Lost;
 use crate::interfaces::{counts, is_std_sel};
-use crate::pairs::{are_of_module, are_structs, is_interface, under};
-use go_base::list::List;
+use crate::pairs::are_structs;
+use api_correspond::levels::{is_interface, method_set, under};
+use api_correspond::publics::are_of_module;
 use go_base::memory::NoMemory;
 use go_model::types::names::Sel;
 use go_model::types::package::Defined;
@@ -77,19 +77,6 @@ fn push_all_lost(
     Ok(())
 }
 
-fn method_set<'a>(
-    alloc: Global,
-    error: &'a Defined,
-    world: &'a World,
-    term: &'a Term,
-) -> Result<List<Method>, NoMemory>
-    requires { error.now ≡ error_type }
-    ensures { IfOk result (IsMethodSet (types_of world.now) term.now) }
-{
-    let methods = Lookup::new(world, error).method_set(alloc, term)?;
-    Ok(methods)
-}
-
 // Adds the methods of these that can't be called on a type of the new world.
 fn push_uncalled<'a>(
     alloc: Global,
@@ -120,7 +107,7 @@ fn push_set(
     losses: &mut Vec<Lost>,
 ) -> Result<(), NoMemory>
     requires { error.now ≡ error_type }
-    ensures { OnOk result (Tells (KeepsSet old.now new.now before.now after.now) (IsSetLoss old.now new.now before.now after.now) losses.old.items losses.new.items) }
+    ensures { OnOk result (Tells (KeepsMethodSet old.now new.now before.now after.now) (IsLostMethod old.now new.now before.now after.now) losses.old.items losses.new.items) }
 {
     let methods = method_set(alloc, error, old, before)?;
     push_uncalled(alloc, error, old, new, after, methods.items(), losses)?;
@@ -136,7 +123,7 @@ fn push_pointers(
     losses: &mut Vec<Lost>,
 ) -> Result<(), NoMemory>
     requires { error.now ≡ error_type }
-    ensures { OnOk result (Tells (KeepsSet old.now new.now (pointer_to pair.now.old) (pointer_to pair.now.new)) (IsSetLoss old.now new.now (pointer_to pair.now.old) (pointer_to pair.now.new)) losses.old.items losses.new.items) }
+    ensures { OnOk result (Tells (KeepsMethodSet old.now new.now (pointer_to pair.now.old) (pointer_to pair.now.new)) (IsLostMethod old.now new.now (pointer_to pair.now.old) (pointer_to pair.now.new)) losses.old.items losses.new.items) }
 {
     let before = pointer_to(alloc, &pair.old)?;
     let after = pointer_to(alloc, &pair.new)?;

@@ -2,12 +2,9 @@
 ghost use Rattle.std.specs.Prelude.{◌≡◌, ◌&&◌, [], map, IfOk, OnOk};
 ghost use Rattle.go_model.specs.types.Members.{field_sel};
 ghost use Rattle.go_model.specs.types.Terms.{error_type};
-ghost use Rattle.go_model.specs.types.Underlying.{under, fields_of};
 ghost use Rattle.go_model.specs.declared.types.term.Term.{out-Term};
 ghost use Rattle.go_selectors.specs.Answers.{Decides};
-ghost use Rattle.api_correspond.specs.OwnedPairs.{are_of_module};
 ghost use Rattle.go_type_images.specs.Levels.{struct_layer, interface_layer};
-ghost use Rattle.api_correspond.specs.Publics.{types_of};
 ghost use Rattle.api_correspond.specs.Rules.{KeepsType, CoversComparable, KeepsPair};
 ghost use Rattle.api_correspond.specs.inner.BySel.{ArePlaces};
 ghost use Rattle.api_breaks.specs.Breaks.{IsLoss};
@@ -20,8 +17,9 @@ use crate::method_sets::push_method_sets;
 use crate::selectable::push_selectable;
 use api_correspond::by_sel::{field_places, places_at};
 use api_correspond::embedded::is_exported;
+use api_correspond::levels::{fields_of, is_interface, is_struct, under};
 use api_correspond::matching::types_match;
-use api_correspond::publics::is_of_module;
+use api_correspond::publics::are_of_module;
 use go_base::list::List;
 use go_base::memory::NoMemory;
 use go_base::text::Text;
@@ -29,30 +27,10 @@ use go_model::types::names::Sel;
 use go_model::types::package::Defined;
 use go_model::types::term::{Field, Term};
 use go_model::types::world::World;
-use go_selectors::lookup::Lookup;
 use go_type_images::pair::TypePair;
 use go_types::comparison::comparable;
 use std::alloc::Global;
 use std::collections::BTreeMap;
-
-pub(crate) fn under<'a>(error: &'a Defined, world: &'a World, term: &'a Term) -> &'a Term
-    requires { error.now ≡ error_type }
-    ensures { out-Term result.now ≡ under (types_of world.now) term.now }
-{
-    Lookup::new(world, error).under(term)
-}
-
-fn is_struct(term: &Term) -> bool
-    ensures { result ≡ struct_layer (out-Term term.now) }
-{
-    matches!(term, Term::Struct(_))
-}
-
-pub(crate) fn is_interface(term: &Term) -> bool
-    ensures { result ≡ interface_layer (out-Term term.now) }
-{
-    matches!(term, Term::Interface(_))
-}
 
 pub(crate) fn are_structs(before: &Term, after: &Term) -> bool
     ensures { result ≡ (struct_layer (out-Term before.now) && struct_layer (out-Term after.now)) }
@@ -70,12 +48,6 @@ fn have_same_form(before: &Term, after: &Term) -> bool
     ensures { result ≡ same_form (out-Term before.now) (out-Term after.now) }
 {
     are_structs(before, after) || are_interfaces(before, after)
-}
-
-pub(crate) fn are_of_module(old: &World, new: &World, pair: &TypePair) -> bool
-    ensures { result ≡ are_of_module old.now new.now pair.now }
-{
-    is_of_module(old, &pair.old) && is_of_module(new, &pair.new)
 }
 
 // Adds that the outermost constructors differ.
@@ -221,15 +193,6 @@ fn push_all_fields(
         push_field(alloc, field, after, &places, losses)?;
     }
     Ok(())
-}
-
-fn fields_of(term: &Term) -> &[Field]
-    ensures { result.now ≡ fields_of (out-Term term.now) }
-{
-    match term {
-        Term::Struct(fields) => fields.items(),
-        _ => &[],
-    }
 }
 
 // Adds the exported fields at the top level of a struct that are gone.

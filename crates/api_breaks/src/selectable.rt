@@ -9,8 +9,9 @@ ghost use Rattle.api_breaks.specs.declared.broken.Lost.TheVariants as lost;
 ghost use Rattle.api_breaks.specs.inner.Telling.{Tells, KeptBy};
 
 use crate::broken::Lost;
-use crate::pairs::{are_structs, under};
+use crate::pairs::are_structs;
 use api_correspond::embedded::{deep_fields, is_exported};
+use api_correspond::levels::under;
 use go_base::memory::NoMemory;
 use go_base::text::Text;
 use go_model::types::found::Found;

@@ -1,3 +1,4 @@
+pub mod ExportedObjects
 pub mod Growing
 pub mod Heads
 pub mod Leading

@@ -1,11 +1,12 @@
 -- A walk over embedded types comes past each field below the top level.
-use Rattle.std.proofs.Common.{◌≡◌, ◌≤◌, ◌<◌, ◌+◌, ℕ, zero, suc, Bool, true, false, ◌⊎◌, inl, inr, List, [], ◌∷◌, ◌++◌, length, take, get_or, refl, sym, ap, ◌∙◌, subst, arith, length-append, append_assoc}
+use Rattle.std.proofs.Common.{◌≡◌, ◌≤◌, ◌<◌, ◌+◌, ℕ, zero, suc, Bool, true, false, ◌⊎◌, inl, inr, List, [], ◌∷◌, ◌++◌, length, take, get_or, refl, sym, ap, ◌∙◌, subst, arith, length-append, append_assoc, append-nil}
 use mathlib.Core.Bool.{true≢false}
 use Rattle.std.specs.Prelude.{if◌then◌else◌, ◌||◌, Option, None}
 use Rattle.go_base.specs.Gathered.{gather}
 use Rattle.std.proofs.lemmas.List.{take_more}
 use Rattle.go_base.specs.Lists.{Has}
 use Rattle.go_base.specs.Growing.{Grows}
+use Rattle.go_base.proofs.Lists.{take_past}
 use Rattle.go_model.specs.types.Tables.{Table}
 use Rattle.go_model.specs.types.Terms.{same_sel}
 use Rattle.go_model.specs.types.Underlying.{under, fields_of, methods_of, declared_methods}
@@ -25,24 +26,14 @@ use Rattle.api_correspond.specs.Publics.{IsExported}
 use Rattle.api_correspond.specs.inner.Leading.{HoldDeepFields}
 use Rattle.api_correspond.specs.inner.Spreading.{Known, Pushed, SeesTerm, Pushes, HasEmbedded, PushesOne, PushesEmbedded, IsFieldSel}
 
-append_nil : {A : Type 0} (xs : List A) → xs ++ [] ≡ xs
-append_nil [] = refl
-append_nil (x ∷ xs) = ap (λ ys. x ∷ ys) (append_nil xs)
-
 take_append : {A : Type 0} (n : ℕ) (xs ys : List A) → n ≤ length xs → take n (xs ++ ys) ≡ take n xs
 take_append zero xs ys h = refl
 take_append (suc n) [] ys h = absurd (omega arith)
 take_append (suc n) (x ∷ xs) ys h = ap (λ zs. x ∷ zs) (take_append n xs ys (omega arith))
 
-take_all : {A : Type 0} (n : ℕ) (xs : List A) → length xs ≤ n → take n xs ≡ xs
-take_all zero [] h = refl
-take_all zero (x ∷ xs) h = absurd (omega arith)
-take_all (suc n) [] h = refl
-take_all (suc n) (x ∷ xs) h = ap (λ zs. x ∷ zs) (take_all n xs (omega arith))
-
 -- nothing was added
 pushed_none : (all : List Term) (seen : List TypeName) → Pushed all seen all seen
-pushed_none all seen = record { more = []; is = sym (append_nil all); known = λ k. k }
+pushed_none all seen = record { more = []; is = sym (append-nil all); known = λ k. k }
 
 pushed_more : (a b c : List Term) (m n o : List TypeName) → Pushed a m b n → Pushed b n c o → Pushed a m c o
 pushed_more a b c m n o p q = record { more = p.more ++ q.more; is = q.is ∙ ap (λ w. w ++ q.more) p.is ∙ append_assoc a p.more q.more; known = λ k. q.known (p.known k) }
@@ -189,6 +180,6 @@ module _ (T : Table) where
   pub spread : (t top : Term) (at : ℕ) (all : List Term) (seen : List TypeName) (sels : List Sel) → top ≡ (start T t).term → Spreads T top at all seen sels → length all ≤ at → HoldDeepFields T t sels
   spread t top at all seen sels e w h s f x i l =
       found_deep all sels
-      (λ u m. w.closed u (subst (λ (z : List Term). Has z u) (sym (take_all at all h)) m))
-      (λ u m. w.told u (subst (λ (z : List Term). Has z u) (sym (take_all at all h)) m))
+      (λ u m. w.closed u (subst (λ (z : List Term). Has z u) (sym (take_past at all h)) m))
+      (λ u m. w.told u (subst (λ (z : List Term). Has z u) (sym (take_past at all h)) m))
       s x t f i.0 (subst (λ (z : Term). HasEmbedded all (fields_of (under T z))) e w.first) i.1.only i.2 l

@@ -1,5 +1,5 @@
 -- Sets of texts and tables of pairs keep what they had in its places.
-use Rattle.std.proofs.Common.{◌≡◌, ◌≤◌, ◌<◌, ◌⊎◌, inl, inr, ℕ, zero, suc, Bool, true, false, not, Option, Some, None, List, [], ◌∷◌, ◌++◌, map, length, refl, sym, ap, ◌∙◌, subst, arith, append_assoc, ◌||◌}
+use Rattle.std.proofs.Common.{◌≡◌, ◌≤◌, ◌<◌, ◌⊎◌, inl, inr, ℕ, zero, suc, Bool, true, false, not, Option, Some, None, List, [], ◌∷◌, ◌++◌, map, length, refl, sym, ap, ◌∙◌, subst, arith, append_assoc, append-nil, ◌||◌}
 use mathlib.Core.Bool.{true≢false}
 use Rattle.std.specs.Prelude.{if◌then◌else◌, slice_get, bytes_eq}
 use Rattle.std.specs.List.{list_any}
@@ -12,10 +12,6 @@ use Rattle.api_correspond.specs.Codes.{Code, code_of_pair}
 use Rattle.api_correspond.specs.inner.Tables.{At, AddsAt, KeepsTexts, InStep, AddsPair, AddsPairs}
 use Rattle.api_correspond.proofs.PrefixFree.{pairs_told}
 use Rattle.api_correspond.proofs.Places.{at_left, at_has, at_unmap, has_map, map_last, once_more}
-
-append_nil : {A : Type 0} (xs : List A) → xs ++ [] ≡ xs
-append_nil [] = refl
-append_nil (x ∷ xs) = ap (λ ys. x ∷ ys) (append_nil xs)
 
 get_at : {A : Type 0} (xs : List A) (i : ℕ) (x : A) → slice_get xs i ≡ Some x → At xs i x
 get_at [] i x e = absurd (cc)
@@ -35,7 +31,7 @@ text_at = adds_at bytes_eq (λ a b. (bytes_eq-Decides a b).0) (λ a. (bytes_eq-D
 
 -- texts are kept where one was added
 pub keeps_none : (ks : List (List ℕ)) → KeepsTexts ks ks
-keeps_none ks = record { more = []; grown = sym (append_nil ks); once = λ o. o }
+keeps_none ks = record { more = []; grown = sym (append-nil ks); once = λ o. o }
 
 pub keeps_more : (a b c : List (List ℕ)) → KeepsTexts a b → KeepsTexts b c → KeepsTexts a c
 keeps_more a b c p q = record { more = p.more ++ q.more; grown = q.grown ∙ ap (λ w. w ++ q.more) p.grown ∙ append_assoc a p.more q.more; once = λ o. q.once (p.once o) }
@@ -67,7 +63,7 @@ pair_known codes longer pairs p c at fresh s e a f =
     let same : longer ≡ map code_of_pair pairs = k.0 ∙ s.same in
     let there = at_unmap code_of_pair pairs at c (subst (λ (w : List Code). At w at c) same k.1) in (
       record { same = same; once = s.once },
-      record { more = []; grown = sym (append_nil pairs); only = λ q h. absurd h; there = subst (At pairs at) (pairs_told there.0 p (there.2 ∙ e)) there.1 },
+      record { more = []; grown = sym (append-nil pairs); only = λ q h. absurd h; there = subst (At pairs at) (pairs_told there.0 p (there.2 ∙ e)) there.1 },
     )
 
 -- pairs that were added one by one, the rest still to come
@@ -80,7 +76,7 @@ pub record Adding (whole rest : List TypePair) (old new : List TypePair) (number
   pub pending : (p : TypePair) → Has whole p → Has rest p ⊎ ((j : ℕ) × Has numbers j × At new j p)
 
 pub adding_none : (whole old : List TypePair) → Adding whole whole old old []
-adding_none whole old = record { more = []; grown = sym (append_nil old); only = λ p h. absurd h; within = λ p h. h; sound = λ j h. absurd h; pending = λ p h. inl h }
+adding_none whole old = record { more = []; grown = sym (append-nil old); only = λ p h. absurd h; within = λ p h. h; sound = λ j h. absurd h; pending = λ p h. inl h }
 
 split_last : {A : Type 0} (xs : List A) (y x : A) → Has (xs ++ y ∷ []) x → Has xs x ⊎ (y ≡ x)
 split_last [] y x (inl e) = inr e

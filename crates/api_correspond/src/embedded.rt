@@ -4,15 +4,15 @@ ghost use Rattle.go_base.specs.Growing.{Grows};
 ghost use Rattle.go_model.specs.types.Selectors.{base_of, start};
 ghost use Rattle.go_model.specs.types.Terms.{error_type};
 ghost use Rattle.go_model.specs.types.Underlying.{under, fields_of};
-ghost use Rattle.go_model.specs.declared.types.term.Term.{out-Term};
 ghost use Rattle.go_selectors.specs.Answers.{Decides};
 ghost use Rattle.go_selectors.specs.Search.{Adds};
 ghost use Rattle.api_correspond.specs.Publics.{types_of, IsExported};
 ghost use Rattle.api_correspond.specs.inner.Leading.{HoldDeepFields};
-ghost use Rattle.api_correspond.specs.inner.Spreading.{SeesTerm, Pushes, PushesOne, PushesEmbedded, IsSelOf, IsFieldSel, SpotAt};
+ghost use Rattle.api_correspond.specs.inner.Spreading.{SeesTerm, Pushes, PushesOne, PushesEmbedded, IsSelOf, IsFieldSel, TermAt};
 
-use crate::spot::Spot;
+use crate::levels::fields_of;
 use go_base::memory::NoMemory;
+use go_model::types::borrowed::BorrowedTerm;
 use go_model::types::names::Sel;
 use go_model::types::package::Defined;
 use go_model::types::term::{Field, Term};
@@ -41,7 +41,7 @@ fn sees<'a>(seen: &mut IndexSet<Name<'a>>, term: &'a Term) -> Result<bool, NoMem
 
 // Adds a type, unless it is a name that was seen.
 fn push<'a>(
-    all: &mut Vec<Spot<'a>>,
+    all: &mut Vec<BorrowedTerm<'a>>,
     seen: &mut IndexSet<Name<'a>>,
     term: &'a Term,
 ) -> Result<(), NoMemory>
@@ -50,7 +50,7 @@ fn push<'a>(
     if sees(seen, term)? {
         return Ok(());
     }
-    all.push(Spot::new(term))?;
+    all.push(BorrowedTerm::new(term))?;
     Ok(())
 }
 
@@ -65,7 +65,7 @@ fn base_of(term: &Term) -> &Term
 
 // Adds the type of a field, or that to which it points, where it's embedded.
 fn push_one<'a>(
-    all: &mut Vec<Spot<'a>>,
+    all: &mut Vec<BorrowedTerm<'a>>,
     seen: &mut IndexSet<Name<'a>>,
     field: &'a Field,
 ) -> Result<(), NoMemory>
@@ -80,7 +80,7 @@ fn push_one<'a>(
 
 // Adds the types of embedded fields, and those to which they point.
 fn push_embedded<'a>(
-    all: &mut Vec<Spot<'a>>,
+    all: &mut Vec<BorrowedTerm<'a>>,
     seen: &mut IndexSet<Name<'a>>,
     fields: &'a [Field],
 ) -> Result<(), NoMemory>
@@ -119,16 +119,6 @@ fn push_sels(alloc: Global, fields: &[Field], sels: &mut Vec<Sel>) -> Result<(),
     Ok(())
 }
 
-/// The fields of a struct type.
-pub(crate) fn fields_of(term: &Term) -> &[Field]
-    ensures { result.now ≡ fields_of (out-Term term.now) }
-{
-    match term {
-        Term::Struct(fields) => fields.items(),
-        _ => &[],
-    }
-}
-
 // The type in which the search for a selector begins.
 fn start_of<'a>(types: &Lookup<'a, World>, term: &'a Term) -> &'a Term
     ensures { result.now ≡ (start (types_of types.now.table.now) term.now).term }
@@ -147,11 +137,11 @@ fn start_of<'a>(types: &Lookup<'a, World>, term: &'a Term) -> &'a Term
     }
 }
 
-fn spot_at<'a>(all: &Vec<Spot<'a>>, at: usize) -> Option<&'a Term>
-    ensures { SpotAt all.now.items at result }
+fn term_at<'a>(all: &Vec<BorrowedTerm<'a>>, at: usize) -> Option<&'a Term>
+    ensures { TermAt all.now.items at result }
 {
     match all.get(at) {
-        Some(spot) => Some(spot.term()),
+        Some(reached) => Some(reached.term()),
         None => None,
     }
 }
@@ -173,9 +163,9 @@ pub fn deep_fields<'a>(
     let start = start_of(&types, term);
     push_embedded(&mut all, &mut seen, fields_of(types.under(start)))?;
     for at in 0..usize::MAX {
-        match spot_at(&all, at) {
-            Some(spot) => {
-                let fields = fields_of(types.under(spot));
+        match term_at(&all, at) {
+            Some(reached) => {
+                let fields = fields_of(types.under(reached));
                 push_sels(alloc, fields, &mut sels)?;
                 push_embedded(&mut all, &mut seen, fields)?;
             }

@@ -4,23 +4,20 @@ ghost use Rattle.go_base.specs.Growing.{Grows};
 ghost use Rattle.go_base.specs.Lists.{Has};
 ghost use Rattle.go_model.specs.declared.types.term.Term.{out-Term};
 ghost use Rattle.go_model.specs.types.Terms.{error_type};
-ghost use Rattle.go_model.specs.types.Underlying.{under};
-ghost use Rattle.api_correspond.specs.Publics.{types_of};
-ghost use Rattle.api_correspond.specs.OwnedPairs.{are_of_module, have_members, Leads};
-ghost use Rattle.go_type_images.specs.Levels.{is_structured, struct_layer};
+ghost use Rattle.api_correspond.specs.OwnedPairs.{have_members, Leads};
+ghost use Rattle.go_type_images.specs.Levels.{is_structured};
 ghost use Rattle.go_type_images.specs.declared.pair.TypePair.{TypePair};
 ghost use Rattle.api_correspond.specs.inner.Leading.{IsPart, IsPartUnderneath, IsTopField, IsMember};
 
-use crate::embedded::fields_of;
+use crate::levels::{fields_of, is_struct, under};
 use crate::matching::types_match;
 use crate::members::{push_common_fields, push_common_methods, push_promoted_fields};
 use crate::parts::{parts, push_pairs};
-use crate::publics::is_of_module;
+use crate::publics::are_of_module;
 use go_base::memory::NoMemory;
 use go_model::types::package::Defined;
 use go_model::types::term::Term;
 use go_model::types::world::World;
-use go_selectors::lookup::Lookup;
 use go_type_images::pair::TypePair;
 use std::alloc::Global;
 
@@ -32,25 +29,6 @@ fn is_structured(term: &Term) -> bool
         Term::Interface(_) => true,
         _ => false,
     }
-}
-
-fn is_struct(term: &Term) -> bool
-    ensures { result ≡ struct_layer (out-Term term.now) }
-{
-    matches!(term, Term::Struct(_))
-}
-
-fn under<'a>(error: &'a Defined, world: &'a World, term: &'a Term) -> &'a Term
-    requires { error.now ≡ error_type }
-    ensures { out-Term result.now ≡ under (types_of world.now) term.now }
-{
-    Lookup::new(world, error).under(term)
-}
-
-fn are_of_module(old: &World, new: &World, pair: &TypePair) -> bool
-    ensures { result ≡ are_of_module old.now new.now pair.now }
-{
-    is_of_module(old, &pair.old) && is_of_module(new, &pair.new)
 }
 
 fn have_members(old: &World, new: &World, pair: &TypePair) -> bool

@@ -2,7 +2,6 @@
 ghost use Rattle.std.specs.Prelude.{◌≡◌, ◌++◌, ◌∷◌, [], map, IfOk, OnOk};
 ghost use Rattle.go_base.specs.Growing.{Grows};
 ghost use Rattle.go_model.specs.types.Members.{field_sel};
-ghost use Rattle.go_model.specs.types.MethodSets.{IsMethodSet};
 ghost use Rattle.go_model.specs.types.Terms.{error_type};
 ghost use Rattle.go_selectors.specs.Candidates.{Candidates, HoldMethodSet};
 ghost use Rattle.api_correspond.specs.OwnedPairs.{receiver};
@@ -15,6 +14,7 @@ ghost use Rattle.api_correspond.specs.inner.Leading.{IsFieldAt, AreFieldsAt, IsE
 
 use crate::by_sel::{field_places, places_at};
 use crate::embedded::{deep_fields, is_exported};
+use crate::levels::method_set;
 use go_base::boxed::Box;
 use go_base::list::List;
 use go_base::memory::NoMemory;
@@ -242,19 +242,6 @@ fn receiver<'a>(
         Term::Interface(_) => Ok(copied),
         _ => Ok(Term::Pointer(Shared::new(alloc, copied)?)),
     }
-}
-
-fn method_set<'a>(
-    alloc: Global,
-    error: &'a Defined,
-    world: &'a World,
-    term: &'a Term,
-) -> Result<List<Method>, NoMemory>
-    requires { error.now ≡ error_type }
-    ensures { IfOk result (IsMethodSet (types_of world.now) term.now) }
-{
-    let methods = Lookup::new(world, error).method_set(alloc, term)?;
-    Ok(methods)
 }
 
 fn push_functions(

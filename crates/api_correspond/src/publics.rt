@@ -5,16 +5,19 @@ ghost use Rattle.std.specs.Cmp.Lexicographic.{slice_cmp};
 ghost use Rattle.go_base.specs.Keys.{item_of};
 ghost use Rattle.go_base.specs.Lists.{Has, Ascending};
 ghost use Rattle.go_selectors.specs.Answers.{Decides};
+ghost use Rattle.api_correspond.specs.OwnedPairs.{are_of_module};
 ghost use Rattle.api_correspond.specs.Publics.{of_module, package_at, is_of_module, IsPublic, IsPublicName, qualified};
+ghost use Rattle.api_correspond.specs.Rules.{is_sealing};
 ghost use Rattle.api_correspond.specs.inner.Names.{IsPublicNameOf};
 
 use go_base::characters::is_exported;
 use go_base::memory::NoMemory;
 use go_base::text::Text;
-use go_model::types::names::TypeName;
+use go_model::types::names::{Sel, TypeName};
 use go_model::types::package::Package;
 use go_model::types::term::Term;
 use go_model::types::world::World;
+use go_type_images::pair::TypePair;
 use std::alloc::Global;
 use std::cmp::Ordering;
 
@@ -42,6 +45,20 @@ pub fn is_of_module(world: &World, term: &Term) -> bool
         Term::Named(name) => has_module_path(world, &name.path),
         _ => false,
     }
+}
+
+/// Whether both types of a pair are, each of its world's module.
+pub fn are_of_module(old: &World, new: &World, pair: &TypePair) -> bool
+    ensures { result ≡ are_of_module old.now new.now pair.now }
+{
+    is_of_module(old, &pair.old) && is_of_module(new, &pair.new)
+}
+
+/// Whether no other package can declare a method of this selector.
+pub fn is_sealing(world: &World, sel: &Sel) -> bool
+    ensures { result ≡ is_sealing world.now sel.now }
+{
+    has_module_path(world, &sel.package)
 }
 
 fn compare(text: &Text, path: &[u8]) -> Ordering

@@ -1,14 +1,11 @@
 -- The pairs that the packages of public paths give are those of exported objects.
-use Rattle.std.proofs.Common.{◌≡◌, ◌↔◌, ℕ, Bool, true, false, Option, None, Some, List, [], ◌∷◌, ◌++◌, ◌≤◌, inl, inr, length, take, map, refl, sym, ap, ◌∙◌, subst}
-use mathlib.Core.Bool.{true≢false}
-use Rattle.std.specs.Prelude.{IsTrue}
-use Rattle.go_base.specs.Lists.{Has, Ascending}
+use Rattle.std.proofs.Common.{◌≡◌, ℕ, Option, None, Some, List, [], ◌∷◌, ◌++◌, ◌≤◌, inl, inr, length, take, refl, sym, ap, ◌∙◌, subst}
+use Rattle.go_base.specs.Lists.{Has}
 use Rattle.go_base.specs.Growing.{Grows}
 use Rattle.go_base.specs.Keys.{first_with}
 use Rattle.go_base.proofs.Lists.{take_past}
-use Rattle.go_base.proofs.Members.{each_has}
 use Rattle.go_base.proofs.Ordered.{first_key}
-use Rattle.go_model.specs.worlds.Worlds.{Packages, IsWorld, IsPackage, object_name, object_in, path_of, table_of}
+use Rattle.go_model.specs.worlds.Worlds.{Packages, IsWorld, object_name}
 use Rattle.go_model.specs.declared.types.package.Package.{Package}
 use Rattle.go_model.specs.declared.types.package.Object.{Object}
 use Rattle.go_type_images.specs.declared.pair.TypePair.{TypePair}
@@ -17,15 +14,9 @@ use Rattle.api_correspond.specs.Publics.{package_at, IsPublic, IsExportedName, q
 use Rattle.api_correspond.specs.OwnedPairs.{types_of_entities, FromObject, pair_of}
 use Rattle.api_correspond.specs.inner.Members.{OfSome}
 use Rattle.api_forced.specs.inner.Objects.{IsOfObject, IsOfPackage, IsOfPath}
+use Rattle.api_correspond.proofs.ExportedObjects.{object_there, objects_ordered, package_there}
 use Rattle.api_correspond.proofs.Growing.{grows_none, grows_one, grows_as, of_none}
 use Rattle.api_correspond.proofs.Lookups.{first_member, member_first}
-
--- what the test of a name's bytes tells of the name
-pub unexported : (name shown : List ℕ) (b : Bool) → shown ≡ name → IsTrue b ↔ IsExportedName shown → b ≡ false → IsExportedName name → ⊥
-unexported name shown b e d f x = true≢false (sym (d.1 (subst IsExportedName (sym e) x)) ∙ f)
-
-pub exported : (name shown : List ℕ) (b : Bool) → shown ≡ name → IsTrue b ↔ IsExportedName shown → b ≡ true → IsExportedName name
-exported name shown b e d f = subst IsExportedName e (d.0 f)
 
 -- one object
 module _ (path : List ℕ) (q : Package) (a : Object) (rs : List OwnedPair) where
@@ -79,16 +70,6 @@ module _ (old new : Packages) (path : List ℕ) (rs : List OwnedPair) where
 
 -- all paths
 module _ (old new : Packages) (world : IsWorld old) where
-  kept_package : (path : List ℕ) (b : Package) → package_at old path ≡ Some b → Ascending (map object_name b.objects)
-  kept_package path b e = (each_has (IsPackage (table_of old.packages)) old.packages b world.packaged (first_member path_of old.packages path b (sym e))).objects
-
-  object_there : (o : Option Package) (p : Package) (a : Object) → o ≡ Some p → first_with object_name p.objects a.name ≡ Some a → object_in o a.name ≡ Some a
-  object_there o p a e h = ap (λ (x : Option Package). object_in x a.name) e ∙ h
-
-  package_there : (o : Option Package) (a : Object) (name : List ℕ) → object_in o name ≡ Some a → (p : Package) × (o ≡ Some p) × (first_with object_name p.objects name ≡ Some a)
-  package_there None a name e = absurd (cc)
-  package_there (Some p) a name e = (p, refl, e)
-
   pub objects_sound : (r : OwnedPair) → OfSome (IsOfPath old new) old.publics r → FromObject old new r.owner (pair_of r)
   objects_sound r (path, shown, h) =
       let a = h.gives.0 in let g = h.gives.2 in
@@ -97,8 +78,8 @@ module _ (old new : Packages) (world : IsWorld old) where
         path = path;
         before = a;
         after = g.after;
-        exported = record { shown = shown; exported = g.exported; there = object_there (package_at old path) h.before a h.first (member_first object_name h.before.objects a (kept_package path h.before h.first) h.gives.1) };
-        kept = record { shown = h.shown; exported = subst IsExportedName (sym same) g.exported; there = object_there (package_at new path) h.after g.after h.second (ap (first_with object_name h.after.objects) same ∙ g.kept) };
+        exported = record { shown = shown; exported = g.exported; there = object_there (package_at old path) h.before a a.name h.first (member_first object_name h.before.objects a (objects_ordered old world path h.before h.first) h.gives.1) };
+        kept = record { shown = h.shown; exported = subst IsExportedName (sym same) g.exported; there = object_there (package_at new path) h.after g.after g.after.name h.second (ap (first_with object_name h.after.objects) same ∙ g.kept) };
         same = same;
         named = g.named;
         types = g.types;

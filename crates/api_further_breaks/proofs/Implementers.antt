@@ -23,7 +23,7 @@ use Rattle.api_breaks.specs.declared.broken.Lost.TheVariants as lost
 use Rattle.api_breaks.specs.inner.Telling.{Tells, KeptBy}
 use Rattle.api_breaks.proofs.Telling.{told_kept, told_lost, told_as, told_both}
 use Rattle.api_further_breaks.specs.inner.Sealed.{AreSealed, IsIndex}
-use Rattle.api_further_breaks.specs.inner.Implementing.{HasOld, HasNew, KeepsAt, IsLostAt, KeepsOf, IsLostBySome, KeepsSet, IsSetLoss, KeepsBoth, IsImplementingLoss}
+use Rattle.api_further_breaks.specs.inner.Implementing.{HasOld, HasNew, KeepsAt, IsLostAt, KeepsOf, IsLostBySome, KeepsInterfaces, IsLostInterface, KeepsBoth, IsImplementingLoss}
 
 module _ (old new : Packages) (pairs : List TypePair) (callable called : Candidates) (at : ℕ) (ls : List Lost) where
   pub place_empty : length pairs ≤ at → Tells (KeepsAt old new pairs callable called at) (IsLostAt old new pairs callable called at) ls ls
@@ -75,7 +75,7 @@ has_interface (Term-F.Struct fs) m h = absurd h
 
 -- the table finds each interface that the old type implements
 module _ (old new : Packages) (pairs : List TypePair) (index : PlaceTable) (x : IsIndex old new pairs index) where
-  pub set_exact : (t u : Term) (ms items : List Method) (callable called : Candidates) (a b : List Lost) → IsMethodSet (types_of old) t ms → items ≡ ms → HoldMethodSet (types_of old) t callable → HoldMethodSet (types_of new) u called → Tells (KeptBy (KeepsOf old new pairs index callable called) items) (IsLostBySome old new pairs index callable called items) a b → Tells (KeepsSet old new pairs t u) (IsSetLoss old new pairs t u) a b
+  pub set_exact : (t u : Term) (ms items : List Method) (callable called : Candidates) (a b : List Lost) → IsMethodSet (types_of old) t ms → items ≡ ms → HoldMethodSet (types_of old) t callable → HoldMethodSet (types_of new) u called → Tells (KeptBy (KeepsOf old new pairs index callable called) items) (IsLostBySome old new pairs index callable called items) a b → Tells (KeepsInterfaces old new pairs t u) (IsLostInterface old new pairs t u) a b
   set_exact t u ms items callable called a b s e h k v = told_as a b kept to back (subst (λ (w : List Method). Tells (KeptBy (KeepsOf old new pairs index callable called) w) (IsLostBySome old new pairs index callable called w) a b) e v)
     where
       before : (i : TypePair) → Implements (types_of old) t i.old → HasOld old new pairs callable i
@@ -98,21 +98,21 @@ module _ (old new : Packages) (pairs : List TypePair) (index : PlaceTable) (x : 
           let g : HasMethods (types_of old) t (methods_of (under (types_of old) i.old)) = (λ n y. f.2 n (subst (λ (l : Layer). Has (methods_of l) n) f.1 y)) in
           (m, s.complete m (g m c.1.1), subst (λ (z : Sel). Has (places_at index z) j) (sym c.1.2) c.2)
 
-      kept : KeptBy (KeepsOf old new pairs index callable called) ms → KeepsSet old new pairs t u
+      kept : KeptBy (KeepsOf old new pairs index callable called) ms → KeepsInterfaces old new pairs t u
       kept f j i p w g = let m = found j i p w g in after i w (f m.0 m.1 j m.2 i p (before i g))
 
-      to : (l : Lost) → IsLostBySome old new pairs index callable called ms l → IsSetLoss old new pairs t u l
+      to : (l : Lost) → IsLostBySome old new pairs index callable called ms l → IsLostInterface old new pairs t u l
       to l f =
           let i = f.2.2.0 in
           let w = x.sound (method_sel f.0) f.2.0 f.2.1 in
           let sealed : AreSealed old new i = subst (AreSealed old new) (at_same pairs f.2.0 w.0 i w.1 f.2.2.1) w.2 in
           (f.2.0, i, f.2.2.1, sealed, before_back i sealed f.2.2.2, (λ g. f.2.2.3 (after_back i g)), f.2.2.4)
 
-      back : (l : Lost) → IsSetLoss old new pairs t u l → IsLostBySome old new pairs index callable called ms l
+      back : (l : Lost) → IsLostInterface old new pairs t u l → IsLostBySome old new pairs index callable called ms l
       back l f = let m = found f.0 f.1 f.2 f.3 f.4 in (m.0, m.1, (f.0, m.2, (f.1, f.2, before f.1 f.4, (λ g. f.5 (after f.1 f.3 g)), f.6)))
 
-  pub set_over : (t u v w : Term) (a b : List Lost) → t ≡ v → u ≡ w → Tells (KeepsSet old new pairs t u) (IsSetLoss old new pairs t u) a b → Tells (KeepsSet old new pairs v w) (IsSetLoss old new pairs v w) a b
-  set_over t u v w a b e f k = subst (λ (y : Term). Tells (KeepsSet old new pairs y w) (IsSetLoss old new pairs y w) a b) e (subst (λ (y : Term). Tells (KeepsSet old new pairs t y) (IsSetLoss old new pairs t y) a b) f k)
+  pub set_over : (t u v w : Term) (a b : List Lost) → t ≡ v → u ≡ w → Tells (KeepsInterfaces old new pairs t u) (IsLostInterface old new pairs t u) a b → Tells (KeepsInterfaces old new pairs v w) (IsLostInterface old new pairs v w) a b
+  set_over t u v w a b e f k = subst (λ (y : Term). Tells (KeepsInterfaces old new pairs y w) (IsLostInterface old new pairs y w) a b) e (subst (λ (y : Term). Tells (KeepsInterfaces old new pairs t y) (IsLostInterface old new pairs t y) a b) f k)
 
   pub none_sealed : (p : TypePair) (ls : List Lost) → index.entries ≡ [] → Tells (KeepsBoth old new pairs p) (IsImplementingLoss old new pairs p) ls ls
   none_sealed p ls e = told_kept ls ((λ j i a s. absurd (none j i a s)), (λ j i a s. absurd (none j i a s))) (λ l h. elim h [ inl k ↦ none k.0 k.1 k.2 k.3 | inr k ↦ none k.0 k.1 k.2 k.3 ])
@@ -123,5 +123,5 @@ module _ (old new : Packages) (pairs : List TypePair) (index : PlaceTable) (x : 
       none : (j : ℕ) (i : TypePair) → At pairs j i → AreSealed old new i → ⊥
       none j i a s = let c = x.complete j i a s in subst (λ (w : List ℕ). Has w j) (empty c.0) c.2
 
-  pub both_exact : (p : TypePair) (a b c : List Lost) → Tells (KeepsSet old new pairs p.old p.new) (IsSetLoss old new pairs p.old p.new) a b → Tells (KeepsSet old new pairs (pointer_to p.old) (pointer_to p.new)) (IsSetLoss old new pairs (pointer_to p.old) (pointer_to p.new)) b c → Tells (KeepsBoth old new pairs p) (IsImplementingLoss old new pairs p) a c
+  pub both_exact : (p : TypePair) (a b c : List Lost) → Tells (KeepsInterfaces old new pairs p.old p.new) (IsLostInterface old new pairs p.old p.new) a b → Tells (KeepsInterfaces old new pairs (pointer_to p.old) (pointer_to p.new)) (IsLostInterface old new pairs (pointer_to p.old) (pointer_to p.new)) b c → Tells (KeepsBoth old new pairs p) (IsImplementingLoss old new pairs p) a c
   both_exact p a b c s t = told_both a b c (λ k l. (k, l)) (λ l h. inl h) (λ l h. inr h) (λ l h. h) s t

@@ -1,6 +1,5 @@
 //! Which interfaces types don't implement any more.
-ghost use Rattle.std.specs.Prelude.{◌≡◌, [], true, IfOk, OnOk};
-ghost use Rattle.go_model.specs.types.MethodSets.{IsMethodSet};
+ghost use Rattle.std.specs.Prelude.{◌≡◌, [], true, OnOk};
 ghost use Rattle.go_model.specs.types.Terms.{error_type, pointer_to};
 ghost use Rattle.go_selectors.specs.Answers.{Decides};
 ghost use Rattle.go_selectors.specs.Candidates.{Candidates, HoldMethodSet, IsCandidate, AreCandidates};
@@ -9,11 +8,12 @@ ghost use Rattle.api_correspond.specs.inner.BySel.{places_at};
 ghost use Rattle.api_correspond.specs.inner.Tables.{ItemAt};
 ghost use Rattle.api_breaks.specs.inner.Telling.{Tells, KeptBy};
 ghost use Rattle.api_further_breaks.specs.inner.Sealed.{IsIndex};
-ghost use Rattle.api_further_breaks.specs.inner.Implementing.{KeepsAt, IsLostAt, KeepsOf, IsLostOf, IsLostBy, IsLostBySome, KeepsSet, IsSetLoss, KeepsBoth, IsImplementingLoss};
+ghost use Rattle.api_further_breaks.specs.inner.Implementing.{KeepsAt, IsLostAt, KeepsOf, IsLostOf, IsLostBy, IsLostBySome, KeepsInterfaces, IsLostInterface, KeepsBoth, IsImplementingLoss};
 
-use crate::sealed::methods_of;
+use crate::sealed::methods_under;
 use api_breaks::broken::Lost;
 use api_correspond::by_sel::places_at;
+use api_correspond::levels::method_set;
 use go_base::list::List;
 use go_base::memory::NoMemory;
 use go_model::types::names::Sel;
@@ -76,10 +76,10 @@ fn push_at<'a>(
     match pair_at(pairs, at) {
         None => Ok(()),
         Some(pair) => {
-            if !are_candidates(callable, methods_of(error, old, &pair.old)) {
+            if !are_candidates(callable, methods_under(error, old, &pair.old)) {
                 return Ok(());
             }
-            if are_candidates(called, methods_of(error, new, &pair.new)) {
+            if are_candidates(called, methods_under(error, new, &pair.new)) {
                 return Ok(());
             }
             let interface = pair.old.copy(alloc)?;
@@ -156,19 +156,6 @@ fn push_methods(
     Ok(())
 }
 
-fn method_set<'a>(
-    alloc: Global,
-    error: &'a Defined,
-    world: &'a World,
-    term: &'a Term,
-) -> Result<List<Method>, NoMemory>
-    requires { error.now ≡ error_type }
-    ensures { IfOk result (IsMethodSet (types_of world.now) term.now) }
-{
-    let methods = Lookup::new(world, error).method_set(alloc, term)?;
-    Ok(methods)
-}
-
 // The same, with what can be called on an old and on a new type.
 fn push_called<'a>(
     alloc: Global,
@@ -209,7 +196,7 @@ fn push_set(
 ) -> Result<(), NoMemory>
     requires error { error.now ≡ error_type }
     requires index { IsIndex old.now new.now pairs.now index.now }
-    ensures { OnOk result (Tells (KeepsSet old.now new.now pairs.now before.now after.now) (IsSetLoss old.now new.now pairs.now before.now after.now) losses.old.items losses.new.items) }
+    ensures { OnOk result (Tells (KeepsInterfaces old.now new.now pairs.now before.now after.now) (IsLostInterface old.now new.now pairs.now before.now after.now) losses.old.items losses.new.items) }
 {
     let methods = method_set(alloc, error, old, before)?;
     push_called(
@@ -239,7 +226,7 @@ fn push_pointers(
 ) -> Result<(), NoMemory>
     requires error { error.now ≡ error_type }
     requires index { IsIndex old.now new.now pairs.now index.now }
-    ensures { OnOk result (Tells (KeepsSet old.now new.now pairs.now (pointer_to pair.now.old) (pointer_to pair.now.new)) (IsSetLoss old.now new.now pairs.now (pointer_to pair.now.old) (pointer_to pair.now.new)) losses.old.items losses.new.items) }
+    ensures { OnOk result (Tells (KeepsInterfaces old.now new.now pairs.now (pointer_to pair.now.old) (pointer_to pair.now.new)) (IsLostInterface old.now new.now pairs.now (pointer_to pair.now.old) (pointer_to pair.now.new)) losses.old.items losses.new.items) }
 {
     let before = pointer_to(alloc, &pair.old)?;
     let after = pointer_to(alloc, &pair.new)?;

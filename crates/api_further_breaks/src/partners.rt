@@ -2,12 +2,11 @@
 ghost use Rattle.std.specs.Prelude.{◌≡◌, [], true, false, IfOk, OnOk};
 ghost use Rattle.go_selectors.specs.Answers.{Decides};
 ghost use Rattle.go_base.specs.Lists.{Has, Once};
-ghost use Rattle.api_correspond.specs.OwnedPairs.{are_of_module};
 ghost use Rattle.api_breaks.specs.inner.Telling.{Tells};
 ghost use Rattle.api_further_breaks.specs.inner.Partners.{AddsName, NameAt, side_of, NotesName, NotesSide, HoldShared, IsShared, HasOthers, KeepsPartners, IsPartnersLoss};
 
 use api_breaks::broken::Lost;
-use api_correspond::publics::is_of_module;
+use api_correspond::publics::are_of_module;
 use go_base::memory::NoMemory;
 use go_model::types::term::Term;
 use go_model::types::world::World;
@@ -97,12 +96,6 @@ fn is_shared<'a>(names: &IndexSet<Name<'a>>, term: &'a Term) -> bool
         Term::Named(name) => has(names, &Name::new(name)),
         _ => false,
     }
-}
-
-fn are_of_module(old: &World, new: &World, pair: &TypePair) -> bool
-    ensures { result ≡ are_of_module old.now new.now pair.now }
-{
-    is_of_module(old, &pair.old) && is_of_module(new, &pair.new)
 }
 
 // Whether the old type of a pair stands in several, or the new one.

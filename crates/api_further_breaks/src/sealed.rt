@@ -2,54 +2,34 @@
 ghost use Rattle.std.specs.Prelude.{◌≡◌, IfOk, OnOk};
 ghost use Rattle.go_model.specs.types.Terms.{error_type};
 ghost use Rattle.go_model.specs.types.Underlying.{under, methods_of};
-ghost use Rattle.go_model.specs.declared.types.term.Term.{out-Term};
 ghost use Rattle.go_selectors.specs.Answers.{Decides};
 ghost use Rattle.go_type_images.specs.Levels.{interface_layer};
 ghost use Rattle.api_correspond.specs.Publics.{types_of};
-ghost use Rattle.api_correspond.specs.Rules.{is_sealing};
 ghost use Rattle.api_further_breaks.specs.inner.Sealed.{FirstSealing, FirstOfPair, IndexesPair, IsIndex};
 
 use api_correspond::by_sel::add_place;
-use api_correspond::publics::has_module_path;
+use api_correspond::levels::{is_interface, methods_of, under};
+use api_correspond::publics::is_sealing;
 use go_base::list::List;
 use go_base::memory::NoMemory;
 use go_model::types::names::Sel;
 use go_model::types::package::Defined;
 use go_model::types::term::{Method, Term};
 use go_model::types::world::World;
-use go_selectors::lookup::Lookup;
 use go_type_images::pair::TypePair;
 use std::alloc::Global;
 use std::collections::BTreeMap;
 
-fn under<'a>(error: &'a Defined, world: &'a World, term: &'a Term) -> &'a Term
-    requires { error.now ≡ error_type }
-    ensures { out-Term result.now ≡ under (types_of world.now) term.now }
-{
-    Lookup::new(world, error).under(term)
-}
-
-fn methods_in(term: &Term) -> &[Method]
-    ensures { result.now ≡ methods_of (out-Term term.now) }
-{
-    match term {
-        Term::Interface(methods) => methods.items(),
-        _ => &[],
-    }
-}
-
 /// The methods of the interface underneath a type; none where there is no interface.
-pub(crate) fn methods_of<'a>(error: &'a Defined, world: &'a World, term: &'a Term) -> &'a [Method]
+pub(crate) fn methods_under<'a>(
+    error: &'a Defined,
+    world: &'a World,
+    term: &'a Term,
+) -> &'a [Method]
     requires { error.now ≡ error_type }
     ensures { result.now ≡ methods_of (under (types_of world.now) term.now) }
 {
-    methods_in(under(error, world, term))
-}
-
-fn is_interface(term: &Term) -> bool
-    ensures { result ≡ interface_layer (out-Term term.now) }
-{
-    matches!(term, Term::Interface(_))
+    methods_of(under(error, world, term))
 }
 
 fn has_interface<'a>(error: &'a Defined, world: &'a World, term: &'a Term) -> bool
@@ -57,13 +37,6 @@ fn has_interface<'a>(error: &'a Defined, world: &'a World, term: &'a Term) -> bo
     ensures { result ≡ interface_layer (under (types_of world.now) term.now) }
 {
     is_interface(under(error, world, term))
-}
-
-// Whether no other package can declare a method of this selector.
-fn is_sealing(world: &World, sel: &Sel) -> bool
-    ensures { result ≡ is_sealing world.now sel.now }
-{
-    has_module_path(world, &sel.package)
 }
 
 // The first method that no other package can declare.
@@ -91,7 +64,7 @@ fn first_of<'a>(
     if !has_interface(error, new, &pair.new) {
         return None;
     }
-    first_sealing(old, methods_of(error, old, &pair.old))
+    first_sealing(old, methods_under(error, old, &pair.old))
 }
 
 fn add_pair<'a>(

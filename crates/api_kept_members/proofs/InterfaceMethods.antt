@@ -33,16 +33,13 @@ use Rattle.api_correspond.specs.Publics.{IsExported, is_of_module, types_of}
 use Rattle.api_correspond.specs.Rules.{Compatible, IsOpen, have_interfaces, is_std_sel}
 use Rattle.api_type_images.proofs.Paired as P
 use Rattle.api_kept_members.specs.KeptFinds.{FindsMethod, FindsStdMethod, end_at}
+use Rattle.api_kept_members.proofs.Alternatives.{either, only_if}
 use Rattle.api_kept_members.proofs.DefinedPointers.{no_item}
 use Rattle.api_kept_members.proofs.Kept as K
 use Rattle.api_kept_members.proofs.Members as M
 use Rattle.api_kept_members.proofs.ResolvingPairs.{entry_is}
 use Rattle.api_kept_members.proofs.Sets.{begins_here}
 use Rattle.api_kept_members.proofs.Underneath.{and_both, methods_is}
-
-either : {A B C : Type 0} → A ⊎ B → (A → C) → (B → C) → C
-either (inl a) f g = f a
-either (inr b) f g = g b
 
 named_interface : (n : TypeName) (ms : List Method) → ◌≡◌ {A = Layer} (Term-F.Named n) (Term-F.Interface ms) → ⊥
 named_interface n ms e = absurd (cc)
@@ -55,11 +52,6 @@ method_field o a g t e = absurd (cc)
 
 one_method_end : {a b : Bool} {o m : Option TypeName} {g h : Signature} → ◌≡◌ {A = Target} (method o a g) (method m b h) → g ≡ h
 one_method_end e = cc
-
-only_if : {A : Type 0} (b : Bool) (x y : A) → Has (if b then x ∷ [] else []) y → (b ≡ true) × (x ≡ y)
-only_if true x y (inl e) = (refl, e)
-only_if true x y (inr k) = absurd k
-only_if false x y k = absurd k
 
 -- two methods of one selector in a list where each stands once are one
 one_of : (ms : List Method) (m n : Method) → Once (map method_sel ms) → Has ms m → Has ms n → method_sel m ≡ method_sel n → m ≡ n

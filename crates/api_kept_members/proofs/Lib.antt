@@ -1,3 +1,4 @@
+pub mod Alternatives
 pub mod DefinedPointers
 pub mod FoundFields
 pub mod FoundMethods

@@ -21,14 +21,11 @@ use Rattle.api_correspond.specs.OwnedPairs.{HoldsOwned, are_of_module, are_struc
 use Rattle.api_correspond.specs.Publics.{IsExported, is_of_module, types_of}
 use Rattle.api_correspond.specs.Rules.{Compatible, have_method_sets}
 use Rattle.api_kept_members.specs.KeptLevels.{Kept, kept_image, kept_interface, kept_struct}
+use Rattle.api_kept_members.proofs.Alternatives.{either}
 use Rattle.api_kept_members.proofs.Kept as K
 use Rattle.api_kept_members.proofs.Members as M
 use Rattle.api_kept_members.proofs.Sets.{IsSearched, begins_here, in_set}
 use Rattle.api_kept_members.proofs.Underneath.{and_both, fields_is, or_either}
-
-either : {A B C : Type 0} → A ⊎ B → (A → C) → (B → C) → C
-either (inl a) f g = f a
-either (inr b) f g = g b
 
 not_true : (b : Bool) → not b ≡ true → b ≡ false
 not_true true e = absurd (cc)

@@ -1,5 +1,5 @@
 -- The names in the types of owned pairs have their entries, each type's in its world.
-use Rattle.std.proofs.Common.{◌≡◌, ◌≢◌, ◌⊎◌, inl, inr, ℕ, zero, suc, Bool, true, false, List, [], ◌∷◌, ◌++◌, map, refl, sym, ap, ◌∙◌, subst, Option, Some, None}
+use Rattle.std.proofs.Common.{◌≡◌, ◌≢◌, ◌⊎◌, inl, inr, ℕ, zero, suc, Bool, true, false, List, [], ◌∷◌, ◌++◌, map, refl, sym, ap, ◌∙◌, subst, append-nil, Option, Some, None}
 use Rattle.std.specs.Prelude.{if◌then◌else◌, is_some}
 use Rattle.go_base.specs.Gathered.{gather}
 use Rattle.go_base.specs.Lists.{Has}
@@ -21,6 +21,7 @@ use Rattle.go_model.specs.types.Underlying.{declared_methods, entry, fields_of, 
 use Rattle.go_model.specs.worlds.Worlds.{Resolves, SignatureResolves}
 use Rattle.go_type_images.specs.Parts.{field_type, function_type, method_type, parts}
 use Rattle.api_kept_members.specs.inner.Entries.{had}
+use Rattle.api_kept_members.proofs.Alternatives.{either, only_if}
 use Rattle.go_type_images.specs.Leaves.{Leaves, leaves}
 use Rattle.go_type_images.proofs.Leaves.{leaf, part_leaves}
 use Rattle.go_type_images.proofs.ByParts.{by_parts}
@@ -30,10 +31,6 @@ use Rattle.go_type_images.proofs.ByParts.{by_parts}
 abbrev leaf_names : Layer → Names
 leaf_names (Term-F.Named n) = n ∷ []
 leaf_names l = []
-
-append_none : (xs : Names) → xs ++ [] ≡ xs
-append_none [] = refl
-append_none (x ∷ xs) = ap (λ ys. x ∷ ys) (append_none xs)
 
 gathered : {A : Type 0} (f g : A → Names) (xs : List A) → ((x : A) → f x ≡ g x) → all_of (map f xs) ≡ gather g xs
 gathered f g [] h = refl
@@ -64,11 +61,11 @@ method_is m = fold_out-Method Names Names Names Names name_step field_names meth
 names_level : (l : Layer) → names (roll-Term l) ≡ leaf_names l ++ gather names (parts l)
 names_level (Term-F.Plain b) = fold-roll-Term Names Names Names Names name_step field_names method_names parameter_names (Term-F.Plain b)
 names_level (Term-F.Named n) = fold-roll-Term Names Names Names Names name_step field_names method_names parameter_names (Term-F.Named n)
-names_level (Term-F.Pointer e) = fold-roll-Term Names Names Names Names name_step field_names method_names parameter_names (Term-F.Pointer e) ∙ sym (append_none (names e))
-names_level (Term-F.Slice e) = fold-roll-Term Names Names Names Names name_step field_names method_names parameter_names (Term-F.Slice e) ∙ sym (append_none (names e))
-names_level (Term-F.Array n e) = fold-roll-Term Names Names Names Names name_step field_names method_names parameter_names (Term-F.Array n e) ∙ sym (append_none (names e))
-names_level (Term-F.Map k e) = fold-roll-Term Names Names Names Names name_step field_names method_names parameter_names (Term-F.Map k e) ∙ ap (λ ys. names k ++ ys) (sym (append_none (names e)))
-names_level (Term-F.Chan d e) = fold-roll-Term Names Names Names Names name_step field_names method_names parameter_names (Term-F.Chan d e) ∙ sym (append_none (names e))
+names_level (Term-F.Pointer e) = fold-roll-Term Names Names Names Names name_step field_names method_names parameter_names (Term-F.Pointer e) ∙ sym (append-nil (names e))
+names_level (Term-F.Slice e) = fold-roll-Term Names Names Names Names name_step field_names method_names parameter_names (Term-F.Slice e) ∙ sym (append-nil (names e))
+names_level (Term-F.Array n e) = fold-roll-Term Names Names Names Names name_step field_names method_names parameter_names (Term-F.Array n e) ∙ sym (append-nil (names e))
+names_level (Term-F.Map k e) = fold-roll-Term Names Names Names Names name_step field_names method_names parameter_names (Term-F.Map k e) ∙ ap (λ ys. names k ++ ys) (sym (append-nil (names e)))
+names_level (Term-F.Chan d e) = fold-roll-Term Names Names Names Names name_step field_names method_names parameter_names (Term-F.Chan d e) ∙ sym (append-nil (names e))
 names_level (Term-F.Func g) = names_of_function g ∙ function_names g
 names_level (Term-F.Struct fs) = fold-roll-Term Names Names Names Names name_step field_names method_names parameter_names (Term-F.Struct fs) ∙ gathered (fold-Field Names Names Names Names name_step field_names method_names parameter_names) (λ f. names (field_type f)) fs field_is ∙ sym (gather_map names field_type fs)
 names_level (Term-F.Interface ms) = fold-roll-Term Names Names Names Names name_step field_names method_names parameter_names (Term-F.Interface ms) ∙ gathered (fold-Method Names Names Names Names name_step field_names method_names parameter_names) (λ m. names (method_type m)) ms method_is ∙ sym (gather_map names method_type ms)
@@ -160,11 +157,6 @@ module _ (T : Table) (H : EntriesResolve T) where
   TargetResolves (field t) = Leaves (had T) t
   TargetResolves (method o p g) = Leaves (had T) (function_type g)
 
-  only_if : {A : Type 0} (b : Bool) (x y : A) → Has (if b then x ∷ [] else []) y → x ≡ y
-  only_if true x y (inl e) = e
-  only_if true x y (inr k) = absurd k
-  only_if false x y k = absurd k
-
   entry_methods : (n : TypeName) (o : Option Defined) (m : MethodOf) → entry T n ≡ o → Has (methods_of_entry o) m → Leaves (had T) (function_type m.signature)
   entry_methods n (Some d) m e k = H.methods n d m e k
   entry_methods n None m e k = absurd k
@@ -172,10 +164,6 @@ module _ (T : Table) (H : EntriesResolve T) where
   declared_resolves : (l : Layer) (m : MethodOf) → Has (declared_methods T l) m → Leaves (had T) (function_type m.signature)
   declared_resolves (Term-F.Named n) m k = entry_methods n (entry T n) m refl k
   declared_resolves l m k = absurd k
-
-  either : {A B C : Type 0} → A ⊎ B → (A → C) → (B → C) → C
-  either (inl a) f g = f a
-  either (inr b) f g = g b
 
   end_resolves : (s : Sel) (at : Spot) (e : Ending) → Leaves (had T) at.term → Has (ends T s 0 at) e → TargetResolves e.target
   unfolding ends
@@ -185,14 +173,14 @@ module _ (T : Table) (H : EntriesResolve T) where
       let ms = gather (method_ending s at.through) (methods_of (under T at.term)) in
       either (has_split (fs ++ ds) ms e k)
       (λ j. either (has_split fs ds e j)
-      (λ i. let g = gather_of (field_ending s at.through) (fields_of (under T at.term)) e i in subst (λ (x : Ending). TargetResolves x.target) (only_if (same_sel (out-Field g.0).sel s) _ e g.2) (field_resolves (under T at.term) g.0 (under_resolves at.term h) g.1))
-      (λ i. let g = gather_of (declared_ending (name_of (out-Term at.term)) s at.through) (declared_methods T (out-Term at.term)) e i in subst (λ (x : Ending). TargetResolves x.target) (only_if (same_sel (g.0).sel s) _ e g.2) (declared_resolves (out-Term at.term) g.0 g.1)))
-      (λ i. let g = gather_of (method_ending s at.through) (methods_of (under T at.term)) e i in subst (λ (x : Ending). TargetResolves x.target) (only_if (same_sel (out-Method g.0).sel s) _ e g.2) (method_resolves (under T at.term) g.0 (under_resolves at.term h) g.1))
+      (λ i. let g = gather_of (field_ending s at.through) (fields_of (under T at.term)) e i in subst (λ (x : Ending). TargetResolves x.target) (only_if (same_sel (out-Field g.0).sel s) _ e g.2).1 (field_resolves (under T at.term) g.0 (under_resolves at.term h) g.1))
+      (λ i. let g = gather_of (declared_ending (name_of (out-Term at.term)) s at.through) (declared_methods T (out-Term at.term)) e i in subst (λ (x : Ending). TargetResolves x.target) (only_if (same_sel (g.0).sel s) _ e g.2).1 (declared_resolves (out-Term at.term) g.0 g.1)))
+      (λ i. let g = gather_of (method_ending s at.through) (methods_of (under T at.term)) e i in subst (λ (x : Ending). TargetResolves x.target) (only_if (same_sel (out-Method g.0).sel s) _ e g.2).1 (method_resolves (under T at.term) g.0 (under_resolves at.term h) g.1))
 
   step_resolves : (at x : Spot) → Leaves (had T) at.term → Has (steps T at) x → Leaves (had T) x.term
   step_resolves at x h k =
       let g = gather_of (step at.through) (fields_of (under T at.term)) x k in
-      subst (λ (y : Spot). Leaves (had T) y.term) (only_if (out-Field g.0).embedded _ x g.2) (base_of_resolves (out-Field g.0).term (field_resolves (under T at.term) g.0 (under_resolves at.term h) g.1))
+      subst (λ (y : Spot). Leaves (had T) y.term) (only_if (out-Field g.0).embedded _ x g.2).1 (base_of_resolves (out-Field g.0).term (field_resolves (under T at.term) g.0 (under_resolves at.term h) g.1))
 
   -- what is found from a spot has entries for its names
   pub found_resolves : (s : Sel) (k : ℕ) (at : Spot) (e : Ending) → Leaves (had T) at.term → Has (ends T s k at) e → TargetResolves e.target

@@ -25,22 +25,14 @@ use Rattle.go_type_images.specs.Parts.{field_type}
 use Rattle.go_type_images.specs.SpotImages.{at_spot}
 use Rattle.api_correspond.specs.Publics.{types_of}
 use Rattle.api_kept_members.specs.KeptFinds.{end_at}
+use Rattle.api_kept_members.proofs.Alternatives.{either, only_if}
 use Rattle.api_kept_members.proofs.ResolvingPairs.{entry_is}
-
-either : {A B C : Type 0} → A ⊎ B → (A → C) → (B → C) → C
-either (inl a) f g = f a
-either (inr b) f g = g b
 
 field_field : {a b : Term} → ◌≡◌ {A = Target} (field a) (field b) → a ≡ b
 field_field e = cc
 
 no_field : (o : Option TypeName) (p : Bool) (g : Signature) (v : Term) → ◌≡◌ {A = Target} (method o p g) (field v) → ⊥
 no_field o p g v e = absurd (cc)
-
-only_if : {A : Type 0} (b : Bool) (x y : A) → Has (if b then x ∷ [] else []) y → (b ≡ true) × (x ≡ y)
-only_if true x y (inl e) = (refl, e)
-only_if true x y (inr k) = absurd k
-only_if false x y k = absurd k
 
 -- a field of the struct underneath, of a selector and a type
 pub record IsFieldOf (T : Table) (s : Sel) (t v : Term) : Type 0 where

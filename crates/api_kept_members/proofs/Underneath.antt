@@ -17,6 +17,7 @@ use Rattle.api_correspond.specs.Publics.{of_module, package_at, types_of}
 use Rattle.api_correspond.specs.Rules.{Compatible}
 use Rattle.go_type_images.specs.declared.pair.TypePair.{TypePair}
 use Rattle.api_kept_members.specs.KeptLevels.{Kept, kept_image, kept_interface, kept_struct}
+use Rattle.api_kept_members.proofs.Alternatives.{either}
 use Rattle.api_type_images.proofs.Paired as P
 use Rattle.api_type_images.proofs.Rebuilt.{head, level_image}
 use Rattle.go_type_images.proofs.ImageLevels.{is_name}
@@ -52,10 +53,6 @@ and_both false b e = absurd (cc)
 pub or_either : (a b : Bool) → (a || b) ≡ true → (a ≡ true) ⊎ (b ≡ true)
 or_either true b e = inl refl
 or_either false b e = inr e
-
-either : {A B C : Type 0} → A ⊎ B → (A → C) → (B → C) → C
-either (inl a) f g = f a
-either (inr b) f g = g b
 
 same_form : {r : Naming} {pairs : List TypePair} (k l : Layer) → ((struct_layer k && struct_layer l) || (interface_layer k && interface_layer l)) ≡ true → Kept r pairs k l
 same_form k l e = either (or_either (struct_layer k && struct_layer l) (interface_layer k && interface_layer l) e)

@@ -22,7 +22,8 @@ use Rattle.api_kept_members.specs.inner.Entries.{had}
 use Rattle.api_kept_members.proofs.ResolvingPairs.{entries_resolve}
 use Rattle.api_kept_relations.specs.ClientWorlds.{Serves}
 use Rattle.api_kept_relations.proofs.Names as N
-use Rattle.api_kept_relations.proofs.Names.{error_entry, other_entry}
+use Rattle.go_shared_types.proofs.Scopes.{error_entry}
+use Rattle.api_kept_relations.proofs.Names.{other_entry}
 
 module _ (small large : Packages) (T : Table) (i : IsWorld small) (V : Serves small large T) where
   abbrev S : Table

@@ -35,7 +35,8 @@ use Rattle.api_correspond.specs.Rules.{is_std_sel}
 use Rattle.api_kept_members.proofs.ResolvingPairs.{entry_is}
 use Rattle.api_kept_relations.specs.StdTypes.{HasStdMethods, IsOfStd, StdMethodsStay, std_methods}
 use Rattle.api_kept_relations.proofs.Names as N
-use Rattle.api_kept_relations.proofs.Names.{no_option, some_some}
+use Rattle.go_shared_types.proofs.Scopes.{some_some}
+use Rattle.api_kept_relations.proofs.Names.{no_option}
 
 -- ---- items that are looked up
 

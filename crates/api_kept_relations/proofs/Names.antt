@@ -42,17 +42,11 @@ some_is o d e = ap is_some e
 pub error_path : (n : TypeName) → is_error n ≡ true → n.path ≡ []
 error_path n e = (bytes_decides n.path []).0 (first_so (bytes_eq n.path []) (bytes_eq n.name (codes "error")) e)
 
-pub error_entry : (T : Table) (n : TypeName) → is_error n ≡ true → entry T n ≡ Some error_type
-error_entry T n e = ap (λ b. if b then Some error_type else T n) e
-
 pub other_entry : (T : Table) (n : TypeName) → is_error n ≡ false → entry T n ≡ T n
 other_entry T n e = ap (λ b. if b then Some error_type else T n) e
 
 pub no_option : {A : Type 0} (x : A) → ◌≡◌ {A = Option A} None (Some x) → ⊥
 no_option x e = absurd (cc)
-
-pub some_some : {A : Type 0} {x y : A} → ◌≡◌ {A = Option A} (Some x) (Some y) → x ≡ y
-some_some e = cc
 
 abbrev pub AnySel : Sel → Type 0
 AnySel s = Unit {0}

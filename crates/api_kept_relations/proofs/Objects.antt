@@ -38,16 +38,18 @@ use Rattle.go_shared_types.proofs.Alike as A
 use Rattle.go_shared_types.proofs.Items.{in_gather, passes, passing}
 use Rattle.go_shared_types.proofs.PartNames.{names_of_function, selectors_of_function}
 use Rattle.go_shared_types.proofs.SameTypes.{signature_stays}
+use Rattle.go_shared_types.proofs.Scopes.{some_some}
 use Rattle.api_correspond.specs.Outermost.{pair}
 use Rattle.api_correspond.specs.OwnedPairs.{types_of_entities}
 use Rattle.api_correspond.specs.Publics.{Exports, IsPublic, of_std, package_at, qualified, types_of}
 use Rattle.api_correspond.specs.Rules.{CoversObjects, KeepsConstant, KeepsKind}
 use Rattle.api_type_images.proofs.Paired as P
 use Rattle.api_kept_members.proofs.Members as M
+use Rattle.api_kept_members.proofs.Underneath.{and_both}
 use Rattle.api_kept_members.specs.inner.Entries.{had}
 use Rattle.api_kept_relations.specs.StdTypes.{is_open_sel, is_std_name, shared_std}
 use Rattle.api_kept_relations.proofs.Labels.{first_stands, first_told}
-use Rattle.api_kept_relations.proofs.Names.{no_option, some_had, some_some}
+use Rattle.api_kept_relations.proofs.Names.{no_option, some_had}
 use Rattle.api_kept_relations.proofs.Pairs as Q
 use Rattle.api_kept_relations.proofs.Pairs.{Worlds}
 use Rattle.api_kept_relations.proofs.StdShared as X
@@ -59,11 +61,11 @@ no_truth e = absurd (cc)
 
 begins : (name cs : List ℕ) → chars name ≡ cs → scalars cs ≡ true → encode_utf8_all cs ≡ name → begins_upper (chars name) ≡ true → BeginsPassing is_upper name
 begins name [] is s e h = absurd (no_truth (sym h ∙ ap begins_upper is))
-begins name (c ∷ cs) is s e h = (c, encode_utf8_all cs, sym (ap begins_upper is) ∙ h, (X.and_both _ (scalars cs) s).0, sym e)
+begins name (c ∷ cs) is s e h = (c, encode_utf8_all cs, sym (ap begins_upper is) ∙ h, (and_both _ (scalars cs) s).0, sym e)
 
 shown : (name : List ℕ) → is_exported name ≡ true → BeginsPassing is_upper name
 shown name e =
-    let b = X.and_both (is_utf8 name) (begins_upper (chars name)) e in
+    let b = and_both (is_utf8 name) (begins_upper (chars name)) e in
     let text = IsUtf8-from_is_utf8 name b.0 in
     begins name text.0 (sym (chars_from_encodes text.0 name text text.1.1)) text.1.0 text.1.1 b.1
 

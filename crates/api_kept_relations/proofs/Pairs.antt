@@ -54,7 +54,7 @@ use Rattle.api_kept_members.proofs.FoundMethods as FM
 use Rattle.api_kept_members.proofs.InterfaceMethods as IM
 use Rattle.api_kept_members.proofs.Kept as K
 use Rattle.api_kept_members.proofs.ResolvingPairs.{AreIn, pair_resolves}
-use Rattle.api_kept_members.proofs.Underneath.{same_level}
+use Rattle.api_kept_members.proofs.Underneath.{and_both, same_level}
 use Rattle.api_kept_relations.specs.ClientWorlds.{Serves}
 use Rattle.api_kept_relations.specs.StdTypes.{IsOfStd, StdMethodsStay, StdStandsAlone, is_open_sel, is_std_name, shared_std}
 use Rattle.api_kept_relations.proofs.Carried as V
@@ -642,7 +642,7 @@ module _ (old new before after : Packages) (pairs : List TypePair) (T U : Table)
             (m.0, m.1, sym m.2)
 
     pub new_side : (n : TypeName) → out-Term p.old ≡ Term-F.Named n → are_of_module old new p ≡ true → of_module (package_at new (r n).path) ≡ true
-    new_side n e m = sym (ap (module_layer new) (new_level n e)) ∙ (X.and_both (is_of_module old p.old) (is_of_module new p.new) m).1
+    new_side n e m = sym (ap (module_layer new) (new_level n e)) ∙ (and_both (is_of_module old p.old) (is_of_module new p.new) m).1
 
     pub imported : (n : TypeName) → out-Term p.old ≡ Term-F.Named n → is_imported n ≡ true → is_imported (r n) ≡ true
     imported n e x = by_kind (is_imported (r n) ≡ true)

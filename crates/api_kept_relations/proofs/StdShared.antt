@@ -26,20 +26,18 @@ use Rattle.go_type_images.specs.Parts.{function_type}
 use Rattle.go_shared_types.specs.Sharing.{IsShared}
 use Rattle.go_shared_types.proofs.Items.{either, passes, passing}
 use Rattle.go_shared_types.proofs.PartNames.{error_names, error_selectors, names_of_function, selectors_of_function}
+use Rattle.go_shared_types.proofs.Scopes.{error_entry, some_some}
 use Rattle.api_correspond.specs.Publics.{of_std, package_at, types_of}
 use Rattle.api_correspond.specs.SharedStd.{ShareStd}
 use Rattle.api_kept_members.specs.inner.Entries.{had}
 use Rattle.api_kept_members.proofs.InterfaceMethods.{bare}
 use Rattle.api_kept_members.proofs.ResolvingPairs.{entries_resolve}
+use Rattle.api_kept_members.proofs.Underneath.{and_both}
 use Rattle.api_kept_relations.specs.ClientWorlds.{Serves}
 use Rattle.api_kept_relations.specs.StdTypes.{IsOfStd, StdStandsAlone, is_open_sel, is_std_name, shared_std}
 use Rattle.api_kept_relations.proofs.Names as N
 use Rattle.api_kept_relations.proofs.StdEntries as E
-use Rattle.api_kept_relations.proofs.Names.{error_entry, error_path, had_some, no_option, other_entry, some_had, some_some}
-
-pub and_both : (a b : Bool) → (a && b) ≡ true → (a ≡ true) × (b ≡ true)
-and_both true b e = (refl, e)
-and_both false b e = absurd (cc)
+use Rattle.api_kept_relations.proofs.Names.{error_path, had_some, no_option, other_entry, some_had}
 
 pub or_left : (a b : Bool) → a ≡ true → (a || b) ≡ true
 or_left true b e = refl

@@ -5,6 +5,7 @@ use Rattle.go_type_images.specs.Parts.{field_type, function_type, method_type, p
 use Rattle.go_base.proofs.Members.{gather_of, has_split}
 use Rattle.go_base.specs.Gathered.{gather}
 use Rattle.go_base.specs.Lists.{Has}
+use Rattle.go_existence.proofs.FiniteSets.{has_map}
 use Rattle.go_model.specs.declared.types.found.FieldFound.{FieldFound}
 use Rattle.go_model.specs.declared.types.found.Found.TheVariants.{FieldAt}
 use Rattle.go_model.specs.declared.types.names.Sel.{Sel}
@@ -25,11 +26,6 @@ one_of : {A : Type 0} (x e : A) (b : Bool) → Has (if b then x ∷ [] else []) 
 one_of x e true (inl s) = s
 one_of x e true (inr h) = absurd h
 one_of x e false h = absurd h
-
-has_map : {A B : Type 0} (f : A → B) (xs : List A) (x : A) → Has xs x → Has (map f xs) (f x)
-has_map f [] x h = absurd h
-has_map f (y ∷ xs) x (inl e) = inl (ap f e)
-has_map f (y ∷ xs) x (inr h) = inr (has_map f xs x h)
 
 module _ (T : Table) (K : Term → Type 0) (closed : (t q : Term) → K t → Has (parts (out-Term t)) q → K q)
     (known : (n : TypeName) (d : Defined) → entry T n ≡ Some d → K d.underlying × ((m : MethodOf) → Has d.methods m → K (function_type m.signature))) where

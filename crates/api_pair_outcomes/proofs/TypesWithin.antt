@@ -4,7 +4,7 @@ use Rattle.go_type_images.specs.Parts.{field_type, function_type, method_type, p
 use Rattle.go_base.proofs.Members.{gather_of, has_split}
 use Rattle.go_base.specs.Gathered.{gather}
 use Rattle.go_base.specs.Lists.{Has}
-use Rattle.go_existence.proofs.FiniteSets.{has_left, has_right}
+use Rattle.go_existence.proofs.FiniteSets.{has_left, has_map, has_right}
 use Rattle.go_model.specs.declared.types.term.Field.{Field, fold_out-Field, out-Field}
 use Rattle.go_model.specs.declared.types.term.Method.{Method, fold_out-Method, out-Method}
 use Rattle.go_model.specs.declared.types.term.Signature.{Signature, fold_out-Signature, out-Signature}
@@ -28,11 +28,6 @@ in_above : (hs : List ℕ) (h : ℕ) → Has hs h → h < above hs
 in_above [] h i = absurd i
 in_above (k ∷ hs) h (inl e) = omega (arith, e)
 in_above (k ∷ hs) h (inr i) = let l = in_greatest hs h i in omega (arith, l)
-
-has_map : {A B : Type 0} (f : A → B) (xs : List A) (x : A) → Has xs x → Has (map f xs) (f x)
-has_map f [] x h = absurd h
-has_map f (y ∷ xs) x (inl e) = inl (ap f e)
-has_map f (y ∷ xs) x (inr h) = inr (has_map f xs x h)
 
 abbrev layer_height : Layer → ℕ
 layer_height l = height_step (map-Term Term Field Method Signature ℕ ℕ ℕ ℕ height height_of_field height_of_method height_of_signature l)

@@ -1,3 +1,5 @@
+pub mod Counting
 pub mod FileBytes
-pub mod LinesAndColumns
+pub mod PathFronts
+pub mod Readings
 pub mod SkippedNames

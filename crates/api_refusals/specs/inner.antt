@@ -1,2 +1,4 @@
+pub mod Counts
 pub mod Files
+pub mod Readings
 pub mod Skipped

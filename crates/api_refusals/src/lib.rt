@@ -2,6 +2,7 @@
 #![tactic(auto)]
 
 mod places;
+mod reading;
 pub mod refusals;
 pub mod root;
 pub mod skipped;

@@ -29,7 +29,7 @@ pub enum PackageFault {
     Unsound(Place),
 }
 
-fn files_in<'a>(
+pub(crate) fn files_in<'a>(
     tree: &'a Tree,
     std_tree: &'a Tree,
     client: &'a [TreeFile],
@@ -66,7 +66,7 @@ fn place_in(
     ensures { IfOk result (λ text. text.items ≡ place_in tree.now std_tree.now client.now root path.now offset) }
 {
     let files = files_in(tree, std_tree, client, root);
-    let bytes = bytes_at(alloc, files, path)?;
+    let bytes = bytes_at(files, path);
     let mut text = root.file_name(alloc, path)?;
     push_place(&mut text, bytes, offset)?;
     Ok(text)
@@ -216,13 +216,13 @@ fn file_place(
     }
 }
 
-fn file_at(files: &[UnitFile], number: usize) -> Option<&UnitFile>
+pub(crate) fn file_at(files: &[UnitFile], number: usize) -> Option<&UnitFile>
     ensures { copied_file result ≡ slice_get files.now number }
 {
     files.get(number)
 }
 
-pub(crate) fn unit_place(
+fn unit_place(
     alloc: Global,
     tree: &Tree,
     std_tree: &Tree,

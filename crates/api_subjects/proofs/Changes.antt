@@ -5,7 +5,7 @@ use Rattle.api_subjects.specs.Subjects.{IsChange}
 use Rattle.api_subjects.specs.TypeTexts.{IsTypeText, type_text}
 use Rattle.api_subjects.specs.inner.Quoting.{quoted}
 use Rattle.api_subjects.proofs.Quotes.{quotes}
-use Rattle.api_subjects.proofs.TypeParts.{three_pieces}
+use Rattle.api_features.proofs.TypeParts.{three_pieces}
 
 pub type_so : (t : Term) (text : List ℕ) → text ≡ type_text quoted t → IsTypeText t text
 type_so t text e = (quoted, quotes, e)

@@ -8,21 +8,11 @@ use Rattle.go_model.specs.declared.types.term.Method.{Method}
 use Rattle.go_model.specs.declared.types.term.Signature.{Signature, out-Signature, fold_out-Signature}
 use Rattle.api_features.specs.ConstantTexts.{AppendsQuoted}
 use Rattle.api_features.specs.TypeTexts.{as_parameter, commas, interface_text, is_last, parameter_texts, result_text, Shown, signature_step, text_of}
+use Rattle.api_features.proofs.TypeParts.{three_pieces}
 use Rattle.api_subjects.specs.TypeTexts.{behind, field_text, layer_text, method_text, shown_type, tag_text, type_text}
 use Rattle.api_subjects.specs.inner.Appended.{method_of, separated, signature_of}
 use Rattle.api_subjects.specs.inner.Quoting.{quoted}
 use Rattle.api_subjects.proofs.Quotes.{quoted_so}
-
--- ---- pieces in a row
-
--- what went in three pieces, and in four
-pub three_pieces : (a b c old one two three : List ℕ) → one ≡ old ++ a → two ≡ one ++ b → three ≡ two ++ c → three ≡ old ++ (a ++ b ++ c)
-three_pieces a b c old one two three p q r =
-    r ∙ ap (λ (w : List ℕ). w ++ c) (q ∙ ap (λ (w : List ℕ). w ++ b) p ∙ append_assoc old a b) ∙ append_assoc old (a ++ b) c
-
-pub four_pieces : (a b c d old one two three four : List ℕ) → one ≡ old ++ a → two ≡ one ++ b → three ≡ two ++ c → four ≡ three ++ d → four ≡ old ++ (a ++ b ++ c ++ d)
-four_pieces a b c d old one two three four p q r s =
-    s ∙ ap (λ (w : List ℕ). w ++ d) (three_pieces a b c old one two three p q r) ∙ append_assoc old (a ++ b ++ c) d
 
 -- ---- texts behind separators
 

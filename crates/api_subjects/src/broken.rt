@@ -3,6 +3,7 @@ ghost use Rattle.std.specs.Prelude.{◌≡◌, IfOk};
 ghost use Rattle.api_subjects.specs.Told.{printed};
 
 use crate::rule::Rule;
+use api_lines::printed::Printable;
 use go_base::memory::NoMemory;
 use go_base::text::Text;
 use std::alloc::Global;
@@ -29,5 +30,13 @@ impl Broken {
         text.extend_from_slice(b" ")?;
         text.extend_from_slice(self.subject.bytes())?;
         Ok(Text::from_vec(text))
+    }
+}
+
+impl Printable for Broken {
+    ghost text = { printed };
+
+    fn text(&self, alloc: Global) -> Result<Text, NoMemory> {
+        self.printed(alloc)
     }
 }

@@ -18,6 +18,7 @@ use Rattle.api_correspond.specs.Outermost.{FieldHead, SameOutermost, Outermost, 
 use Rattle.go_type_images.specs.Parts.{field_type, function_type, method_type, parts}
 use Rattle.api_correspond.specs.Publics.{of_module, package_at}
 use Rattle.go_type_images.specs.declared.pair.TypePair.{TypePair}
+use Rattle.go_type_images.proofs.ImageParts.{both_items, map_append}
 use Rattle.go_type_images.proofs.ImageLevels.{image_roll, is_name, out_image_field, out_image_method, out_image_signature}
 
 -- ---- what a name shows
@@ -147,9 +148,6 @@ rebuild (function p q v) ts = Term-F.Func (signature_from p v ts)
 rebuild (structure hs) ts = Term-F.Struct (fields_from hs ts)
 rebuild (interface ss) ts = Term-F.Interface (methods_from ss ts)
 
-both_items : {A : Type 0} (x y : A) (xs ys : List A) → x ≡ y → xs ≡ ys → ◌≡◌ {A = List A} (x ∷ xs) (y ∷ ys)
-both_items x y xs ys e f = cc
-
 fields_again : (fs : List Field) → fields_from (map field_head fs) (map field_type fs) ≡ fs
 fields_again [] = refl
 fields_again (f ∷ fs) = both_items _ f _ fs (roll-out-Field f) (fields_again fs)
@@ -185,10 +183,6 @@ module _ (r : Naming) where
   abbrev pub to : Term → Term
   to = image r same_sels
 
-  map_both : (xs ys : List Term) → map to (xs ++ ys) ≡ map to xs ++ map to ys
-  map_both [] ys = refl
-  map_both (x ∷ xs) ys = ap (λ zs. to x ∷ zs) (map_both xs ys)
-
   field_image : (f : Field) → field_from (field_head f) (to (field_type f)) ≡ image_of_field r same_sels f
   field_image f = ap roll-Field (sym (out_image_field r same_sels f)) ∙ roll-out-Field _
 
@@ -208,7 +202,7 @@ module _ (r : Naming) where
 
   signature_parts : (g : Signature) → signature_from (length (out-Signature g).params) (out-Signature g).variadic (map to ((out-Signature g).params ++ (out-Signature g).results)) ≡ image_of_signature r same_sels g
   signature_parts g =
-      ap (signature_from (length (out-Signature g).params) (out-Signature g).variadic) (map_both (out-Signature g).params (out-Signature g).results)
+      ap (signature_from (length (out-Signature g).params) (out-Signature g).variadic) (map_append to (out-Signature g).params (out-Signature g).results)
       ∙ signature_split g (map to (out-Signature g).params) (map to (out-Signature g).results) (as_many to (out-Signature g).params)
       ∙ ap roll-Signature (sym (out_image_signature r same_sels g)) ∙ roll-out-Signature _
 

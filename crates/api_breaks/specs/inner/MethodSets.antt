@@ -36,17 +36,17 @@ abbrev pub AreLostIn : Packages → Candidates → List Method → Lost → Type
 AreLostIn w callable ms = OfSome (IsLostIn w callable) ms
 
 -- the methods of an old type that count are kept in the set of a new one, and one isn't
-abbrev pub KeepsSet : Packages → Packages → Term → Term → Type 0
-KeepsSet old new t u = (s : Sel) (g : Signature) → Counts old s → InSet (types_of old) t s g → KeepsInSet old new u s g
+abbrev pub KeepsMethodSet : Packages → Packages → Term → Term → Type 0
+KeepsMethodSet old new t u = (s : Sel) (g : Signature) → Counts old s → InSet (types_of old) t s g → KeepsInSet old new u s g
 
-abbrev pub IsSetLoss : Packages → Packages → Term → Term → Lost → Type 0
-IsSetLoss old new t u l = (s : Sel) × (g : Signature) × Counts old s × InSet (types_of old) t s g × (KeepsInSet old new u s g → ⊥) × (lost_of s ≡ l)
+abbrev pub IsLostMethod : Packages → Packages → Term → Term → Lost → Type 0
+IsLostMethod old new t u l = (s : Sel) × (g : Signature) × Counts old s × InSet (types_of old) t s g × (KeepsInSet old new u s g → ⊥) × (lost_of s ≡ l)
 
 abbrev pub are_plain : Packages → Packages → TypePair → Bool
 are_plain old new p = are_of_module old new p && not (interface_layer (under (types_of old) p.old)) && not (interface_layer (under (types_of new) p.new))
 
 abbrev pub KeepsSets : Packages → Packages → TypePair → Type 0
-KeepsSets old new p = have_method_sets old new p ≡ true → KeepsSet old new p.old p.new × KeepsSet old new (pointer_to p.old) (pointer_to p.new)
+KeepsSets old new p = have_method_sets old new p ≡ true → KeepsMethodSet old new p.old p.new × KeepsMethodSet old new (pointer_to p.old) (pointer_to p.new)
 
 abbrev pub IsMethodSetLoss : Packages → Packages → TypePair → Lost → Type 0
-IsMethodSetLoss old new p l = (have_method_sets old new p ≡ true) × (IsSetLoss old new p.old p.new l ⊎ IsSetLoss old new (pointer_to p.old) (pointer_to p.new) l)
+IsMethodSetLoss old new p l = (have_method_sets old new p ≡ true) × (IsLostMethod old new p.old p.new l ⊎ IsLostMethod old new (pointer_to p.old) (pointer_to p.new) l)

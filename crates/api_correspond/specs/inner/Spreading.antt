@@ -50,6 +50,6 @@ abbrev pub IsFieldSel : List Field → Sel → Type 0
 IsFieldSel fs = OfSome IsSelOf fs
 
 -- the type at a place of the list, where there is one
-abbrev pub SpotAt : List Term → ℕ → Option (Bor Term) → Type 0
-SpotAt all at None = length all ≤ at
-SpotAt all at (Some t) = (at < length all) × (t.now ≡ get_or all at t.now)
+abbrev pub TermAt : List Term → ℕ → Option (Bor Term) → Type 0
+TermAt all at None = length all ≤ at
+TermAt all at (Some t) = (at < length all) × (t.now ≡ get_or all at t.now)

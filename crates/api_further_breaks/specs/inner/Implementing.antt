@@ -47,15 +47,15 @@ module _ (old new : Packages) (pairs : List TypePair) where
   IsLostBySome index callable called ms = OfSome (IsLostBy index callable called) ms
 
   -- of all sealed pairs, for an old and a new type
-  abbrev pub KeepsSet : Term → Term → Type 0
-  KeepsSet t u = (at : ℕ) (i : TypePair) → At pairs at i → AreSealed old new i → Implements (types_of old) t i.old → Implements (types_of new) u i.new
+  abbrev pub KeepsInterfaces : Term → Term → Type 0
+  KeepsInterfaces t u = (at : ℕ) (i : TypePair) → At pairs at i → AreSealed old new i → Implements (types_of old) t i.old → Implements (types_of new) u i.new
 
-  abbrev pub IsSetLoss : Term → Term → Lost → Type 0
-  IsSetLoss t u l = (at : ℕ) × (i : TypePair) × At pairs at i × AreSealed old new i × Implements (types_of old) t i.old × (Implements (types_of new) u i.new → ⊥) × (lost.Implements i.old ≡ l)
+  abbrev pub IsLostInterface : Term → Term → Lost → Type 0
+  IsLostInterface t u l = (at : ℕ) × (i : TypePair) × At pairs at i × AreSealed old new i × Implements (types_of old) t i.old × (Implements (types_of new) u i.new → ⊥) × (lost.Implements i.old ≡ l)
 
   -- for the types of a pair, and the pointers to them
   abbrev pub KeepsBoth : TypePair → Type 0
-  KeepsBoth p = KeepsSet p.old p.new × KeepsSet (pointer_to p.old) (pointer_to p.new)
+  KeepsBoth p = KeepsInterfaces p.old p.new × KeepsInterfaces (pointer_to p.old) (pointer_to p.new)
 
   abbrev pub IsImplementingLoss : TypePair → Lost → Type 0
-  IsImplementingLoss p l = IsSetLoss p.old p.new l ⊎ IsSetLoss (pointer_to p.old) (pointer_to p.new) l
+  IsImplementingLoss p l = IsLostInterface p.old p.new l ⊎ IsLostInterface (pointer_to p.old) (pointer_to p.new) l

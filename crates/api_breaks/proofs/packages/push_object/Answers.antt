@@ -1,7 +1,8 @@
 use Rattle.std.proofs.Common.{◌∙◌, ap}
 use Rattle.go_base.specs.Keys.{first_with}
 use Rattle.go_model.specs.worlds.Worlds.{object_name}
-use Rattle.api_breaks.proofs.PackageBreaks.{object_hidden, object_removed, object_both, unexported, exported}
+use Rattle.api_correspond.proofs.ExportedObjects.{unexported, exported}
+use Rattle.api_breaks.proofs.PackageBreaks.{object_hidden, object_removed, object_both}
 use Rattle.api_breaks.proofs.packages.push_object.Goals as goal
 
 pub returns-then-not-is_exported : goal.returns-then-not-is_exported

@@ -1,7 +1,8 @@
 use Rattle.std.proofs.Common.{sym, ◌∙◌, ap}
 use Rattle.go_base.specs.Keys.{first_with}
 use Rattle.go_model.specs.worlds.Worlds.{object_name}
-use Rattle.api_forced.proofs.FromObjects.{object_hidden, object_gone, object_apart, object_added, unexported, exported}
+use Rattle.api_correspond.proofs.ExportedObjects.{unexported, exported}
+use Rattle.api_forced.proofs.FromObjects.{object_hidden, object_gone, object_apart, object_added}
 use Rattle.api_forced.proofs.objects.push_object.Goals as goal
 
 pub returns-then-not-is_exported : goal.returns-then-not-is_exported

@@ -1,5 +1,5 @@
-use Rattle.api_judge.proofs.OrderedBreaks.{grows_broken}
+use Rattle.api_lines.proofs.Growing.{grows_pushed}
 use Rattle.api_judge.proofs.listing.push.Goals as goal
 
 pub returns : goal.returns
-returns c = grows_broken c.args.all.now.items c.push.new.self.items c.args.printed c.in_ok-push.ensures.items
+returns c = grows_pushed c.args.all.now.items c.push.new.self.items c.args.told c.in_ok-push.ensures.items

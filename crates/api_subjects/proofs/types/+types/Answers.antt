@@ -3,7 +3,8 @@ use Rattle.api_features.specs.TypeTexts.{as_parameter, commas, parameter_texts, 
 use Rattle.api_subjects.specs.TypeTexts.{shown_type, type_text}
 use Rattle.api_subjects.specs.inner.Appended.{method_of, separated}
 use Rattle.api_subjects.specs.inner.Quoting.{quoted}
-use Rattle.api_subjects.proofs.TypeParts.{four_pieces, interface_some, parameters_next, signature_is, three_pieces}
+use Rattle.api_features.proofs.TypeParts.{four_pieces, three_pieces}
+use Rattle.api_subjects.proofs.TypeParts.{interface_some, parameters_next, signature_is}
 use Rattle.api_subjects.proofs.types.+types.Goals as goal
 
 pub push_interface-returns : goal.push_interface-returns

@@ -1,7 +1,0 @@
-use Rattle.std.proofs.Common.{◌≡◌, take}
-use Rattle.go_exposed.specs.SkippedValues.{all_skipped}
-use Rattle.api_refusals.specs.SkippedTexts.{skipped_texts}
-use Rattle.api_refusals.proofs.skipped.skipped_texts.Given as goal
-
-abbrev pub invariant-loop-declaration : goal.invariant-loop-declaration
-invariant-loop-declaration l = l.texts ≡ skipped_texts l.tree l.std_tree l.«unit» (all_skipped (take l.declaration-index l.skipped))
