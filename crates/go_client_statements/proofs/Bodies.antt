@@ -78,9 +78,11 @@ module _ (E F : Env) (r : Naming) (pairs : List TypePair) (std : TypeName → Bo
 
   all_to : (ts : List Term) (h : Signature) → map (seen_to r) (locals (ts ++ (out-Signature h).params ++ (out-Signature h).results)) ≡ locals (map to ts ++ (out-Signature (image_of_signature r same_sels h)).params ++ (out-Signature (image_of_signature r same_sels h)).results)
   all_to ts h =
-      locals_to r (ts ++ (out-Signature h).params ++ (out-Signature h).results)
-      ∙ ap locals (map_append to ts ((out-Signature h).params ++ (out-Signature h).results) ∙ ap (λ us. map to ts ++ us) (map_append to (out-Signature h).params (out-Signature h).results))
-      ∙ ap (λ (x : _). locals (map to ts ++ x.params ++ x.results)) (sym (out_image_signature r same_sels h))
+      let ps = (out-Signature h).params in
+      let rs = (out-Signature h).results in
+      locals_to r ((ts ++ ps) ++ rs)
+      ∙ ap locals (map_append to (ts ++ ps) rs ∙ ap (λ us. us ++ map to rs) (map_append to ts ps))
+      ∙ ap (λ (x : _). locals ((map to ts ++ x.params) ++ x.results)) (sym (out_image_signature r same_sels h))
 
   pub body_kept : (f : Func) → ((d : ParameterDecl) → f.receiver ≡ Some d → Meets E (type (out-ParameterDecl d).type_)) → Meets E (at_signature f.signature) → IsTypedBody E blocks f → IsTypedBody F blocks f
   body_kept f m n (no_body e) = no_body e
@@ -89,7 +91,7 @@ module _ (E F : Env) (r : Naming) (pairs : List TypePair) (std : TypeName → Bo
       let q = expressions.signature_kept around around_too E r pairs std is_open deep names K.barred o (each_left (Meets E) (parameter_parts (out-Sig f.signature).parameters) (optional_result_parts (out-Sig f.signature).result) p) (each_right (Meets E) (parameter_parts (out-Sig f.signature).parameters) (optional_result_parts (out-Sig f.signature).result) p) in
       let g = receiver_kept m a in
       let parts = statements.signature_parts E F r pairs std is_open K blocks h q.1 in
-      let reached = each_both R ts ((out-Signature h).params ++ (out-Signature h).results) g.1 (each_both R (out-Signature h).params (out-Signature h).results parts.0 parts.1) in
+      let reached = each_both R (ts ++ (out-Signature h).params) (out-Signature h).results (each_both R ts (out-Signature h).params g.1 parts.0) parts.1 in
       let inside = declares_local pairs std is_open (tt, tt) (locals_local pairs std is_open (ts ++ (out-Signature h).params ++ (out-Signature h).results) reached) d in
       let declared = subst (λ ms. Declares (opened []) (receiver_slots f.receiver ++ parameter_slots (out-Sig f.signature).parameters ++ result_slots (out-Sig f.signature).result) ms (scopes_to r inner)) (all_to ts h) (declares_to r d) in
       let s = statements.typed_kept E F r pairs std is_open K blocks parts.1 inside t.1 in

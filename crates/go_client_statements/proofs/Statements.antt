@@ -63,7 +63,7 @@ map_right : {A : Type 0} (P : Node → Type 0) (f : A → Node) (xs ys : List A)
 map_right P f [] ys h = h
 map_right P f (x ∷ xs) ys h = map_right P f xs ys h.1
 
-pub mets : {E G : Env} {blocks : List LiteralBlock} {f : Enclosing} {s : Scopes} {ns : List Node} → AreMet E blocks f G s ns → Each (Meets G) ns
+pub mets : {E : Env} {blocks : List LiteralBlock} {f : Enclosing} {G : Env} {s : Scopes} {ns : List Node} → AreMet E blocks f G s ns → Each (Meets G) ns
 mets met_none = tt
 mets (met_more x y z) = (x, mets z)
 
@@ -149,7 +149,7 @@ module _ (E F : Env) (r : Naming) (pairs : List TypePair) (std : TypeName → Bo
       locals_local pairs std is_open ((out-Signature h).params ++ (out-Signature h).results) (each_both R (out-Signature h).params (out-Signature h).results p.0 p.1)
 
   -- the signature of a function literal meets what it is asked where the literal does
-  literal_signature : (G : Env) {at : Node} {x : Expr} {g : Sig} {b : BodyRange} → Meets G (expression x) → out-Expr x ≡ Expr-F.FuncLit g b → Meets G (at_signature g)
+  literal_signature : (G : Env) {x : Expr} {g : Sig} {b : BodyRange} → Meets G (expression x) → out-Expr x ≡ Expr-F.FuncLit g b → Meets G (at_signature g)
   literal_signature G {x = x} m e = (subst (λ l. Each (Meets G) (expression_parts l)) e (meets_parts G (expression x) m)).0
 
   bound_kept : (n : Option Name) (t : Term) (s u : Scopes) → In s → R t → bound n t s u → bound n (to t) (scopes_to r s) (scopes_to r u) × In u
@@ -170,9 +170,6 @@ module _ (E F : Env) (r : Naming) (pairs : List TypePair) (std : TypeName → Bo
     met_kept : {f : Enclosing} {s : Scopes} {ns : List Node} → In s → (G H : Env) → Keeps G H r pairs std is_open → Names s G → AreMet E blocks f G s ns → AreMet F blocks (enclosing_to r f) H (scopes_to r s) ns
     met_kept i G H D names met_none = met_none
     met_kept i G H D names (met_more x y z) = met_more (meets_kept G H r pairs std is_open D _ x) (literals_kept i G names D.barred x y) (met_kept i G H D names z)
-
-    all_met : {f : Enclosing} {s : Scopes} {ns : List Node} → In s → AreMet E blocks f (inside s) s ns → AreMet F blocks (enclosing_to r f) (inside_too s) (scopes_to r s) ns
-    all_met {s = s} i m = met_kept i (inside s) (inside_too s) (deep s i) (λ q t n. n) m
 
     function_kept : {f : Enclosing} {s : Scopes} {g : Sig} {b : BodyRange} → In s → (G : Env) → Names s G → G.profile ≡ true → Meets G (at_signature g) → IsTypedFunction E blocks f s g b → IsTypedFunction F blocks (enclosing_to r f) (scopes_to r s) g b
     function_kept {s = s} {g = g} {b = b} i G names barred m (typed_function {last = last} (enters_function {inner = inner} {h = h} {ss = ss} first o d k) y) =
@@ -217,14 +214,14 @@ module _ (E F : Env) (r : Naming) (pairs : List TypePair) (std : TypeName → Bo
     cases_kept : {f : Enclosing} {s : Scopes} {t : Term} {cs : List Case} → Of f → In s → R t → AreCases E blocks f s t cs → AreCases F blocks (enclosing_to r f) (scopes_to r s) (to t) cs
     cases_kept h i k cases_none = cases_none
     cases_kept h i k (cases_default x y z) = cases_default x (block_kept h i y) (cases_kept h i k z)
-    cases_kept {s = s} {t = t} h i k (cases_values {es = es} x y z w v) = cases_values x (listed.cases_kept (inside s) (inside_too s) r pairs std is_open (deep s i) t es k y (mets z)) (all_met i z) (block_kept h i w) (cases_kept h i k v)
+    cases_kept {s = s} {t = t} h i k (cases_values {es = es} x y z w v) = cases_values x (listed.cases_kept (inside s) (inside_too s) r pairs std is_open (deep s i) t es k y (mets z)) (met_kept i (inside s) (inside_too s) (deep s i) (λ q t n. n) z) (block_kept h i w) (cases_kept h i k v)
 
     type_cases_kept : {f : Enclosing} {s : Scopes} {n : Option Name} {t : Term} {cs : List TypeCase} → Of f → In s → R t → AreTypeCases E blocks f s n t cs → AreTypeCases F blocks (enclosing_to r f) (scopes_to r s) n (to t) cs
     type_cases_kept h i k type_cases_none = type_cases_none
     type_cases_kept {s = s} {n = n} {t = t} h i k (type_cases_more {u = u} {c = c} xs x y z w v) =
         let l = listed.listed_kept (inside s) (inside_too s) r pairs std is_open (deep s i) t (out-TypeCase c).types xs k x in
         let b = bound_kept n _ s u i (listed.bound_reached (inside s) (inside_too s) r pairs std is_open (deep s i) t xs k l.1) z in
-        type_cases_more _ l.0 (all_met i y) (subst (λ x. bound n x (scopes_to r s) (scopes_to r u)) (sym (listed.bound_to (inside s) (inside_too s) r pairs std is_open (deep s i) t xs)) b.0) (typed_kept h b.1 w).0 (type_cases_kept h i k v)
+        type_cases_more _ l.0 (met_kept i (inside s) (inside_too s) (deep s i) (λ q t n. n) y) (subst (λ x. bound n x (scopes_to r s) (scopes_to r u)) (sym (listed.bound_to (inside s) (inside_too s) r pairs std is_open (deep s i) t xs)) b.0) (typed_kept h b.1 w).0 (type_cases_kept h i k v)
 
     select_cases_kept : {f : Enclosing} {s : Scopes} {cs : List SelectCase} → Of f → In s → AreSelectCases E blocks f s cs → AreSelectCases F blocks (enclosing_to r f) (scopes_to r s) cs
     select_cases_kept h i select_cases_none = select_cases_none
@@ -251,17 +248,17 @@ module _ (E F : Env) (r : Naming) (pairs : List TypePair) (std : TypeName → Bo
         (leaves_operation a.1 g.0 b.1 c.1 (values.usable (inside s) (inside_too s) r pairs std is_open (deep s i) c.2 g.1 v), i)
     leaves_kept {s = s} h i (leaves_assignment {es = es} {xs = xs} x y z) =
         let a = values.initialize_kept (inside s) (inside_too s) (inside s) r pairs std is_open (deep s i) (λ q t n. n) K.barred x (map_right (Meets (inside s)) expression es xs (mets z)) in
-        (leaves_assignment a.1 (values.assigned_kept (inside s) (inside_too s) (inside s) r pairs std is_open (deep s i) (λ q t n. n) K.barred a.0 a.2 y (map_left (Meets (inside s)) expression es xs (mets z))) (all_met i z), i)
+        (leaves_assignment a.1 (values.assigned_kept (inside s) (inside_too s) (inside s) r pairs std is_open (deep s i) (λ q t n. n) K.barred a.0 a.2 y (map_left (Meets (inside s)) expression es xs (mets z))) (met_kept i (inside s) (inside_too s) (deep s i) (λ q t n. n) z), i)
     leaves_kept h i (leaves_definition {scope = scope} {outer = outer} x y z w v u) =
         let a = values.initialize_kept (inside (scope ∷ outer)) (inside_too (scope ∷ outer)) (inside (scope ∷ outer)) r pairs std is_open (deep (scope ∷ outer) i) (λ q t n. n) K.barred y (mets v) in
         let d = values.defined_kept (inside (scope ∷ outer)) (inside_too (scope ∷ outer)) r pairs std is_open (deep (scope ∷ outer) i) scope i.0 a.0 a.2 z in
-        (leaves_definition x a.1 d.0 w (all_met i v) (declares_to r u), declares_local pairs std is_open i d.1 u)
+        (leaves_definition x a.1 d.0 w (met_kept i (inside (scope ∷ outer)) (inside_too (scope ∷ outer)) (deep (scope ∷ outer) i) (λ q t n. n) v) (declares_to r u), declares_local pairs std is_open i d.1 u)
     leaves_kept h i (leaves_constants_declared {specs = specs} x) = let a = declared_kept i (constants_local no_spec 0 specs) x in (leaves_constants_declared a.0, a.1)
     leaves_kept h i (leaves_variables_declared {specs = specs} x) = let a = declared_kept i (variables_local specs) x in (leaves_variables_declared a.0, a.1)
     leaves_kept h i (leaves_labeled x) = let a = leaves_kept h i x in (leaves_labeled a.0, a.1)
     leaves_kept {s = s} h i (leaves_go x y) = let a = operand_kept i x in (leaves_go a.1 (values.call_kept (inside s) (inside_too s) (inside s) r pairs std is_open (deep s i) (λ q t n. n) K.barred y (operand_met x)), i)
     leaves_kept {s = s} h i (leaves_defer x y) = let a = operand_kept i x in (leaves_defer a.1 (values.call_kept (inside s) (inside_too s) (inside s) r pairs std is_open (deep s i) (λ q t n. n) K.barred y (operand_met x)), i)
-    leaves_kept {s = s} h i (leaves_return x y) = (leaves_return (values.returns_kept (inside s) (inside_too s) (inside s) r pairs std is_open (deep s i) (λ q t n. n) K.barred h x (mets y)) (all_met i y), i)
+    leaves_kept {s = s} h i (leaves_return x y) = (leaves_return (values.returns_kept (inside s) (inside_too s) (inside s) r pairs std is_open (deep s i) (λ q t n. n) K.barred h x (mets y)) (met_kept i (inside s) (inside_too s) (deep s i) (λ q t n. n) y), i)
     leaves_kept h i leaves_break = (leaves_break, i)
     leaves_kept h i leaves_continue = (leaves_continue, i)
     leaves_kept h i leaves_goto = (leaves_goto, i)
@@ -271,7 +268,7 @@ module _ (E F : Env) (r : Naming) (pairs : List TypePair) (std : TypeName → Bo
     leaves_kept h i (leaves_switch {t = t} x y z w) =
         let b = begins_kept h i x in
         let g = listed.tag_kept (inside t) (inside_too t) r pairs std is_open (deep t b.1) y (mets z) in
-        (leaves_switch b.0 g.0 (all_met b.1 z) (cases_kept h b.1 g.1 w), i)
+        (leaves_switch b.0 g.0 (met_kept b.1 (inside t) (inside_too t) (deep t b.1) (λ q x n. n) z) (cases_kept h b.1 g.1 w), i)
     leaves_kept h i (leaves_type_switch {t = t} {u = u} {ms = ms} {xs = xs} x y z w v k q p) =
         let b = begins_kept h i x in
         let a = operand_kept b.1 z in
@@ -291,7 +288,7 @@ module _ (E F : Env) (r : Naming) (pairs : List TypePair) (std : TypeName → Bo
         let g = listed.ranges_kept (inside s) (inside_too s) r pairs std is_open (deep s i) a.2 y in
         let n = length es in
         let c = values.assigned_kept (inside s) (inside_too s) (inside s) r pairs std is_open (deep s i) (λ q t n. n) K.barred _ (results.plains_after r pairs std is_open (take n ts) (each_take R n ts g.1)) w (mets v) in
-        (leaves_range_assigned a.1 g.0 (subst (λ k. n ≤ k) (sym (map_length to ts)) z) (subst (λ us. AreAssigned (inside_too s) es (map plain us)) (sym (map_take to n ts)) c) (all_met i v) (block_kept h i u), i)
+        (leaves_range_assigned a.1 g.0 (subst (λ k. n ≤ k) (sym (map_length to ts)) z) (subst (λ us. AreAssigned (inside_too s) es (map plain us)) (sym (map_take to n ts)) c) (met_kept i (inside s) (inside_too s) (deep s i) (λ q t n. n) v) (block_kept h i u), i)
     leaves_kept {s = s} h i (leaves_range_defined {t = t} {ns = ns} {ts = ts} x y z w v u) =
         let a = operand_kept i x in
         let g = listed.ranges_kept (inside s) (inside_too s) r pairs std is_open (deep s i) a.2 y in

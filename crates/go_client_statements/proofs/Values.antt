@@ -81,7 +81,7 @@ other_posts e = cc
 no_posts : {x : Post} {xs : List Post} → [] ≡ x ∷ xs → ⊥
 no_posts e = absurd (cc)
 
-no_more : {x y z : Post} {xs ys : List Post} → x ∷ y ∷ ys ≡ z ∷ [] → ⊥
+no_more : {x y z : Post} {ys : List Post} → x ∷ y ∷ ys ≡ z ∷ [] → ⊥
 no_more e = absurd (cc)
 
 not_selected : {n : Name} {t : Typ} → ◌≡◌ {A = PostLayer} (Post-F.Selector n) (Post-F.TypeAssertion t) → ⊥
@@ -110,7 +110,7 @@ given_mode F {o = o} (is_in_parentheses i x) (has_operand a s) = given_mode F x 
 
 -- ---- lengths
 
-map_length : {A B : Type 0} (f : A → B) (xs : List A) → length (map f xs) ≡ length xs
+pub map_length : {A B : Type 0} (f : A → B) (xs : List A) → length (map f xs) ≡ length xs
 map_length f [] = refl
 map_length f (x ∷ xs) = ap suc (map_length f xs)
 
@@ -137,12 +137,12 @@ module _ (r : Naming) (pairs : List TypePair) (std : TypeName → Bool) (is_open
   assigned_after (is_assigned e) (after_value addressable h) = (is_assigned refl, h)
   assigned_after (is_assigned e) (after_bare h) = absurd h
 
-  pub element_after : {p : Operand} {t : Term} → A (value_of mode.MapElement t) p → (p ≡ value_of mode.MapElement (image r same_sels t)) × IsReached pairs std is_open t
+  pub element_after : {t : Term} {p : Operand} → A (value_of mode.MapElement t) p → (p ≡ value_of mode.MapElement (image r same_sels t)) × IsReached pairs std is_open t
   element_after (after_value same_mode h) = (refl, h)
   element_after (after_bare h) = absurd h
 
   -- a value that isn't addressable on the new side is as it was
-  pub plain_after : {p : Operand} {t : Term} → A (plain t) p → is_variable p.mode ≡ false → (p ≡ plain (image r same_sels t)) × IsReached pairs std is_open t
+  pub plain_after : {t : Term} {p : Operand} → A (plain t) p → is_variable p.mode ≡ false → (p ≡ plain (image r same_sels t)) × IsReached pairs std is_open t
   plain_after (after_value same_mode h) e = (refl, h)
   plain_after (after_value addressable h) e = absurd (cc)
   plain_after (after_bare h) e = absurd h
