@@ -7,6 +7,11 @@ pub mod EntryImages
 pub mod Environments
 pub mod Falling
 pub mod FieldKeys
+pub mod FoundMethods
 pub mod GivenImages
+pub mod Lengths
+pub mod Owners
 pub mod ReachedEntries
+pub mod TypedDeclarations
+pub mod TypingsKept
 pub mod WrittenTypes

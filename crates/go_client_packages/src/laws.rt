@@ -14,7 +14,7 @@ ghost use Rattle.go_typings.specs.Declarations.{Declaration, declarations};
 ghost use Rattle.go_typings.specs.PackageEnvironments.{Entries, Entry, environment};
 ghost use Rattle.go_typings.specs.References.{Falls};
 ghost use Rattle.go_typings.specs.Sources.{PackageSource, Setting};
-ghost use Rattle.go_typings.specs.Typings.{Typing, given};
+ghost use Rattle.go_typings.specs.Typings.{IsTyping, Typing, given};
 ghost use Rattle.go_client_types.specs.Keeping.{Keeps};
 ghost use Rattle.go_client_packages.specs.ClientEntries.{DefinesNone, EntriesReached, EntryReached, entries_image, entry_image};
 ghost use Rattle.go_client_packages.specs.ClientSettings.{KeepsSettings};
@@ -41,4 +41,9 @@ pub fn kept_entries()
     ensures reached { (s t : Setting) (u : PackageSource) (r : Naming) (pairs : List TypePair) (std : TypeName → Bool) (is_open : Sel → Bool) → KeepsSettings s t u r pairs std is_open → (within : ℕ → Bool) (a : Entries) → Typing s u within a → EntriesReached pairs std is_open a }
     ensures had { (s t : Setting) (u : PackageSource) (r : Naming) (pairs : List TypePair) (std : TypeName → Bool) (is_open : Sel → Bool) → KeepsSettings s t u r pairs std is_open → (within : ℕ → Bool) (a : Entries) → Typing s u within a
         → Below (given t u) (declarations u) within (entries_image r a) }
+{}
+
+/// Over such packages a client's package that is typed on the old side is typed on the new one, by the images of its entries.
+pub fn kept_typings()
+    ensures typed { (s t : Setting) (u : PackageSource) (r : Naming) (pairs : List TypePair) (std : TypeName → Bool) (is_open : Sel → Bool) → KeepsSettings s t u r pairs std is_open → (a : Entries) → IsTyping s u a → IsTyping t u (entries_image r a) }
 {}
