@@ -95,7 +95,7 @@ image_structured r (Term-F.Chan d t) = refl
 image_structured r (Term-F.Func g) = refl
 
 not_named : (n : TypeName) (l : Layer) → is_name l ≡ false → Term-F.Named n ≡ l → ⊥
-not_named n l i e = no_truth (sym (ap is_name e) ∙ i)
+not_named n l i e = no_truth (sym (ap is_name e ∙ i))
   where
     no_truth : false ≡ true → ⊥
     no_truth e = absurd (cc)

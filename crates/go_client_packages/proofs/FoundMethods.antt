@@ -66,7 +66,7 @@ record ChainIn (E : Env) (x : Expr) (before : List Post) (p : Post) : Type 0 whe
   post : HasPost E operand (out-Post p) result
 
 -- a chain has an operand in front of a post, or begins with the name of an import
-ChainBefore : Env → Expr → List Post → Post → Type 0
+abbrev ChainBefore : Env → Expr → List Post → Post → Type 0
 ChainBefore E x before p = ChainIn E x before p ⊎ ((before ≡ []) × ((n : Name) × (m : Name) × (o : Operand) × (out-Expr x ≡ Expr-F.Name n) × DenotesImported E n m o))
 
 no_posts : (E : Env) {o q : Operand} → HasPosts E o [] q → o ≡ q

@@ -88,7 +88,7 @@ module _ (s t : Setting) (u : PackageSource) (r : Naming) (pairs : List TypePair
 
   by_settled : (n : ℕ) (d : Declaration) → slice_get (declarations u) n ≡ Some d → (at : Node) → HasItem (nodes d.form) at → (owner : TypeName) (m : Sel) → owner.path ≡ client_path → IsSettled (old d) at → Finds (new d) at owner m → Finds (old d) at owner m
   by_settled n d e at i owner m c (inl w) f = finds_back (old d) (new d) r pairs std is_open (environment_kept s t u r pairs std is_open K a h d) at owner m (met n d e at i) w c f
-  by_settled n d e at i owner m c (inr no) f = absurd (no f.selected.whole f.selected.stands)
+  by_settled n d e at i owner m c (inr none) f = absurd (none f.selected.whole f.selected.stands)
 
   finds_old : (n : ℕ) (d : Declaration) → slice_get (declarations u) n ≡ Some d → IsLed u n → (m : ℕ) → FindsMethod (new d) u d.form m → FindsMethod (old d) u d.form m
   finds_old n d e l m f =
@@ -102,5 +102,5 @@ module _ (s t : Setting) (u : PackageSource) (r : Naming) (pairs : List TypePair
   leads_old {k = k} l (leads_by_method m at rest) = leads_by_method m (at.0, at.1, finds_old k at.0 at.1 l m at.2) (leads_old (method_led u at.2.type at.2.method m at.2.has at.2.number) rest)
 
   pub lengths_kept : NoLengthLeadsBack s u a all → NoLengthLeadsBack t u (entries_image r a) all
-  lengths_kept no m n i at back =
-      no m n i (at.0, at.1, names_old m at.0 at.1 (length_references at.0.form) n at.2) (leads_old (named_led u at.2.reference.name n at.2.names) back)
+  lengths_kept apart m n i at back =
+      apart m n i (at.0, at.1, names_old m at.0 at.1 (length_references at.0.form) n at.2) (leads_old (named_led u at.2.reference.name n at.2.names) back)

@@ -45,5 +45,5 @@ pub fn kept_entries()
 
 /// Over such packages a client's package that is typed on the old side is typed on the new one, by the images of its entries.
 pub fn kept_typings()
-    ensures typed { (s t : Setting) (u : PackageSource) (r : Naming) (pairs : List TypePair) (std : TypeName → Bool) (is_open : Sel → Bool) → KeepsSettings s t u r pairs std is_open → (a : Entries) → IsTyping s u a → IsTyping t u (entries_image r a) }
+    ensures { (s t : Setting) (u : PackageSource) (r : Naming) (pairs : List TypePair) (std : TypeName → Bool) (is_open : Sel → Bool) → KeepsSettings s t u r pairs std is_open → (a : Entries) → IsTyping s u a → IsTyping t u (entries_image r a) }
 {}
