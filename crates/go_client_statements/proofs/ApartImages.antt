@@ -3,7 +3,6 @@ use Rattle.std.proofs.Common.{◌≡◌, ◌⊎◌, inl, inr, ℕ, Bool, true, f
 use Rattle.go_base.specs.Lists.{Each, Has as HasItem, Once}
 use Rattle.go_model.specs.declared.types.names.Sel.{Sel}
 use Rattle.go_model.specs.declared.types.names.TypeName.{TypeName}
-use Rattle.go_model.specs.declared.types.term.Direction.{Direction}
 use Rattle.go_model.specs.declared.types.term.Field.{Field, out-Field, roll-Field, roll-out-Field}
 use Rattle.go_model.specs.declared.types.term.Method.{Method, out-Method, roll-Method, roll-out-Method}
 use Rattle.go_model.specs.declared.types.term.Signature.{Signature, out-Signature, roll-Signature, roll-out-Signature}
@@ -69,9 +68,9 @@ module _ (r : Naming) where
   signatures g h a e =
       let f = sym (out_image_signature r same_sels g) ∙ ap out-Signature e ∙ out_image_signature r same_sels h in
       let ps : (out-Signature g).params ≡ (out-Signature h).params = lists (out-Signature g).params (out-Signature h).params
-          (λ u t k l. a u t (has-left (out-Signature g).params (out-Signature g).results u k) (has-left (out-Signature h).params (out-Signature h).results t l)) (ap (λ x. x.params) f) in
+      (λ u t k l. a u t (has-left (out-Signature g).params (out-Signature g).results u k) (has-left (out-Signature h).params (out-Signature h).results t l)) (ap (λ x. x.params) f) in
       let rs : (out-Signature g).results ≡ (out-Signature h).results = lists (out-Signature g).results (out-Signature h).results
-          (λ u t k l. a u t (has-right (out-Signature g).params (out-Signature g).results u k) (has-right (out-Signature h).params (out-Signature h).results t l)) (ap (λ x. x.results) f) in
+      (λ u t k l. a u t (has-right (out-Signature g).params (out-Signature g).results u k) (has-right (out-Signature h).params (out-Signature h).results t l)) (ap (λ x. x.results) f) in
       let v : (out-Signature g).variadic ≡ (out-Signature h).variadic = ap (λ x. x.variadic) f in
       sym (roll-out-Signature g) ∙ (λ i. signature_from (ps i) (v i) (rs i)) ∙ roll-out-Signature h
 

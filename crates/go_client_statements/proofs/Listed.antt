@@ -1,29 +1,25 @@
 -- What the clauses of switches list, and what ranges give, on both sides.
-use Rattle.std.proofs.Common.{◌≡◌, inl, inr, ℕ, zero, suc, Bool, true, false, List, [], ◌∷◌, ◌++◌, map, refl, sym, ap, ◌∙◌, subst, Option, Some, None}
+use Rattle.std.proofs.Common.{◌≡◌, inl, inr, ℕ, zero, suc, Bool, List, [], ◌∷◌, ◌++◌, map, refl, sym, ap, subst, Option, Some, None}
 use Rattle.std.specs.Prelude.{take}
-use Rattle.go_base.specs.Lists.{Each, Has as HasItem}
-use Rattle.go_base.specs.declared.operator.CompareOp.TheVariants as compare
-use Rattle.go_model.specs.declared.constants.value.Basic.{Basic}
+use Rattle.go_base.specs.Lists.{Each}
 use Rattle.go_model.specs.declared.constants.value.Basic.TheVariants as basic
 use Rattle.go_model.specs.declared.types.names.Sel.{Sel}
 use Rattle.go_model.specs.declared.types.names.TypeName.{TypeName}
-use Rattle.go_model.specs.declared.types.term.Direction.{Direction}
 use Rattle.go_model.specs.declared.types.term.Method.{Method}
 use Rattle.go_model.specs.declared.types.term.Term.{Term, Term-F}
 use Rattle.go_model.specs.types.Underlying.{under}
 use Rattle.go_rules.specs.Asks.{IsType, Meets}
 use Rattle.go_rules.specs.Environments.{Env}
 use Rattle.go_rules.specs.Nodes.{Node, expression}
-use Rattle.go_rules.specs.Operands.{IsTyped, basic_term, plain}
+use Rattle.go_rules.specs.Operands.{basic_term}
 use Rattle.go_rules.specs.declared.operand.Operand.{Operand}
 use Rattle.go_statement_rules.specs.Clauses.{IsCase, IsNil, is_nil, nil_in_parentheses, IsTag, no_tag, tag, Lists, lists_nil, lists_type, ListsAll, lists_more, lists_none, Ranges, ranges_array, ranges_channel, ranges_map, ranges_slice, ranges_string, bound_type}
 use Rattle.go_statement_rules.specs.Statements.{AreListed, IsTruth, truth_typed, truth_untyped, ListsClauses, clauses_default, clauses_none, clauses_types, tag_nodes}
 use Rattle.go_syntax.specs.declared.expression.Expr.{Expr}
 use Rattle.go_syntax.specs.declared.statement.TypeCase.{TypeCase}
 use Rattle.go_syntax.specs.declared.types.«Type».{«Type» as Typ}
-use Rattle.go_type_images.specs.Images.{Naming, image, image_of_layer, same_sels}
+use Rattle.go_type_images.specs.Images.{Naming, image, same_sels}
 use Rattle.go_type_images.specs.Levels.{interface_layer}
-use Rattle.go_type_images.specs.Parts.{parts}
 use Rattle.go_type_images.specs.declared.pair.TypePair.{TypePair}
 use Rattle.go_client_types.specs.Following.{After, after_value, same_mode}
 use Rattle.go_client_types.specs.Keeping.{Keeps}
@@ -153,9 +149,10 @@ module _ (E F : Env) (r : Naming) (pairs : List TypePair) (std : TypeName → Bo
   ranges_kept {q = q} a (ranges_slice {t = t} {e = e} i x) =
       let f = typed_after r pairs std is_open a i in let g = V.form_kept E F r pairs std is_open K t (Term-F.Slice e) f.1 refl x in
       (subst (λ z. Ranges F q (z ∷ to e ∷ [])) (sym int_stays) (ranges_slice f.0 g.0), (int_reached, (g.1 e (inl refl), tt)))
-  ranges_kept {q = q} a (ranges_string x) =
-      (subst (λ z. Ranges F q (z ∷ to (basic_term basic.Int32) ∷ [])) (sym int_stays) (subst (λ z. Ranges F q (basic_term basic.Int ∷ z ∷ [])) (sym (values.basic_stays E F r pairs std is_open K basic.Int32)) (ranges_string (operators.string_kept E F r pairs std is_open K a x))),
-      (int_reached, (values.basic_reached E F r pairs std is_open K basic.Int32, tt)))
+  ranges_kept {q = q} a (ranges_string x) = (
+    subst (λ z. Ranges F q (z ∷ to (basic_term basic.Int32) ∷ [])) (sym int_stays) (subst (λ z. Ranges F q (basic_term basic.Int ∷ z ∷ [])) (sym (values.basic_stays E F r pairs std is_open K basic.Int32)) (ranges_string (operators.string_kept E F r pairs std is_open K a x))),
+    (int_reached, (values.basic_reached E F r pairs std is_open K basic.Int32, tt)),
+  )
   ranges_kept a (ranges_map {t = t} {k = k} {e = e} i x) =
       let f = typed_after r pairs std is_open a i in let g = V.form_kept E F r pairs std is_open K t (Term-F.Map k e) f.1 refl x in
       (ranges_map f.0 g.0, (g.1 k (inl refl), (g.1 e (inr (inl refl)), tt)))

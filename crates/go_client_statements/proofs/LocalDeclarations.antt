@@ -1,12 +1,10 @@
 -- Constants and variables that are declared in functions, on both sides.
-use Rattle.std.proofs.Common.{◌≡◌, ℕ, zero, suc, Bool, true, false, List, [], ◌∷◌, ◌++◌, length, map, replicate, refl, sym, ap, ◌∙◌, subst, Option, Some, None}
+use Rattle.std.proofs.Common.{◌≡◌, ℕ, zero, suc, Bool, true, List, [], ◌∷◌, ◌++◌, length, map, replicate, refl, sym, ap, subst, Option, Some, None}
 use Rattle.go_base.specs.Lists.{Each}
-use Rattle.go_model.specs.constants.Classes.{class_of_basic, is_inexact}
 use Rattle.go_model.specs.declared.constants.value.Value.{Value}
 use Rattle.go_model.specs.declared.types.names.Sel.{Sel}
 use Rattle.go_model.specs.declared.types.names.TypeName.{TypeName}
 use Rattle.go_model.specs.declared.types.package.ConstTerm.{ConstTerm}
-use Rattle.go_model.specs.declared.types.package.ConstTerm.TheVariants as constant
 use Rattle.go_model.specs.declared.types.package.Entity.{Entity}
 use Rattle.go_model.specs.declared.types.package.Entity.TheVariants as entity
 use Rattle.go_model.specs.declared.types.term.Term.{Term, Term-F}
@@ -16,7 +14,6 @@ use Rattle.go_rules.specs.Expressions.{Has, IsTypeName, OfType}
 use Rattle.go_rules.specs.Nodes.{Node, expression, optional, type}
 use Rattle.go_rules.specs.Usability.{UsableAs}
 use Rattle.go_rules.specs.declared.operand.Operand.{Operand}
-use Rattle.go_rules.specs.declared.seen.Seen.{Seen}
 use Rattle.go_statement_rules.specs.Scopes.{local_of}
 use Rattle.go_statement_rules.specs.Statements.{fits, form_env}
 use Rattle.go_syntax.specs.declared.declaration.ConstSpec.{ConstSpec}
@@ -31,7 +28,7 @@ use Rattle.go_typings.specs.DeclarationAsks.{ValuesFit}
 use Rattle.go_typings.specs.DeclarationNodes.{nodes}
 use Rattle.go_typings.specs.DeclarationRules.{AreConstants, constants_more, constants_none, Gives, gives_constants, gives_typed_variables, gives_variables, TypeOfConstant, given_type, own_kind}
 use Rattle.go_typings.specs.Declarations.{Declaration, Form, alias, constants, constants_from, definition, function, method, repeated, variables}
-use Rattle.go_typings.specs.PackageEnvironments.{Entry, objects}
+use Rattle.go_typings.specs.PackageEnvironments.{objects}
 use Rattle.go_client_types.specs.Following.{after_constant}
 use Rattle.go_client_types.specs.Keeping.{EntityReached, Keeps, seen_to}
 use Rattle.go_client_types.specs.Reached.{ConstReached, IsReached}

@@ -1,8 +1,7 @@
 -- The images of scopes: what names mean in them, and what is declared in them.
-use Rattle.std.proofs.Common.{◌≡◌, ℕ, Bool, true, false, cond, List, [], ◌∷◌, map, refl, sym, ap, ◌∙◌, subst, Option, Some, None}
+use Rattle.std.proofs.Common.{◌≡◌, ℕ, Bool, true, false, cond, List, [], ◌∷◌, map, refl, ap, ◌∙◌, subst, Option, Some, None}
 use Rattle.std.specs.BTreeMap.{insert_entry}
 use Rattle.std.specs.Cmp.Lexicographic.{slice_cmp}
-use Rattle.std.specs.Map.{lookup}
 use Rattle.std.specs.Option.{option_or}
 use Rattle.std.specs.Ordering.{match_ordering, nat_cmp}
 use Rattle.std.specs.Str.{bytes_eq}
@@ -16,8 +15,7 @@ use Rattle.go_rules.specs.Names.{Named, value_at, with_value}
 use Rattle.go_rules.specs.Scopes.{innermost}
 use Rattle.go_rules.specs.declared.seen.Seen.{Seen}
 use Rattle.go_rules.specs.declared.seen.Seen.TheVariants as seen
-use Rattle.go_rules.proofs.OneName.{none_some, one_some}
-use Rattle.go_statement_rules.specs.Scopes.{Scopes, Declares, declares_blank, declares_name, declares_none, declares_nothing, locals, opened}
+use Rattle.go_statement_rules.specs.Scopes.{Scopes, Declares, declares_blank, declares_name, declares_none, declares_nothing, locals}
 use Rattle.go_syntax.specs.declared.name.Name.{Name}
 use Rattle.go_type_images.specs.Images.{Naming, image, same_sels}
 use Rattle.go_type_images.specs.declared.pair.TypePair.{TypePair}

@@ -1,5 +1,5 @@
 -- Statements of a client on both sides: what is typed in some scopes is typed on the new side in their images.
-use Rattle.std.proofs.Common.{◌≡◌, inl, inr, ℕ, Bool, true, List, [], ◌∷◌, ◌++◌, length, map, take, refl, sym, ap, ◌∙◌, subst, Option, Some, None}
+use Rattle.std.proofs.Common.{◌≡◌, inl, Bool, true, List, [], ◌∷◌, ◌++◌, length, map, take, refl, sym, ap, ◌∙◌, subst, Option, Some, None}
 use Rattle.std.specs.Prelude.{◌≤◌}
 use Rattle.go_base.specs.Lists.{Each, Has as HasItem}
 use Rattle.go_model.specs.declared.types.names.Sel.{Sel}
@@ -17,7 +17,7 @@ use Rattle.go_rules.proofs.LocalTypes.{each_made}
 use Rattle.go_selectors.proofs.Lists.{has-left, has-right}
 use Rattle.go_statement_rules.specs.Assignments.{AreAssigned}
 use Rattle.go_statement_rules.specs.Functions.{Enclosing, enclosing, enters_function}
-use Rattle.go_statement_rules.specs.Scopes.{Scopes, Declares, local_of, locals, opened, parameter_slots, result_slots, within}
+use Rattle.go_statement_rules.specs.Scopes.{Scopes, Declares, locals, opened, parameter_slots, result_slots, within}
 use Rattle.go_statement_rules.specs.Statements.{AreCases, AreDeclared, AreMet, AreSelectCases, AreTypeCases, AreTyped, Begins, LiteralsAreTyped, IsTypedBlock, IsCondition, IsTypedFunction, KindLayer, Leaves, MayStand, IsOperand, bound, form_env, some_names}
 use Rattle.go_statement_rules.specs.Statements.{begins_alone, begins_with, typed_block, cases_default, cases_none, cases_values, condition, declared_more, declared_none, typed_function, literals_typed, may_be, may_lack, met_more, met_none, no_condition, select_cases_more, select_cases_none, is_operand, type_cases_more, type_cases_none, typed_more, typed_none}
 use Rattle.go_statement_rules.specs.Statements.{leaves_assignment, leaves_break, leaves_call, leaves_constants_declared, leaves_continue, leaves_defer, leaves_definition, leaves_empty, leaves_fallthrough, leaves_for, leaves_go, leaves_goto, leaves_if_then, leaves_inner_block, leaves_labeled, leaves_operation, leaves_range, leaves_range_assigned, leaves_range_defined, leaves_receive_alone, leaves_return, leaves_select, leaves_send, leaves_step, leaves_switch, leaves_type_switch, leaves_variables_declared, leaves_while}

@@ -1,5 +1,5 @@
 -- Values that names are given, that are assigned and that are returned, on both sides.
-use Rattle.std.proofs.Common.{◌≡◌, ◌≢◌, inl, inr, ℕ, suc, Bool, true, false, List, [], ◌∷◌, ◌++◌, length, map, refl, sym, ap, ◌∙◌, subst, Option, Some, None}
+use Rattle.std.proofs.Common.{◌≡◌, ℕ, suc, Bool, true, false, List, [], ◌∷◌, ◌++◌, length, map, refl, sym, ap, ◌∙◌, subst, Option, Some}
 use Rattle.go_base.specs.Lists.{Each, Has as HasItem}
 use Rattle.go_base.specs.declared.operator.AssignOperator.{AssignOperator}
 use Rattle.go_base.specs.declared.operator.AssignOperator.TheVariants as assign
@@ -17,10 +17,10 @@ use Rattle.go_model.specs.declared.types.package.ConstTerm.TheVariants as consta
 use Rattle.go_model.specs.declared.types.term.Term.{Term, Term-F, out-roll-Term}
 use Rattle.go_rules.specs.Asks.{Meets}
 use Rattle.go_rules.specs.Environments.{Env}
-use Rattle.go_rules.specs.Expressions.{Has, IsTypeName, has_operand, HasEach, HasForm, has_constant_prefix, has_imported, has_paren, has_prefix, has_primary, has_receive, HasPost, post_assertion, post_builtin, post_call, post_conversion, HasPosts, posts_more, posts_none, IsCall, calls_at, chain, product_operator, sum_operator}
+use Rattle.go_rules.specs.Expressions.{Has, IsTypeName, has_operand, HasEach, HasForm, has_constant_prefix, has_imported, has_paren, has_prefix, has_primary, has_receive, HasPost, post_assertion, post_builtin, post_call, post_conversion, HasPosts, posts_more, posts_none, calls_at, product_operator}
 use Rattle.go_rules.specs.Names.{Named, value_at}
 use Rattle.go_rules.specs.Nodes.{ExprLayer, Node, PostLayer, expression, expression_parts}
-use Rattle.go_rules.specs.Operands.{basic_term, computed, constant_of, default_type, is_variable, loose, plain, tuple, value_of, variable}
+use Rattle.go_rules.specs.Operands.{basic_term, computed, constant_of, default_type, is_variable, loose, plain, value_of}
 use Rattle.go_rules.specs.Usability.{DefaultHolds, UsableAs}
 use Rattle.go_rules.specs.declared.operand.Mode.{Mode}
 use Rattle.go_rules.specs.declared.operand.Mode.TheVariants as mode
@@ -29,19 +29,18 @@ use Rattle.go_rules.specs.declared.operand.Shape.{Shape}
 use Rattle.go_rules.specs.declared.operand.Shape.TheVariants as shape
 use Rattle.go_rules.specs.declared.seen.Seen.{Seen}
 use Rattle.go_rules.specs.declared.seen.Seen.TheVariants as seen
-use Rattle.go_statement_rules.specs.Assignments.{AreAssigned, assigned_blank, assigned_none, assigned_side, AreDefined, defined_blank, defined_new, defined_none, defined_old, AreResults, results_more, results_none, IsAssigned, is_assigned, IsCallAlone, call_alone, call_in_parentheses, Operates, Returns, returns_call, returns_each, returns_nothing, is_assignable, may_be_called_alone, shape_stands_alone}
-use Rattle.go_syntax.specs.declared.expression.Expr.{Expr, Expr-F, out-Expr}
+use Rattle.go_statement_rules.specs.Assignments.{AreAssigned, assigned_blank, assigned_none, assigned_side, AreDefined, defined_blank, defined_new, defined_none, defined_old, AreResults, results_more, results_none, IsAssigned, is_assigned, IsCallAlone, call_alone, call_in_parentheses, Operates, Returns, returns_call, returns_each, returns_nothing, may_be_called_alone, shape_stands_alone}
+use Rattle.go_syntax.specs.declared.expression.Expr.{Expr, Expr-F}
 use Rattle.go_syntax.specs.declared.expression.Post.{Post, Post-F, out-Post}
 use Rattle.go_syntax.specs.declared.name.Name.{Name}
 use Rattle.go_syntax.specs.declared.name.QualifiedName.{QualifiedName}
 use Rattle.go_syntax.specs.declared.types.«Type».{«Type» as Typ}
-use Rattle.go_type_images.specs.EntryImages.{const_to}
 use Rattle.go_type_images.specs.Images.{Naming, image, same_sels}
 use Rattle.go_type_images.specs.Parts.{parts}
 use Rattle.go_type_images.specs.declared.pair.TypePair.{TypePair}
 use Rattle.go_type_images.proofs.ImageLevels.{image_roll}
 use Rattle.go_typings.specs.Initializers.{GivesValueAndTruth, two_of_map, two_of_value, Initialize, by_call, by_each, by_two, IsAssertionOrReceive, is_assertion, is_in_parentheses, is_receive, TypeOfValue, default_of_constant, default_of_truth, own_type, TypesOfValues, types_more, types_none}
-use Rattle.go_client_types.specs.Following.{After, Becomes, addressable, after_bare, after_constant, after_tuple, after_value, same_mode}
+use Rattle.go_client_types.specs.Following.{After, addressable, after_bare, after_constant, after_tuple, after_value, same_mode}
 use Rattle.go_client_types.specs.Keeping.{Keeps, seen_to}
 use Rattle.go_client_types.specs.Reached.{IsMade, IsReached, reach_made}
 use Rattle.go_client_types.proofs.Assigning.{usable_kept}

@@ -1,16 +1,15 @@
 -- In the scopes of a function, and in their images on the new side, an environment keeps what it keeps around the function.
-use Rattle.std.proofs.Common.{◌≡◌, ℕ, Bool, true, List, [], refl, sym, ap, ◌∙◌, subst, Option, Some, None}
+use Rattle.std.proofs.Common.{◌≡◌, ℕ, Bool, List, refl, ap, ◌∙◌, subst, Option, Some, None}
 use Rattle.std.specs.Option.{option_or}
 use Rattle.go_model.specs.declared.types.names.Sel.{Sel}
 use Rattle.go_model.specs.declared.types.names.TypeName.{TypeName}
 use Rattle.go_model.specs.declared.types.package.Entity.{Entity}
 use Rattle.go_model.specs.declared.types.term.Term.{Term}
 use Rattle.go_rules.specs.Environments.{Env}
-use Rattle.go_rules.specs.Expressions.{Denotes, DenotesImported, IsTypeName, NamesType, seen_operand}
+use Rattle.go_rules.specs.Expressions.{IsTypeName, NamesType, seen_operand}
 use Rattle.go_rules.specs.Operands.{type_name}
 use Rattle.go_rules.specs.Scopes.{innermost}
 use Rattle.go_rules.specs.Universe.{iota_operand, predeclared_operand}
-use Rattle.go_rules.specs.declared.operand.Mode.{Mode}
 use Rattle.go_rules.specs.declared.operand.Mode.TheVariants as mode
 use Rattle.go_rules.specs.declared.operand.Operand.{Operand}
 use Rattle.go_rules.specs.declared.predeclared.Predeclared.{Predeclared}
