@@ -1,5 +1,5 @@
 -- A declaration of a client that defines no type is given on the new side the image of what it is given on the old one.
-use Rattle.std.proofs.Common.{◌≡◌, Bool, List, [], ◌∷◌, refl, sym, ap, subst, Option}
+use Rattle.std.proofs.Common.{◌≡◌, Bool, true, List, [], ◌∷◌, refl, sym, ap, subst, Option}
 use Rattle.go_base.specs.Lists.{Each}
 use Rattle.go_model.specs.declared.types.names.Sel.{Sel}
 use Rattle.go_model.specs.declared.types.names.TypeName.{TypeName}
@@ -19,7 +19,7 @@ use Rattle.go_type_images.specs.Images.{Naming, image, image_of_signature, same_
 use Rattle.go_type_images.specs.declared.pair.TypePair.{TypePair}
 use Rattle.go_type_images.proofs.ImageLevels.{image_roll}
 use Rattle.go_typings.specs.DeclarationNodes.{nodes}
-use Rattle.go_typings.specs.DeclarationRules.{Gives, gives_alias, gives_constants, gives_function, gives_method, gives_typed_variables, gives_variables}
+use Rattle.go_typings.specs.DeclarationRules.{Gives, gives_alias, gives_constants, gives_definition, gives_function, gives_method, gives_typed_variables, gives_variables}
 use Rattle.go_typings.specs.Declarations.{Declaration, Form, alias, constants, definition, function, method, variables}
 use Rattle.go_typings.specs.PackageEnvironments.{Entry, objects, signed}
 use Rattle.go_client_types.specs.Keeping.{Keeps}

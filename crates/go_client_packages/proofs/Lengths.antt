@@ -61,7 +61,7 @@ method_led u type m n h q d e =
     let same : x.declaration ≡ d = some_once x.declaration d (sym x.is ∙ (ap (slice_get (declarations u)) q ∙ e)) in
     subst NamesSome (sym x.form ∙ ap (λ (z : Declaration). z.form) same) tt
 
-below_length : {A : Type 0} (xs : List A) (n : ℕ) (x : A) → slice_get xs n ≡ Some x → n < length xs
+pub below_length : {A : Type 0} (xs : List A) (n : ℕ) (x : A) → slice_get xs n ≡ Some x → n < length xs
 below_length [] zero x e = none_some (slice_get [] 0) x refl e
 below_length [] (suc n) x e = none_some (slice_get [] (suc n)) x refl e
 below_length (y ∷ ys) zero x e = omega (arith)

@@ -1,5 +1,6 @@
 pub mod AliasEnds
 pub mod AskedDeclarations
+pub mod ClientsKept
 pub mod Counts
 pub mod DefinedImages
 pub mod EntriesKept

@@ -4,6 +4,7 @@ ghost use Rattle.go_base.specs.Lists.{Each};
 ghost use Rattle.go_model.specs.declared.types.names.Sel.{Sel};
 ghost use Rattle.go_model.specs.declared.types.names.TypeName.{TypeName};
 ghost use Rattle.go_rules.specs.Asks.{Meets};
+ghost use Rattle.go_syntax.specs.declared.statement.LiteralBlock.{LiteralBlock};
 ghost use Rattle.go_type_images.specs.Images.{Naming};
 ghost use Rattle.go_type_images.specs.declared.pair.TypePair.{TypePair};
 ghost use Rattle.go_typings.specs.Assignments.{Below, Within};
@@ -18,6 +19,7 @@ ghost use Rattle.go_typings.specs.Typings.{IsTyping, Typing, given};
 ghost use Rattle.go_client_types.specs.Keeping.{Keeps};
 ghost use Rattle.go_client_packages.specs.ClientEntries.{DefinesNone, EntriesReached, EntryReached, entries_image, entry_image};
 ghost use Rattle.go_client_packages.specs.ClientSettings.{KeepsSettings};
+ghost use Rattle.go_client_packages.specs.ClientUnits.{IsTypedClient};
 
 /// Over packages that keep what a client is given, the environment of each of its declarations keeps the old one, where the entries have
 /// their images. A declaration that defines no type is given the image of its entry there, and is asked what it was; and ranks fall along
@@ -46,4 +48,9 @@ pub fn kept_entries()
 /// Over such packages a client's package that is typed on the old side is typed on the new one, by the images of its entries.
 pub fn kept_typings()
     ensures { (s t : Setting) (u : PackageSource) (r : Naming) (pairs : List TypePair) (std : TypeName → Bool) (is_open : Sel → Bool) → KeepsSettings s t u r pairs std is_open → (a : Entries) → IsTyping s u a → IsTyping t u (entries_image r a) }
+{}
+
+/// Over such packages a client's package that is typed with its bodies on the old side is so on the new one.
+pub fn kept_clients()
+    ensures { (s t : Setting) (u : PackageSource) (r : Naming) (pairs : List TypePair) (std : TypeName → Bool) (is_open : Sel → Bool) → KeepsSettings s t u r pairs std is_open → (blocks : ℕ → List LiteralBlock) → IsTypedClient s u blocks → IsTypedClient t u blocks }
 {}
