@@ -1,5 +1,5 @@
 -- In the world of packages that are typed one after another the standard library leads to itself alone, and has its methods only with its types.
-use Rattle.std.proofs.Common.{◌≡◌, ◌⊎◌, inl, inr, ℕ, Bool, true, false, ◌||◌, List, [], ◌∷◌, ◌++◌, Option, Some, None, map, refl, sym, ap, ◌∙◌, subst}
+use Rattle.std.proofs.Common.{◌≡◌, ◌⊎◌, inl, inr, ℕ, Bool, true, false, ◌||◌, List, [], ◌∷◌, ◌++◌, Option, Some, None, map, refl, sym, ap, ◌∙◌, subst, if◌then◌else◌}
 use Rattle.std.specs.Str.{bytes_eq}
 use Rattle.std.proofs.lemmas.Slice.Eq.{bytes_eq-Decides}
 use Rattle.go_base.specs.Gathered.{gather}
@@ -44,7 +44,7 @@ use Rattle.go_exposed.specs.OfferedPackages.{IsOfferedAs}
 use Rattle.go_exposed.specs.OfferedWorlds.{Become, IsWorldOf, become_more, become_none}
 use Rattle.go_std_worlds.proofs.MoreLists.{found_after, found_still, key_finds}
 use Rattle.go_std_worlds.specs.StdSources.{HavePaths, KeepStdApart}
-use Rattle.go_unit_worlds.proofs.JoinedInTurn.{AreNew, Keeps, all_new, keeps_next, keeps_none, new_rest, or_left, or_right}
+use Rattle.go_unit_worlds.proofs.WorldsInTurn.{AreNew, Keeps, all_new, keeps_next, keeps_none, new_rest, or_left, or_right}
 use Rattle.api_correspond.specs.Publics.{Exports, of_std, package_at, types_of}
 use Rattle.api_correspond.specs.Rules.{is_std_sel}
 use Rattle.api_kept_relations.specs.StdTypes.{EntityHasStdMethods, HasStdMethods, IsOfStd, StdMethodsStay, StdStandsAlone, is_open_sel, is_std_name, std_methods}

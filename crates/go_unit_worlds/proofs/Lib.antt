@@ -1,3 +1,3 @@
-pub mod JoinedInTurn
+mod JoinedInTurn
 mod SharedWorlds
-mod WorldsInTurn
+pub mod WorldsInTurn

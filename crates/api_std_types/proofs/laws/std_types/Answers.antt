@@ -1,4 +1,4 @@
-use Rattle.go_unit_worlds.proofs.JoinedInTurn.{all_new, keeps_all, keeps_none}
+use Rattle.go_unit_worlds.proofs.WorldsInTurn.{all_new, keeps_all, keeps_none}
 use Rattle.api_std_types.proofs.StdWorlds.{methods_stay, stands_alone}
 use Rattle.api_std_types.proofs.laws.std_types.Goals as goal
 
