@@ -24,7 +24,7 @@ use Rattle.go_typed_packages.proofs.OwnDeclarations.{asked_at}
 use Rattle.go_typings.proofs.SoundDeclarations.{within}
 use Rattle.go_typings.specs.Assignments.{all_of}
 use Rattle.go_typings.specs.DeclarationNodes.{nodes}
-use Rattle.go_typings.specs.Declarations.{Declaration, Form, alias, constants, constants_from, declarations, declarations_from, definition, forms, func_form, function, in_file, method, repeated, type_form, variables}
+use Rattle.go_typings.specs.Declarations.{Declaration, Form, alias, constants, constants_from, declarations, declarations_from, definition, forms, func_form, function, in_file, method, no_spec, repeated, type_form, variables}
 use Rattle.go_typings.specs.PackageEnvironments.{environment}
 use Rattle.go_typings.specs.Sources.{PackageSource, Setting, SourceFile}
 use Rattle.go_client_types.specs.Keeping.{Keeps}
@@ -59,7 +59,7 @@ in_function None f e = e
 in_function (Some r) f e = e
 
 in_forms : (d : Decl) (f : Form) → HasItem (forms d) f → Receives f
-in_forms (decl.ConstGroup specs) f h = in_constants _ 0 specs f h
+in_forms (decl.ConstGroup specs) f h = in_constants no_spec 0 specs f h
 in_forms (decl.VarGroup specs) f h = let g = in_map variables specs f h in subst Receives g.2 tt
 in_forms (decl.TypeGroup specs) f h = let g = in_map type_form specs f h in subst Receives g.2 (in_type g.0 g.0.alias)
 in_forms (decl.FuncDecl x) f (inl e) = subst Receives e (in_function x.receiver x refl)
