@@ -1,1 +1,2 @@
 mod ClientSettings
+mod UnitWorlds

@@ -1,1 +1,2 @@
 pub mod ServedClients
+pub mod ServedUnits
