@@ -1,0 +1,3 @@
+pub mod ClientEntries
+pub mod ClientSettings
+pub mod ClientUnits
