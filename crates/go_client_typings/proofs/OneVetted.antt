@@ -2,18 +2,17 @@
 use Rattle.std.proofs.Common.{◌≡◌, ◌<◌, ◌≤◌, ◌⊎◌, ℕ, true, false, List, [], Option, None, Some, refl, sym, ap, ◌∙◌, subst, inl, inr, arith}
 use Rattle.std.proofs.Math.Nat.{le_antisymm}
 use Rattle.go_base.proofs.Members.{each_has}
-use Rattle.go_client_typings.specs.Bodies.{AreTypedBodies, has_literal, has_own, HasUntyped, IsTypedFunc, func_in, untyped_body, untyped_literal, untyped_statement}
-use Rattle.go_client_typings.specs.Clients.{Blocks, BodiesAreTyped, ComesFirst, IsFirstUntyped, IsTypedClient, IsUntypedClient, IsVetted, blocks_in, refused_at, setting, untyped_declaration}
-use Rattle.go_client_typings.specs.Clients as client
+use Rattle.go_client_typings.specs.Bodies.{AreTypedBodies, has_literal, has_own, HasUntyped, IsTypedFunc, func_in, untyped_itself, untyped_statement}
+use Rattle.go_client_typings.specs.Clients.{Blocks, BodiesAreTyped, ComesFirst, IsFirstUntyped, IsTypedClient, IsUntypedClient, IsVetted, blocks_in, refused_at, setting, untyped_body, untyped_declaration}
 use Rattle.go_client_typings.specs.declared.vetted.Vetted.{Vetted}
 use Rattle.go_client_typings.specs.declared.vetted.Vetted.TheVariants as vetted
 use Rattle.go_client_typings.proofs.Unflagged.{client_without}
 use Rattle.go_model.specs.worlds.Worlds.{Packages}
 use Rattle.go_rules.specs.Environments.{Env}
 use Rattle.go_rules.specs.Nodes.{Node, Stands, expression}
-use Rattle.go_statement_rules.specs.Bodies.{AreTypedOutside, IsTypedBody, no_body, typed_body}
-use Rattle.go_statement_rules.specs.Functions.{EntersBody, EntersFunction, Run, outside}
-use Rattle.go_statement_rules.specs.Statements.{IsTypedFunction, literals_typed, typed_function}
+use Rattle.go_statement_rules.specs.Bodies.{AreTypedOutside, IsTypedBody}
+use Rattle.go_statement_rules.specs.Functions.{outside}
+use Rattle.go_statement_rules.specs.Statements.{IsTypedFunction, literals_typed}
 use Rattle.go_statement_rules.proofs.OnePlace.{typed_no_place}
 use Rattle.go_statement_rules.proofs.OneRun.{body_run, literal_run}
 use Rattle.go_syntax.specs.declared.body.BodyRange.{BodyRange}
@@ -30,7 +29,6 @@ use Rattle.go_typings.specs.Redeclarations.{IsRedeclared}
 use Rattle.go_typings.specs.Refusals.{IsMissing, IsRefused, Refusal, redeclared, missing_import, unsound}
 use Rattle.go_typings.specs.Sources.{PackageSource, Setting}
 use Rattle.go_typings.specs.Typings.{IsTyping}
-use Rattle.go_typings.proofs.Cells.{none_some}
 use Rattle.go_typings.proofs.OneRefusal.{one_refusal}
 use Rattle.go_typings.proofs.OneTyping.{one_typing}
 use Rattle.go_typings.proofs.SoundDeclarations.{typed_sound}
@@ -44,20 +42,12 @@ module _ (E : Env) (blocks : List LiteralBlock) where
   own_literal : (at : Node) (x : Expr) (g : Sig) (b : BodyRange) → AreTypedOutside E blocks at → Stands at (expression x) → out-Expr x ≡ Expr-F.FuncLit g b → IsTypedFunction E blocks outside [] g b
   own_literal at x g b (literals_typed h) j e = h x g b j e
 
-  entered : (g : Func) (b : BodyRange) → g.body ≡ Some b → IsTypedBody E blocks g → ((w : Run) → EntersBody E blocks g w → ⊥) → ⊥
-  entered g b i (no_body n) h = none_some g.body b n i
-  entered g b i (typed_body {w = w} x y) h = h w x
-
-  literal_entered : (g : Sig) (b : BodyRange) → IsTypedFunction E blocks outside [] g b → ((w : Run) → EntersFunction E blocks outside [] g b w → ⊥) → ⊥
-  literal_entered g b (typed_function {w = w} x y) h = h w x
-
   -- a declaration whose bodies are typed has none that isn't
   pub body_apart : (f : Form) (p : ℕ) → AreTypedBodies E blocks f → HasUntyped E blocks f p → ⊥
   body_apart f p k (untyped_statement (has_own {g = g} {w = w} e h) q) = typed_no_place E blocks w p (body_run E blocks g w h (own_body f g e k)) q
   body_apart f p k (untyped_statement (has_literal {at = at} {x = x} {g = g} {b = b} {w = w} i j e h) q) =
       typed_no_place E blocks w p (literal_run E blocks outside [] g b w h (own_literal at x g b (each_has (AreTypedOutside E blocks) (nodes f) at k.literals i) j e)) q
-  body_apart f p k (untyped_body {g = g} {b = b} e i h) = entered g b i (own_body f g e k) h
-  body_apart f p k (untyped_literal {at = at} {x = x} {g = g} {b = b} i j e h) = literal_entered g b (own_literal at x g b (each_has (AreTypedOutside E blocks) (nodes f) at k.literals i) j e) h
+  body_apart f p k (untyped_itself h n) = h k
 
 -- ---- places
 
@@ -83,16 +73,16 @@ module _ (s : Setting) (u : PackageSource) (blocks : Blocks) where
 
   pub client_apart : IsTypedClient s u blocks → (p : Place) → IsUntypedClient s u blocks p → ⊥
   client_apart c p (untyped_declaration r k e) = not_refused c.entries c.once c.found c.typing r k
-  client_apart c p (client.untyped_body {a = a} o f t h) =
+  client_apart c p (untyped_body {a = a} o f t h) =
       let b = subst (BodiesAreTyped s u blocks) (same_entries c.entries a c.typing t) c.bodies in
       let d = h.is.declaration in
       body_apart (environment s u a d) (blocks_in blocks d.file) d.form p.offset (b d h.is.has) h.is.untyped
 
   pub one_untyped : (p q : Place) → IsUntypedClient s u blocks p → IsUntypedClient s u blocks q → p ≡ q
   one_untyped p q (untyped_declaration r k e) (untyped_declaration v l g) = sym e ∙ ap refused_at (one_refusal s u r v k l) ∙ g
-  one_untyped p q (untyped_declaration r k e) (client.untyped_body {a = a} o f t h) = absurd (not_refused a o f t r k)
-  one_untyped p q (client.untyped_body {a = a} o f t h) (untyped_declaration r k e) = absurd (not_refused a o f t r k)
-  one_untyped p q (client.untyped_body {a = a} o f t h) (client.untyped_body {a = b} n g r k) =
+  one_untyped p q (untyped_declaration r k e) (untyped_body {a = a} o f t h) = absurd (not_refused a o f t r k)
+  one_untyped p q (untyped_body {a = a} o f t h) (untyped_declaration r k e) = absurd (not_refused a o f t r k)
+  one_untyped p q (untyped_body {a = a} o f t h) (untyped_body {a = b} n g r k) =
       let x = subst (λ (z : Entries). IsFirstUntyped s u blocks z p) (same_entries a b t r) h in
       first_once p q (x.first q k.is) (k.first p x.is)
 

@@ -1,7 +1,7 @@
 -- In two environments of which each has what the other has the same bodies are typed, and the others aren't at the same places.
 use Rattle.std.proofs.Common.{◌≡◌, ℕ, List, [], ◌∷◌, Option, None, Some}
 use Rattle.go_base.specs.Lists.{Each}
-use Rattle.go_client_typings.specs.Bodies.{AreTypedBodies, HasBody, has_literal, has_own, HasUntyped, IsTypedFunc, func_in, untyped_body, untyped_literal, untyped_statement}
+use Rattle.go_client_typings.specs.Bodies.{AreTypedBodies, HasBody, has_literal, has_own, HasUntyped, IsTypedFunc, func_in, untyped_itself, untyped_statement}
 use Rattle.go_client_typings.proofs.GrowContexts.{context_f, enters_body_f, enters_f, inside_f, leaves_f}
 use Rattle.go_rules.specs.Environments.{Env}
 use Rattle.go_rules.specs.Growth.{Grows}
@@ -44,5 +44,4 @@ body_in_f E F blocks m (has_literal i j e h) = has_literal i j e (enters_f E F b
 
 pub untyped_f : (E F : Env) (blocks : List LiteralBlock) (f : Form) (p : ℕ) → Grows E F → Grows F E → HasUntyped E blocks f p → HasUntyped F blocks f p
 untyped_f E F blocks f p m n (untyped_statement {w = w} h k) = untyped_statement (body_in_f E F blocks m h) (place_f E F blocks m n w p k)
-untyped_f E F blocks f p m n (untyped_body e i h) = untyped_body e i (λ w k. h w (enters_body_f F E blocks n k))
-untyped_f E F blocks f p m n (untyped_literal i j e h) = untyped_literal i j e (λ w k. h w (enters_f F E blocks n k))
+untyped_f E F blocks f p m n (untyped_itself h k) = untyped_itself (λ t. h (bodies_f F E blocks n f t)) (λ w q b u. k w q (body_in_f F E blocks n b) (place_f F E blocks n m w q u))

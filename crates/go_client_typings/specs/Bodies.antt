@@ -14,6 +14,7 @@ use Rattle.go_syntax.specs.declared.statement.LiteralBlock.{LiteralBlock}
 use Rattle.go_syntax.specs.declared.types.Signature.{Signature as Sig}
 use Rattle.go_typings.specs.DeclarationNodes.{nodes}
 use Rattle.go_typings.specs.Declarations.{Form, constants, variables, alias, definition, function, method}
+use Rattle.go_typings.specs.Refusals.{offset_of}
 
 -- the function or method that is declared
 abbrev pub func_in : Form → Option Func
@@ -37,8 +38,7 @@ module _ (E : Env) (blocks : List LiteralBlock) where
     has_own : {g : Func} {w : Run} → func_in f ≡ Some g → EntersBody E blocks g w → HasBody f w
     has_literal : {at : Node} {x : Expr} {g : Sig} {b : BodyRange} {w : Run} → Has (nodes f) at → Stands at (expression x) → out-Expr x ≡ Expr-F.FuncLit g b → EntersFunction E blocks outside [] g b w → HasBody f w
 
-  -- the place of a body that isn't typed: that of its statements, else its `{`, where it has none here
+  -- the place of a body that isn't typed: that of its statements; or the declaration's own, where its bodies aren't typed and no statements of theirs have one, as where the block of a body isn't there
   pub data HasUntyped (f : Form) : ℕ → Type 0 where
     untyped_statement : {place : ℕ} {w : Run} → HasBody f w → IsUntypedPlace E blocks w place → HasUntyped f place
-    untyped_body : {g : Func} {b : BodyRange} → func_in f ≡ Some g → g.body ≡ Some b → ((w : Run) → EntersBody E blocks g w → ⊥) → HasUntyped f b.start
-    untyped_literal : {at : Node} {x : Expr} {g : Sig} {b : BodyRange} → Has (nodes f) at → Stands at (expression x) → out-Expr x ≡ Expr-F.FuncLit g b → ((w : Run) → EntersFunction E blocks outside [] g b w → ⊥) → HasUntyped f b.start
+    untyped_itself : (AreTypedBodies f → ⊥) → ((w : Run) (place : ℕ) → HasBody f w → IsUntypedPlace E blocks w place → ⊥) → HasUntyped f (offset_of f)

@@ -2,7 +2,7 @@
 #![tactic(auto)]
 
 mod folder;
-mod package_checks;
+pub mod package_checks;
 pub mod package_uses;
 mod reached;
 pub mod unit_files;

@@ -17,7 +17,8 @@ use go_units::reader::FileFault;
 use go_units::unit_error::{FileAt, UnitError};
 use std::alloc::Global;
 
-fn mixed_names(alloc: Global, folder: &Folder) -> UnitError
+/// The refusal of a folder whose files have several package names.
+pub fn mixed_names(alloc: Global, folder: &Folder) -> UnitError
     ensures { IsMixed folder.now result }
 {
     match Text::of(alloc, folder.path.bytes()) {
@@ -27,7 +28,7 @@ fn mixed_names(alloc: Global, folder: &Folder) -> UnitError
 }
 
 /// The refusal of a file.
-pub(crate) fn refused(alloc: Global, folder: &Folder, file: Text, fault: FileFault) -> UnitError
+pub fn refused(alloc: Global, folder: &Folder, file: Text, fault: FileFault) -> UnitError
     ensures { IsRefused folder.now file fault result }
 {
     match Text::of(alloc, folder.path.bytes()) {
@@ -54,7 +55,8 @@ fn internal(alloc: Global, folder: &Folder, file: &[u8], place: u32) -> UnitErro
     }
 }
 
-fn check_free(alloc: Global, folder: &Folder, files: &[PackageFile]) -> Result<(), UnitError>
+/// Whether no file of the package in a folder uses an import that this may not import; else the refusal at the first one.
+pub fn check_free(alloc: Global, folder: &Folder, files: &[PackageFile]) -> Result<(), UnitError>
     ensures ok { OnOk result (AreFree folder.now.path folder.now.from_std files.now) }
     ensures cause { IfErr result (InternalCause folder.now files.now) }
 {

@@ -180,7 +180,8 @@ pub fn needed(alloc: Global, files: &[UnitFile]) -> Result<List<Text>, NoMemory>
     listed(alloc, set)
 }
 
-fn name_of(alloc: Global, files: &[PackageFile]) -> Result<Text, NoMemory>
+/// The name of the package that has these files.
+pub fn name_of(alloc: Global, files: &[PackageFile]) -> Result<Text, NoMemory>
     requires some { 0 < length files.now }
     requires alike { AreAlike files.now }
     ensures { IfOk result (PackageFilesAreNamed files.now) }

@@ -64,7 +64,7 @@ fn of_error(platform: Platform, file: &TreeFile, error: TagError) -> Result<Head
 }
 
 /// What the header of a file says of it. It is read only where the platform allows the file's name.
-fn head_of(alloc: Global, platform: Platform, file: &TreeFile) -> Result<Head, NoMemory>
+pub fn head_of(alloc: Global, platform: Platform, file: &TreeFile) -> Result<Head, NoMemory>
     ensures { IfOk result (IsHead platform file.now) }
 {
     if !chosen(platform, file.name.bytes(), None) {

@@ -1,0 +1,98 @@
+-- What is found in the bodies of a declaration.
+use Rattle.std.proofs.Common.{inl, inr, ◌≡◌, ◌⊎◌, ◌≤◌, ℕ, Bool, true, false, List, [], ◌∷◌, Option, None, Some, refl, sym, subst, arith}
+use Rattle.go_base.specs.Lists.{Each, Has}
+use Rattle.go_base.proofs.Members.{each_has}
+use Rattle.go_client_typings.specs.Bodies.{AreTypedBodies, HasBody, has_literal, has_own, HasUntyped, IsTypedFunc, func_in, untyped_itself, untyped_statement}
+use Rattle.go_clients.specs.inner.Told.{HasOwnRun, TellsDeclaration, told_by, told_in}
+use Rattle.go_judged.specs.Judging.{Judges, both, found, tested}
+use Rattle.go_judged.specs.declared.judged.Judged.{Judged}
+use Rattle.go_judged.proofs.Joining.{Either, judged_as, judged_both}
+use Rattle.go_reading.proofs.ListFacts.{each_of}
+use Rattle.go_rules.specs.Environments.{Env}
+use Rattle.go_rules.specs.Nodes.{Node}
+use Rattle.go_selectors.specs.Answers.{Decides}
+use Rattle.go_statement_rules.specs.Bodies.{AreTypedOutside, IsTypedBody, no_body, typed_body}
+use Rattle.go_statement_rules.specs.Functions.{EntersBody, Run, outside}
+use Rattle.go_statement_rules.specs.Places.{IsUntypedPlace}
+use Rattle.go_statement_rules.proofs.OnePlace.{one_place, typed_no_place}
+use Rattle.go_statement_rules.proofs.OneRun.{body_run, enters_body_once}
+use Rattle.go_syntax.specs.declared.declaration.Func.{Func}
+use Rattle.go_syntax.specs.declared.statement.LiteralBlock.{LiteralBlock}
+use Rattle.go_typings.specs.DeclarationNodes.{nodes}
+use Rattle.go_typings.specs.Declarations.{Declaration, Form}
+use Rattle.go_typings.specs.Refusals.{offset_of}
+use Rattle.go_untyped_places.specs.LiteralRuns.{IsLiteralRun}
+use Rattle.go_untyped_places.specs.Surveys.{Surveyed}
+use Rattle.go_walks.specs.Literals.{LiteralsTyped}
+
+module _ (E : Env) (blocks : List LiteralBlock) where
+  -- ---- the body of a function
+
+  pub body_typed : (f : Func) → IsTypedBody E blocks f → Judges E blocks (IsTypedBody E blocks f) (EntersBody E blocks f) (tested true)
+  body_typed f t = (t, λ v h. body_run E blocks f v h t)
+
+  pub body_untyped : (f : Func) (p : ℕ) (w : Run) → EntersBody E blocks f w → IsUntypedPlace E blocks w p → Judges E blocks (IsTypedBody E blocks f) (EntersBody E blocks f) (found (Some p))
+  body_untyped f p w h u = (
+    λ t. typed_no_place E blocks w p (body_run E blocks f w h t) u,
+    (w, h, u, λ v q k b. let same = one_place E blocks w p q u (subst (λ (z : Run). IsUntypedPlace E blocks z q) (enters_body_once E blocks k h) b) in omega (arith, same)),
+  )
+
+  pub body_unentered : (f : Func) → (f.body ≡ None → ⊥) → ((w : Run) → EntersBody E blocks f w → ⊥) → Judges E blocks (IsTypedBody E blocks f) (EntersBody E blocks f) (tested false)
+  body_unentered f some none = (refuse, λ v h. absurd (none v h))
+    where
+      refuse : IsTypedBody E blocks f → ⊥
+      refuse (no_body e) = some e
+      refuse (typed_body {w = w} x y) = none w x
+
+  pub no_function : Judges E blocks (IsTypedFunc E blocks None) (HasOwnRun E blocks None) (tested true)
+  no_function = (tt, λ v h. absurd h)
+
+  -- ---- with the function literals
+
+  module _ (f : Form) where
+    own_run : (o : Option Func) → func_in f ≡ o → (v : Run) → HasOwnRun E blocks o v → HasBody E blocks f v
+    own_run None e v h = absurd h
+    own_run (Some g) e v h = has_own e h
+
+    to_body : (v : Run) → HasOwnRun E blocks (func_in f) v ⊎ IsLiteralRun E blocks outside [] (nodes f) v → HasBody E blocks f v
+    to_body v (inl h) = own_run (func_in f) refl v h
+    to_body v (inr l) = has_literal l.among l.stands l.is l.enters
+
+    of_body : (v : Run) → HasBody E blocks f v → HasOwnRun E blocks (func_in f) v ⊎ IsLiteralRun E blocks outside [] (nodes f) v
+    of_body v (has_own e h) = inl (subst (λ o. HasOwnRun E blocks o v) (sym e) h)
+    of_body v (has_literal {at = at} {x = x} {g = g} {b = b} i j e h) = inr (record { at = at; among = i; literal = x; signature = g; body = b; stands = j; is = e; enters = h })
+
+    to_typed : IsTypedFunc E blocks (func_in f) × LiteralsTyped E blocks outside [] (nodes f) → AreTypedBodies E blocks f
+    to_typed t = record { body = t.0; literals = each_of (AreTypedOutside E blocks) (nodes f) t.1 }
+
+    of_typed : AreTypedBodies E blocks f → IsTypedFunc E blocks (func_in f) × LiteralsTyped E blocks outside [] (nodes f)
+    of_typed t = (t.body, λ n i. each_has (AreTypedOutside E blocks) (nodes f) n t.literals i)
+
+    pub bodies_judged : (j k : Judged) → Judges E blocks (IsTypedFunc E blocks (func_in f)) (HasOwnRun E blocks (func_in f)) j → Judges E blocks (LiteralsTyped E blocks outside [] (nodes f)) (IsLiteralRun E blocks outside [] (nodes f)) k
+        → Judges E blocks (AreTypedBodies E blocks f) (HasBody E blocks f) (both j k)
+    bodies_judged j k a b =
+        judged_as E blocks (IsTypedFunc E blocks (func_in f) × LiteralsTyped E blocks outside [] (nodes f)) (AreTypedBodies E blocks f) (λ v. HasOwnRun E blocks (func_in f) v ⊎ IsLiteralRun E blocks outside [] (nodes f) v) (HasBody E blocks f) (both j k)
+        to_typed of_typed to_body of_body
+        (judged_both E blocks (IsTypedFunc E blocks (func_in f)) (LiteralsTyped E blocks outside [] (nodes f)) (HasOwnRun E blocks (func_in f)) (IsLiteralRun E blocks outside [] (nodes f)) j k a b)
+
+  -- ---- the place that is told
+
+  module _ (d : Declaration) where
+    itself_least : ((w : Run) (place : ℕ) → HasBody E blocks d.form w → IsUntypedPlace E blocks w place → ⊥) → (q : ℕ) → HasUntyped E blocks d.form q → offset_of d.form ≤ q
+    itself_least none q (untyped_statement {w = w} b u) = absurd (none w q b u)
+    itself_least none q (untyped_itself h k) = omega arith
+
+    statement_least : (v : Run) (p : ℕ) → HasBody E blocks d.form v → IsUntypedPlace E blocks v p → ((w : Run) (q : ℕ) → HasBody E blocks d.form w → IsUntypedPlace E blocks w q → p ≤ q) → (q : ℕ) → HasUntyped E blocks d.form q → p ≤ q
+    statement_least v p b u least q (untyped_statement {w = w} c n) = least w q c n
+    statement_least v p b u least q (untyped_itself h k) = absurd (k v p b u)
+
+    by_found : (t : Bool) (p : Option ℕ) → Decides t (AreTypedBodies E blocks d.form) → Surveyed E blocks (HasBody E blocks d.form) p → TellsDeclaration E blocks d (told_in d t p)
+    by_found true None x s = x
+    by_found false None x s =
+        let none = λ w q b u. typed_no_place E blocks w q (s w b) u in
+        record { file = refl; untyped = untyped_itself x none; first = itself_least none }
+    by_found true (Some p) x s = record { file = refl; untyped = untyped_statement s.1 s.2; first = statement_least s.0 p s.1 s.2 s.3 }
+    by_found false (Some p) x s = record { file = refl; untyped = untyped_statement s.1 s.2; first = statement_least s.0 p s.1 s.2 s.3 }
+
+    pub declaration_told : (j : Judged) → Judges E blocks (AreTypedBodies E blocks d.form) (HasBody E blocks d.form) j → TellsDeclaration E blocks d (told_by d j)
+    declaration_told j k = by_found j.typed j.place k.0 k.1

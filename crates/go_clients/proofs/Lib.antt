@@ -1,0 +1,4 @@
+pub mod JudgedBodies
+pub mod FirstPlaces
+pub mod FoundBodies
+pub mod VettedClients

@@ -1,0 +1,2 @@
+pub mod Vetting
+pub mod inner

@@ -1,0 +1,124 @@
+//! The bodies in a declaration.
+ghost use Rattle.std.specs.Prelude.{◌≡◌, [], IfOk};
+ghost use Rattle.go_client_typings.specs.Bodies.{AreTypedBodies, HasBody, IsTypedFunc, func_in};
+ghost use Rattle.go_clients.specs.inner.Told.{HasOwnRun, TellsDeclaration, func_of, told_by, turned};
+ghost use Rattle.go_declarations.specs.Forms.{form_of};
+ghost use Rattle.go_declarations.specs.Listings.{declaration_of};
+ghost use Rattle.go_judged.specs.Judging.{Judges};
+ghost use Rattle.go_local_scopes.specs.States.{around};
+ghost use Rattle.go_statement_rules.specs.Bodies.{IsTypedBody};
+ghost use Rattle.go_statement_rules.specs.Functions.{EntersBody};
+
+use go_base::memory::NoMemory;
+use go_blocks::bodies::type_body;
+use go_blocks::error::BlockError;
+use go_blocks::literals::type_literals;
+use go_declarations::form::Form;
+use go_declarations::listing::Declaration;
+use go_judged::judged::Judged;
+use go_left_out::places::place_of;
+use go_literal_blocks::blocks::Blocks;
+use go_nodes::declarations::trees_of;
+use go_rules::env::Env;
+use go_statement_rules::laws::one_run;
+use go_syntax::declaration::Func;
+use go_syntax::name::Place;
+use std::alloc::Global;
+
+fn func_in<'a>(form: &Form<'a>) -> Option<&'a Func>
+    ensures { func_of result ≡ func_in (form_of form.now) }
+{
+    match form {
+        Form::Function(func) => Some(func),
+        Form::Method(_, func) => Some(func),
+        _ => None,
+    }
+}
+
+// The body of a function.
+fn own_body(
+    alloc: Global,
+    env: &mut Env<'_>,
+    blocks: &Blocks<'_>,
+    func: &Func,
+) -> Result<Judged, NoMemory>
+    requires { env.old.opened ≡ [] }
+    ensures same { env.new ≡ env.old }
+    ensures judged { IfOk result (Judges (around env.old) blocks.now.list.now (IsTypedBody (around env.old) blocks.now.list.now func.now) (EntersBody (around env.old) blocks.now.list.now func.now)) }
+{
+    one_run();
+    match type_body(env, alloc, blocks, func) {
+        Ok(()) => Ok(Judged::tested(true)),
+        Err(BlockError::Untyped(place)) => Ok(Judged::found(Some(place))),
+        Err(BlockError::Unentered) => Ok(Judged::tested(false)),
+        Err(BlockError::NoMemory) => Err(NoMemory),
+    }
+}
+
+// The body of what is declared, where it has one.
+fn body(
+    alloc: Global,
+    env: &mut Env<'_>,
+    blocks: &Blocks<'_>,
+    func: Option<&Func>,
+) -> Result<Judged, NoMemory>
+    requires { env.old.opened ≡ [] }
+    ensures same { env.new ≡ env.old }
+    ensures judged { IfOk result (Judges (around env.old) blocks.now.list.now (IsTypedFunc (around env.old) blocks.now.list.now (func_of func.entry)) (HasOwnRun (around env.old) blocks.now.list.now (func_of func.entry))) }
+{
+    match func {
+        None => Ok(Judged::tested(true)),
+        Some(func) => own_body(alloc, env, blocks, func),
+    }
+}
+
+// The bodies in a declaration where it stands.
+fn bodies(
+    alloc: Global,
+    env: &mut Env<'_>,
+    blocks: &Blocks<'_>,
+    form: &Form<'_>,
+) -> Result<Judged, NoMemory>
+    requires { env.old.opened ≡ [] }
+    ensures same { env.new ≡ env.old }
+    ensures judged { IfOk result (Judges (around env.old) blocks.now.list.now (AreTypedBodies (around env.old) blocks.now.list.now (form_of form.now)) (HasBody (around env.old) blocks.now.list.now (form_of form.now))) }
+{
+    let own = body(alloc, env, blocks, func_in(form))?;
+    let trees = trees_of(alloc, *form)?;
+    let literals = type_literals(env, alloc, blocks, trees)?;
+    Ok(own.both(literals))
+}
+
+fn told(declaration: &Declaration<'_>, judged: Judged) -> Option<Place>
+    ensures { result ≡ told_by (declaration_of declaration.now) judged }
+{
+    match judged.place {
+        Some(offset) => Some(Place {
+            file: declaration.file,
+            offset,
+        }),
+        None => {
+            if judged.typed {
+                return None;
+            }
+            Some(place_of(declaration))
+        }
+    }
+}
+
+/// The place of the first body in a declaration that isn't typed. The environment is moved to the declaration.
+pub(crate) fn untyped(
+    alloc: Global,
+    env: &mut Env<'_>,
+    blocks: &Blocks<'_>,
+    declaration: &Declaration<'_>,
+) -> Result<Option<Place>, NoMemory>
+    requires { env.old.opened ≡ [] }
+    ensures moved { env.new ≡ turned env.old (declaration_of declaration.now) }
+    ensures told { IfOk result (TellsDeclaration (around (turned env.old (declaration_of declaration.now))) blocks.now.list.now (declaration_of declaration.now)) }
+{
+    env.turn_to(declaration.file);
+    env.set_iota(declaration.form.iota());
+    let judged = bodies(alloc, env, blocks, &declaration.form)?;
+    Ok(told(declaration, judged))
+}
