@@ -1,5 +1,5 @@
 //! The files of a client that make its package, each with all of its imports.
-ghost use Rattle.std.specs.Prelude.{◌≡◌, ◌++◌, [], reverse, IfOk, OnOk};
+ghost use Rattle.std.specs.Prelude.{◌≡◌, ◌++◌, ◌∷◌, [], reverse, IfOk, OnOk};
 ghost use Rattle.go_imports.specs.Gives.{Gives};
 ghost use Rattle.go_client_files.specs.ClientFiles.{name_in_file, named_import, GivesNamed, UsesAllIn, GivesClientFile, AreClientFiles};
 ghost use Rattle.go_client_files.specs.inner.Making.{AddsFile};
@@ -111,6 +111,15 @@ impl ClientFiles {
             blocks: List::new(alloc),
         }
     }
+
+    fn push(&mut self, file: ClientFile) -> Result<(), NoMemory>
+        ensures files { OnOk result (self.new.files ≡ self.old.files ++ file.file ∷ []) }
+        ensures blocks { OnOk result (self.new.blocks ≡ self.old.blocks ++ file.blocks ∷ []) }
+    {
+        let ClientFile { file, blocks } = file;
+        self.files.push(file)?;
+        self.blocks.push(blocks)
+    }
 }
 
 fn add(list: &mut ClientFiles, file: Option<ClientFile>) -> Result<(), NoMemory>
@@ -118,10 +127,7 @@ fn add(list: &mut ClientFiles, file: Option<ClientFile>) -> Result<(), NoMemory>
 {
     match file {
         None => Ok(()),
-        Some(ClientFile { file, blocks }) => {
-            list.files.push(file)?;
-            list.blocks.push(blocks)
-        }
+        Some(file) => list.push(file),
     }
 }
 

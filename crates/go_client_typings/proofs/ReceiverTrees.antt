@@ -1,7 +1,7 @@
 -- In the type of a receiver stand types alone.
 use Rattle.std.proofs.Common.{inl, inr, ◌≡◌, ℕ, Bool, true, false, List, Option, Some, None, refl, sym, ap, ◌∙◌, subst}
-use Rattle.std.specs.Prelude.{if◌then◌else◌}
 use Rattle.go_base.specs.Lists.{Has}
+use Rattle.go_rules.proofs.OneKind.{no_truth}
 use Rattle.go_rules.specs.Nodes.{Node, Stands, TypeLayer, expression, parts, post, signature, stands_here, stands_in, type, type_parts, value}
 use Rattle.go_syntax.specs.declared.expression.Expr.{Expr}
 use Rattle.go_syntax.specs.declared.types.ParameterDecl.{ParameterDecl, out-ParameterDecl}
@@ -48,9 +48,6 @@ named_alone t f e a b i stands_here = ap is_expression (sym i)
 named_alone t f e a c i (stands_in {b = b} h k) =
     let p = part_named (out-Typ t) f (sym (form_out t) ∙ e) b (subst (λ n. Has (parts n) b) (sym i) h) in
     named_alone p.0 p.2.0 p.2.1 b c p.1 k
-
-no_truth : true ≡ false → ⊥
-no_truth e = subst (λ (b : Bool). if b then Unit {0} else ⊥) e tt
 
 based : (ds : List Declaration) (c : Option NameForm) (n : List ℕ) → base_in ds c ≡ Some n → (f : NameForm) × (c ≡ Some f)
 based ds None n e = none_some (base_in ds None) n refl e

@@ -172,8 +172,12 @@ module _ (E : Env) where
 
 -- ---- in a typing
 
+past : (n : ℕ) → ◌≡◌ {A = Option Declaration} (slice_get [] n) None
+past zero = refl
+past (suc n) = refl
+
 get_below : (ds : List Declaration) (n : ℕ) (d : Declaration) → slice_get ds n ≡ Some d → n < length ds
-get_below [] n d e = none_some (slice_get [] n) d refl e
+get_below [] n d e = none_some (slice_get [] n) d (past n) e
 get_below (x ∷ xs) zero d e = omega arith
 get_below (x ∷ xs) (suc n) d e = let k = get_below xs n d e in omega (arith, k)
 

@@ -46,6 +46,9 @@ use Rattle.go_typings.proofs.GrowRules.{gives_more}
 
 -- ---- in an environment
 
+no_primary : (n : Name) (x : Expr) (ps : List Post) → ◌≡◌ {A = ExprLayer} (Expr-F.Name n) (Expr-F.Primary x ps) → ⊥
+no_primary n x ps e = absurd (let g : ◌≡◌ {A = ExprLayer} (Expr-F.Name n) (Expr-F.Primary x ps) = e in cc)
+
 module _ (E : Env) where
   abbrev F : Env
   F = unflagged E
@@ -118,10 +121,7 @@ module _ (E : Env) where
       choose : ((q : Operand) × HasForm E (chain x before) q) ⊎ ((before ≡ []) × ((n : Name) × (out-Expr x ≡ Expr-F.Name n))) → HasForm E (chain x before) o
       choose (inl (q, g)) = subst (HasForm E (chain x before)) (form_once F (form_more g) h) g
       choose (inr (i, n, j)) = let l = ap (chain x) i ∙ j in subst (λ z. HasForm E z o) (sym l) (name_back (subst (λ z. HasForm F z o) l h))
-  chain_back e x before p after (bare_name j) is h = absurd (clash (sym j ∙ is))
-    where
-      clash : {n : Name} → ◌≡◌ {A = ExprLayer} (Expr-F.Name n) (Expr-F.Primary x (before ++ p ∷ after)) → ⊥
-      clash i = cc
+  chain_back e x before p after (bare_name {n = n} j) is h = absurd (no_primary n x (before ++ p ∷ after) (sym j ∙ is))
 
   selects_back : {at : Node} {o : Operand} {name : Name} → ((x : Expr) → Stands at (expression x) → IsTypedNode E (expression x)) → Selects F at o name → Selects E at o name
   selects_back typed s = record {
@@ -170,32 +170,27 @@ module _ (E : Env) where
 
 -- ---- in a package
 
+-- what stands in a declaration is typed, where its trees are, but for the type of a receiver
+module _ (E : Env) (u : PackageSource) (n : ℕ) (at : Node) (x : Expr) (k : Stands at (expression x)) where
+  among : (ns : List Node) → Each (IsTypedNode E) ns → Has ns at → IsTypedNode E (expression x)
+  among ns g j = typed_within E k (each_has (IsTypedNode E) ns at g j)
+
+  of_method : (r : ParameterDecl) (f : Func) → IsTypedNode E (signature f.signature) → IsMethod E u n r f → Has (type (out-ParameterDecl r).type_ ∷ signature f.signature ∷ []) at → IsTypedNode E (expression x)
+  of_method r f g m (inl j) = absurd (no_expression (declarations u) r m.type m.of x (subst (λ b. Stands b (expression x)) (sym j) k))
+  of_method r f g m (inr (inl j)) = typed_within E (subst (λ b. Stands b (expression x)) (sym j) k) g
+  of_method r f g m (inr (inr j)) = absurd j
+
+  pub in_form : (f : Form) → TreesAreTyped E f → Asks E u n f → Has (nodes f) at → IsTypedNode E (expression x)
+  in_form (constants c place) g m j = among (nodes (constants c place)) g j
+  in_form (variables c) g m j = among (nodes (variables c)) g j
+  in_form (alias c) g m j = among (nodes (alias c)) g j
+  in_form (definition c) g m j = among (nodes (definition c)) g j
+  in_form (function f) g m j = among (nodes (function f)) g j
+  in_form (method r f) g m j = of_method r f g m.form j
+
 module _ (s : Setting) (u : PackageSource) (a : Entries) (T : IsTyping s u a) where
-  -- what stands in a declaration of a typing is typed
   stands_typed : (n : ℕ) (d : Declaration) → slice_get (declarations u) n ≡ Some d → DeclaresSome d.form → (at : Node) → Has (nodes d.form) at → (x : Expr) → Stands at (expression x) → IsTypedNode (environment s u a d) (expression x)
-  stands_typed n d e h at i x k = by d.form (given_typed s u a T n d e h) (asked s u a T n d e) i
-    where
-      E : Env
-      E = environment s u a d
-
-      within_typed : (b : Node) → IsTypedNode E b → Stands b (expression x) → IsTypedNode E (expression x)
-      within_typed b g j = typed_within E j g
-
-      among : (ns : List Node) → Each (IsTypedNode E) ns → Has ns at → IsTypedNode E (expression x)
-      among ns g j = within_typed at (each_has (IsTypedNode E) ns at g j) k
-
-      of_receiver : (r : ParameterDecl) (f : Func) → IsTypedNode E (signature f.signature) → IsMethod E u n r f → Has (type (out-ParameterDecl r).type_ ∷ signature f.signature ∷ []) at → IsTypedNode E (expression x)
-      of_receiver r f g m (inl j) = absurd (no_expression (declarations u) r m.type m.of x (subst (λ b. Stands b (expression x)) (sym j) k))
-      of_receiver r f g m (inr (inl j)) = within_typed (signature f.signature) g (subst (λ b. Stands b (expression x)) (sym j) k)
-      of_receiver r f g m (inr (inr j)) = absurd j
-
-      by : (f : Form) → TreesAreTyped E f → Asks E u n f → Has (nodes f) at → IsTypedNode E (expression x)
-      by (constants c place) g m j = among (nodes (constants c place)) g j
-      by (variables c) g m j = among (nodes (variables c)) g j
-      by (alias c) g m j = among (nodes (alias c)) g j
-      by (definition c) g m j = among (nodes (definition c)) g j
-      by (function f) g m j = among (nodes (function f)) g j
-      by (method r f) g m j = of_receiver r f g m.form j
+  stands_typed n d e h at i x k = in_form (environment s u a d) u n at x k d.form (given_typed s u a T n d e h) (asked s u a T n d e) i
 
   -- what leads on without the flag does with it, from a declaration that declares something
   leads_back : {j k : ℕ} → IsSome u j → LeadsTo (without_flag s) u a j k → LeadsTo s u a j k

@@ -75,7 +75,10 @@ fn untyped_in(
     let file = declaration.file as usize;
     match blocks.get(file) {
         Some(blocks) => untyped(alloc, env, blocks, declaration),
-        None => untyped(alloc, env, &Blocks::new(&[]), declaration),
+        None => {
+            let none = Blocks::new(&[]);
+            untyped(alloc, env, &none, declaration)
+        }
     }
 }
 
