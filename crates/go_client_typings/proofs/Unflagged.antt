@@ -213,10 +213,10 @@ module _ (s : Setting) (u : PackageSource) (a : Entries) (T : IsTyping s u a) wh
     };
     asks = λ n i. let k = T.asks n i in (k.0, k.1, asks_more (environment s u a k.0) u n k.0.form k.2);
     rank = T.rank;
-    falls = λ m n i (d, e, r). T.falls m n i (d, e, names_back (environment s u a d) u d.form (strong_references d.form) n r);
-    lengths = λ m n i (d, e, r) l.
-        let g = names_back (environment s u a d) u d.form (length_references d.form) n r in
-        T.lengths m n i (d, e, g) (leads_back (named_is_some u g.reference.name n g.names) l);
+    falls = λ m n i k. T.falls m n i (k.0, k.1, names_back (environment s u a k.0) u k.0.form (strong_references k.0.form) n k.2);
+    lengths = λ m n i k l.
+        let g = names_back (environment s u a k.0) u k.0.form (length_references k.0.form) n k.2 in
+        T.lengths m n i (k.0, k.1, g) (leads_back (named_is_some u g.reference.name n g.names) l);
   }
 
 -- a client that is typed is typed without the flag
