@@ -85,10 +85,7 @@ fn refusal(
 }
 
 /// What the files of a client give: the chosen ones, parsed, or the first one that is refused.
-pub(crate) fn read_files(
-    alloc: Global,
-    files: &[HeadedFile<'_>],
-) -> Result<ClientReading, NoMemory>
+pub(crate) fn read_files(alloc: Global, files: &[HeadedFile<'_>]) -> Result<ClientReading, NoMemory>
     requires { (h : HeadedFile) → Has files.now h → length h.file.now.bytes ≤ 4194304 }
     ensures { IfOk result (IsHeadedReading files.now) }
 {

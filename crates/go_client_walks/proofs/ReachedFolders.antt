@@ -64,11 +64,11 @@ module _ (client : List PackageFile) (module_path : List ℕ) (folders : List Fo
 
   pub asked_within : (slots : ReadFolders) (m : ℕ) → Asked slots m → m < length folders
   asked_within slots m (inl p) = (asks_of slots m p).names.within
-  asked_within slots m (inr p) = p.2.2.2.names.within
+  asked_within slots m (inr p) = p.2.2.names.within
 
   asked_std : (slots : ReadFolders) (m : ℕ) → Asked slots m → is_std folders m ≡ true
   asked_std slots m (inl p) = (asks_of slots m p).side
-  asked_std slots m (inr p) = p.2.2.2.side
+  asked_std slots m (inr p) = p.2.2.side
 
   -- a folder of the module is next
   pub own_next : (slots : ReadFolders) (n : ℕ) → n < length folders → is_std folders n ≡ false → HasModuleTo folders slots n → IsNextFolder client module_path folders slots n

@@ -43,7 +43,13 @@ fn lesser(left: Option<Place>, right: Option<Place>) -> Option<Place>
         None => right,
         Some(one) => match right {
             None => Some(one),
-            Some(other) => { if comes_first(one, other) { Some(one) } else { Some(other) } }
+            Some(other) => {
+                if comes_first(one, other) {
+                    Some(one)
+                } else {
+                    Some(other)
+                }
+            }
         },
     }
 }

@@ -18,12 +18,7 @@ use go_model::types::world::World;
 use std::alloc::Global;
 
 // What is told of a client that isn't typed in the profile.
-fn outside(
-    alloc: Global,
-    world: &World,
-    client: &ClientUnit,
-    bits: u32,
-) -> Result<Vetted, NoMemory>
+fn outside(alloc: Global, world: &World, client: &ClientUnit, bits: u32) -> Result<Vetted, NoMemory>
     requires bits { (bits ≡ 32) ⊎ (bits ≡ 64) }
     requires pathed { client.now.unit.path ≢ [] }
     requires absent { first_with path_of world.now.packages client.now.unit.path ≡ None }
