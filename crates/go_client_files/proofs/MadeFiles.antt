@@ -1,9 +1,8 @@
 -- The files of a client's package that are made one after another.
 use Rattle.std.proofs.Common.{◌≡◌, ℕ, ◌<◌, ◌≤◌, Option, Some, None, List, [], ◌∷◌, ◌++◌, length, map, reverse, refl, sym, ap, ◌∙◌, subst, arith}
 use Rattle.std.proofs.lemmas.List.{append-nil}
-use Rattle.std.specs.List.{filter}
 use Rattle.go_base.specs.Lists.{Has}
-use Rattle.go_client_files.specs.ClientFiles.{AreClientFiles, AreOfOne, AreRead, GivesClientFile, GivesParsed, client_files}
+use Rattle.go_client_files.specs.ClientFiles.{AreClientFiles, AreOfOne, AreRead, GivesClientFile, GivesParsed, client_files, root_files}
 use Rattle.go_client_files.specs.declared.parsed.ParsedFile.{ParsedFile}
 use Rattle.go_client_files.specs.declared.uses.ClientFile.{ClientFile}
 use Rattle.go_client_files.specs.declared.uses.ClientFiles.{ClientFiles}
@@ -77,7 +76,7 @@ module _ (module_path : List ℕ) (folders : List Folder) where
   files_few p tree xs list t r a =
       let made = gives_fewer (GivesClientFile module_path folders) a.given in
       let read = gives_fewer (GivesParsed p) r.given in
-      let named = by_name_length (filter is_root tree.files) in
+      let named = by_name_length (root_files tree.files) in
       let kept = kept_shorter is_root tree.files in
       let same = ap length a.files ∙ length_mapped file_in a.made in
       let few = t.few in

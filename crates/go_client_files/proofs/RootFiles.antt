@@ -1,11 +1,11 @@
 -- The files in the root of a tree, one after another; and files that are of one package.
-use Rattle.std.proofs.Common.{◌≡◌, ℕ, zero, suc, ◌+◌, ◌<◌, ◌≤◌, Bool, true, false, cond, List, [], ◌∷◌, ◌++◌, length, take, get_or, refl, sym, ap, ◌∙◌, subst}
-use Rattle.std.specs.List.{filter}
+use Rattle.std.proofs.Common.{◌≡◌, ℕ, ◌+◌, ◌<◌, ◌≤◌, Bool, true, false, cond, List, [], ◌∷◌, ◌++◌, length, take, get_or, refl, sym, ap, ◌∙◌}
 use Rattle.std.specs.Prelude.{bytes_eq}
-use Rattle.std.proofs.lemmas.List.{take_more}
+use Rattle.std.proofs.lemmas.List.{take_more, append-nil}
+use Rattle.std.proofs.lemmas.List.Elements.{filter-append}
 use Rattle.go_base.proofs.Lists.{take_past}
 use Rattle.go_base.specs.Lists.{Has}
-use Rattle.go_client_files.specs.ClientFiles.{AreOfOne}
+use Rattle.go_client_files.specs.ClientFiles.{AreOfOne, root_files}
 use Rattle.go_client_files.specs.declared.parsed.ParsedFile.{ParsedFile}
 use Rattle.go_client_files.specs.inner.Making.{IsNamedAs}
 use Rattle.go_model.specs.declared.files.tree.TreeFile.{TreeFile}
@@ -16,41 +16,18 @@ use denote.Ref.{Bor}
 abbrev pub is_root : TreeFile → Bool
 is_root f = bytes_eq f.folder []
 
-module _ (p : TreeFile → Bool) where
-  kept_by : (x : TreeFile) (xs ys rest : List TreeFile) (b : Bool) → xs ≡ ys ++ rest → cond b (x ∷ xs) xs ≡ cond b (x ∷ ys) ys ++ rest
-  kept_by x xs ys rest true e = ap (λ (zs : List TreeFile). x ∷ zs) e
-  kept_by x xs ys rest false e = e
+pub root_none : (f : TreeFile) (old : List TreeFile) → bytes_eq f.folder [] ≡ false → old ≡ old ++ root_files (f ∷ [])
+root_none f old e = sym (ap (λ b. old ++ cond b (f ∷ []) []) e ∙ append-nil old)
 
-  pub kept_more : (xs ys : List TreeFile) → filter p (xs ++ ys) ≡ filter p xs ++ filter p ys
-  kept_more [] ys = refl
-  kept_more (x ∷ xs) ys = kept_by x (filter p (xs ++ ys)) (filter p xs) (filter p ys) (p x) (kept_more xs ys)
+pub root_one : (f : Bor TreeFile) (old new : List (Bor TreeFile)) → bytes_eq f.now.folder [] ≡ true → new ≡ old ++ f ∷ [] → lent new ≡ lent old ++ root_files (f.now ∷ [])
+root_one f old new t e = ap lent e ∙ map_more (λ (z : Bor TreeFile). z.now) old (f ∷ []) ∙ sym (ap (λ b. lent old ++ cond b (f.now ∷ []) []) t)
 
-  one_by : (x : TreeFile) (b : Bool) → b ≡ true → cond b (x ∷ []) [] ≡ x ∷ []
-  one_by x true e = refl
-  one_by x false e = absurd (let g : false ≡ true = e in cc)
+pub root_next : (files : List TreeFile) (i : ℕ) (f : TreeFile) (old new : List TreeFile) → i < length files → f ≡ get_or files i f → new ≡ old ++ root_files (f ∷ []) → old ≡ root_files (take i files) → new ≡ root_files (take (i + 1) files)
+root_next files i f old new l is e h =
+    e ∙ ap (λ (zs : List TreeFile). zs ++ root_files (f ∷ [])) h ∙ sym (ap root_files (take_more files i f l ∙ ap (λ (z : TreeFile). take i files ++ z ∷ []) (sym is)) ∙ filter-append is_root (take i files) (f ∷ []))
 
-  none_by : (x : TreeFile) (b : Bool) → b ≡ false → ◌≡◌ {A = List TreeFile} (cond b (x ∷ []) []) []
-  none_by x true e = absurd (let g : true ≡ false = e in cc)
-  none_by x false e = refl
-
-  next_files : (files : List TreeFile) (i : ℕ) (f : TreeFile) → i < length files → f ≡ get_or files i f → filter p (take (i + 1) files) ≡ filter p (take i files) ++ filter p (f ∷ [])
-  next_files files i f l is = ap (filter p) (take_more files i f l ∙ ap (λ (z : TreeFile). take i files ++ z ∷ []) (sym is)) ∙ kept_more (take i files) (f ∷ [])
-
-  pub kept_next : (files : List TreeFile) (i : ℕ) (f : Bor TreeFile) (old new : List (Bor TreeFile)) → i < length files → f.now ≡ get_or files i f.now → p f.now ≡ true → new ≡ old ++ f ∷ [] → lent old ≡ filter p (take i files) → lent new ≡ filter p (take (i + 1) files)
-  kept_next files i f old new l is t e h =
-      ap lent e ∙ map_more (λ (z : Bor TreeFile). z.now) old (f ∷ []) ∙ ap (λ (zs : List TreeFile). zs ++ f.now ∷ []) h
-      ∙ ap (λ (zs : List TreeFile). filter p (take i files) ++ zs) (sym (one_by f.now (p f.now) t)) ∙ sym (next_files files i f.now l is)
-
-  append_none : (xs : List TreeFile) → xs ++ [] ≡ xs
-  append_none [] = refl
-  append_none (x ∷ xs) = ap (λ (zs : List TreeFile). x ∷ zs) (append_none xs)
-
-  pub kept_same : (files : List TreeFile) (i : ℕ) (f : TreeFile) (old : List TreeFile) → i < length files → f ≡ get_or files i f → p f ≡ false → old ≡ filter p (take i files) → old ≡ filter p (take (i + 1) files)
-  kept_same files i f old l is t h =
-      h ∙ sym (append_none (filter p (take i files))) ∙ ap (λ (zs : List TreeFile). filter p (take i files) ++ zs) (sym (none_by f (p f) t)) ∙ sym (next_files files i f l is)
-
-  pub kept_whole : (files : List TreeFile) (i : ℕ) (old : List TreeFile) → length files ≤ i → old ≡ filter p (take i files) → old ≡ filter p files
-  kept_whole files i old l h = h ∙ ap (filter p) (take_past i files l)
+pub root_whole : (files : List TreeFile) (i : ℕ) (old : List TreeFile) → length files ≤ i → old ≡ root_files (take i files) → old ≡ root_files files
+root_whole files i old l h = h ∙ ap root_files (take_past i files l)
 
 -- ---- package names
 

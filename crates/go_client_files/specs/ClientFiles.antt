@@ -37,9 +37,13 @@ use Rattle.go_units.specs.declared.unit_error.UnitError.TheVariants as error
 
 -- ---- what is read
 
+-- the files that stand in no folder
+abbrev pub root_files : List TreeFile → List TreeFile
+root_files fs = filter (λ (f : TreeFile). bytes_eq f.folder []) fs
+
 -- the files of a client: those in the root of its tree, by their names
 abbrev pub client_files : Tree → List TreeFile
-client_files tree = by_name (filter (λ (f : TreeFile). bytes_eq f.folder []) tree.files)
+client_files tree = by_name (root_files tree.files)
 
 -- the file as it is read, with the blocks of its functions and function literals
 pub record IsParsed (file : TreeFile) (x : ParsedFile) : Type 0 where

@@ -1,8 +1,7 @@
 //! The files of a client on a platform.
-ghost use Rattle.std.specs.Prelude.{◌≡◌, ◌≤◌, [], true, false, length, bytes_eq, IfOk, IfErr};
-ghost use Rattle.std.specs.List.{filter};
+ghost use Rattle.std.specs.Prelude.{◌≡◌, ◌∷◌, ◌++◌, [], true, false, bytes_eq, IfOk, IfErr, OnOk};
 ghost use Rattle.go_base.specs.Lists.{Has};
-ghost use Rattle.go_client_files.specs.ClientFiles.{AreOfOne, ReadsClient};
+ghost use Rattle.go_client_files.specs.ClientFiles.{AreOfOne, ReadsClient, root_files};
 ghost use Rattle.go_client_files.specs.inner.Making.{CheckCause, IsAccepted, IsClientFolder, IsNamedAs};
 ghost use Rattle.go_client_files.specs.declared.parsed.ParsedFile.{ParsedFile};
 ghost use Rattle.go_imports.specs.Answers.{Decides};
@@ -32,15 +31,23 @@ fn is_in_root(file: &TreeFile) -> bool
     file.folder.bytes() == b"".as_slice()
 }
 
+fn add_root<'a>(found: &mut Vec<&'a TreeFile>, file: &'a TreeFile) -> Result<(), NoMemory>
+    ensures { OnOk result (lent found.new.items ≡ lent found.old.items ++ root_files (file.now ∷ [])) }
+{
+    if !is_in_root(file) {
+        return Ok(());
+    }
+    found.push(file)?;
+    Ok(())
+}
+
 // The files in the root of a tree.
 fn root_files<'a>(alloc: Global, files: &'a [TreeFile]) -> Result<Vec<&'a TreeFile>, NoMemory>
-    ensures { IfOk result (λ found. lent found.items ≡ filter (λ (f : TreeFile). bytes_eq f.folder []) files.now) }
+    ensures { IfOk result (λ found. lent found.items ≡ root_files files.now) }
 {
     let mut found = Vec::new(alloc);
     for file in files {
-        if is_in_root(file) {
-            found.push(file)?;
-        }
+        add_root(&mut found, file)?;
     }
     Ok(found)
 }

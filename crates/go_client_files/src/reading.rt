@@ -93,7 +93,7 @@ pub(crate) fn read_files(alloc: Global, files: &[HeadedFile<'_>]) -> Result<Clie
     for file in files {
         match read_file(alloc, file) {
             Err(error) => return refusal(alloc, file, error),
-            Ok(file) => add(&mut parsed, file)?,
+            Ok(given) => add(&mut parsed, given)?,
         }
     }
     Ok(ClientReading::Files(parsed))
