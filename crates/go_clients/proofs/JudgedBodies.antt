@@ -4,18 +4,17 @@ use Rattle.go_base.specs.Lists.{Each, Has}
 use Rattle.go_base.proofs.Members.{each_has}
 use Rattle.go_client_typings.specs.Bodies.{AreTypedBodies, HasBody, has_literal, has_own, HasUntyped, IsTypedFunc, func_in, untyped_itself, untyped_statement}
 use Rattle.go_clients.specs.inner.Told.{HasOwnRun, TellsDeclaration, told_by, told_in}
-use Rattle.go_judged.specs.Judging.{Judges, both, found, tested}
+use Rattle.go_judged.specs.Judging.{Judges, both, tested}
 use Rattle.go_judged.specs.declared.judged.Judged.{Judged}
 use Rattle.go_judged.proofs.Joining.{Either, judged_as, judged_both}
 use Rattle.go_reading.proofs.ListFacts.{each_of}
 use Rattle.go_rules.specs.Environments.{Env}
 use Rattle.go_rules.specs.Nodes.{Node}
 use Rattle.go_selectors.specs.Answers.{Decides}
-use Rattle.go_statement_rules.specs.Bodies.{AreTypedOutside, IsTypedBody, no_body, typed_body}
-use Rattle.go_statement_rules.specs.Functions.{EntersBody, Run, outside}
+use Rattle.go_statement_rules.specs.Bodies.{AreTypedOutside}
+use Rattle.go_statement_rules.specs.Functions.{Run, outside}
 use Rattle.go_statement_rules.specs.Places.{IsUntypedPlace}
-use Rattle.go_statement_rules.proofs.OnePlace.{one_place, typed_no_place}
-use Rattle.go_statement_rules.proofs.OneRun.{body_run, enters_body_once}
+use Rattle.go_statement_rules.proofs.OnePlace.{typed_no_place}
 use Rattle.go_syntax.specs.declared.declaration.Func.{Func}
 use Rattle.go_syntax.specs.declared.statement.LiteralBlock.{LiteralBlock}
 use Rattle.go_typings.specs.DeclarationNodes.{nodes}
@@ -26,24 +25,6 @@ use Rattle.go_untyped_places.specs.Surveys.{Surveyed}
 use Rattle.go_walks.specs.Literals.{LiteralsTyped}
 
 module _ (E : Env) (blocks : List LiteralBlock) where
-  -- ---- the body of a function
-
-  pub body_typed : (f : Func) → IsTypedBody E blocks f → Judges E blocks (IsTypedBody E blocks f) (EntersBody E blocks f) (tested true)
-  body_typed f t = (t, λ v h. body_run E blocks f v h t)
-
-  pub body_untyped : (f : Func) (p : ℕ) (w : Run) → EntersBody E blocks f w → IsUntypedPlace E blocks w p → Judges E blocks (IsTypedBody E blocks f) (EntersBody E blocks f) (found (Some p))
-  body_untyped f p w h u = (
-    λ t. typed_no_place E blocks w p (body_run E blocks f w h t) u,
-    (w, h, u, λ v q k b. let same = one_place E blocks w p q u (subst (λ (z : Run). IsUntypedPlace E blocks z q) (enters_body_once E blocks k h) b) in omega (arith, same)),
-  )
-
-  pub body_unentered : (f : Func) → (f.body ≡ None → ⊥) → ((w : Run) → EntersBody E blocks f w → ⊥) → Judges E blocks (IsTypedBody E blocks f) (EntersBody E blocks f) (tested false)
-  body_unentered f some none = (refuse, λ v h. absurd (none v h))
-    where
-      refuse : IsTypedBody E blocks f → ⊥
-      refuse (no_body e) = some e
-      refuse (typed_body {w = w} x y) = none w x
-
   pub no_function : Judges E blocks (IsTypedFunc E blocks None) (HasOwnRun E blocks None) (tested true)
   no_function = (tt, λ v h. absurd h)
 

@@ -6,12 +6,9 @@ ghost use Rattle.go_declarations.specs.Forms.{form_of};
 ghost use Rattle.go_declarations.specs.Listings.{declaration_of};
 ghost use Rattle.go_judged.specs.Judging.{Judges};
 ghost use Rattle.go_local_scopes.specs.States.{around};
-ghost use Rattle.go_statement_rules.specs.Bodies.{IsTypedBody};
-ghost use Rattle.go_statement_rules.specs.Functions.{EntersBody};
 
 use go_base::memory::NoMemory;
 use go_blocks::bodies::type_body;
-use go_blocks::error::BlockError;
 use go_blocks::literals::type_literals;
 use go_declarations::form::Form;
 use go_declarations::listing::Declaration;
@@ -20,7 +17,6 @@ use go_left_out::places::place_of;
 use go_literal_blocks::blocks::Blocks;
 use go_nodes::declarations::trees_of;
 use go_rules::env::Env;
-use go_statement_rules::laws::one_run;
 use go_syntax::declaration::Func;
 use go_syntax::name::Place;
 use std::alloc::Global;
@@ -32,26 +28,6 @@ fn func_in<'a>(form: &Form<'a>) -> Option<&'a Func>
         Form::Function(func) => Some(func),
         Form::Method(_, func) => Some(func),
         _ => None,
-    }
-}
-
-// The body of a function.
-fn own_body(
-    alloc: Global,
-    env: &mut Env<'_>,
-    blocks: &Blocks<'_>,
-    func: &Func,
-) -> Result<Judged, NoMemory>
-    requires { env.old.opened ≡ [] }
-    ensures same { env.new ≡ env.old }
-    ensures judged { IfOk result (Judges (around env.old) blocks.now.list.now (IsTypedBody (around env.old) blocks.now.list.now func.now) (EntersBody (around env.old) blocks.now.list.now func.now)) }
-{
-    one_run();
-    match type_body(env, alloc, blocks, func) {
-        Ok(()) => Ok(Judged::tested(true)),
-        Err(BlockError::Untyped(place)) => Ok(Judged::found(Some(place))),
-        Err(BlockError::Unentered) => Ok(Judged::tested(false)),
-        Err(BlockError::NoMemory) => Err(NoMemory),
     }
 }
 
@@ -68,7 +44,7 @@ fn body(
 {
     match func {
         None => Ok(Judged::tested(true)),
-        Some(func) => own_body(alloc, env, blocks, func),
+        Some(func) => type_body(env, alloc, blocks, func),
     }
 }
 
