@@ -79,13 +79,13 @@ if_has true x m (inl e) = e
 if_has true x m (inr h) = absurd h
 if_has false x m h = absurd h
 
-method_here : (u : PackageSource) (type : List ℕ) (n : ℕ) (f : Form) (m : DeclaredMethod) → Has (method_by u type n f) m → (m.number ≡ n) × IsMethodForm f
-method_here u type n (method r f) m h = (sym (ap (λ (z : DeclaredMethod). z.number) (if_has (is_named type (base (declarations u) r)) _ m h)), tt)
-method_here u type n (constants s p) m h = absurd h
-method_here u type n (variables s) m h = absurd h
-method_here u type n (alias s) m h = absurd h
-method_here u type n (definition s) m h = absurd h
-method_here u type n (function f) m h = absurd h
+method_here : (u : PackageSource) (named : List ℕ) (n : ℕ) (f : Form) (m : DeclaredMethod) → Has (method_by u named n f) m → (m.number ≡ n) × IsMethodForm f
+method_here u named n (method r f) m h = (sym (ap (λ (z : DeclaredMethod). z.number) (if_has (is_named named (base (declarations u) r)) _ m h)), tt)
+method_here u named n (constants s p) m h = absurd h
+method_here u named n (variables s) m h = absurd h
+method_here u named n (alias s) m h = absurd h
+method_here u named n (definition s) m h = absurd h
+method_here u named n (function f) m h = absurd h
 
 -- the declaration of a method, by its number from the first of some declarations on
 record StandsBehind (k : ℕ) (ds : List Declaration) (n : ℕ) : Type 0 where
@@ -95,18 +95,18 @@ record StandsBehind (k : ℕ) (ds : List Declaration) (n : ℕ) : Type 0 where
   is : slice_get ds behind ≡ Some declaration
   form : IsMethodForm declaration.form
 
-stands_behind : (u : PackageSource) (type : List ℕ) (k : ℕ) (ds : List Declaration) (m : DeclaredMethod) → Has (methods_from u type k ds) m → StandsBehind k ds m.number
-stands_behind u type k [] m h = absurd h
-stands_behind u type k (d ∷ ds) m h = choose (has_split (method_by u type k d.form) (methods_from u type (suc k) ds) m h) (λ i. stands_behind u type (suc k) ds m i)
+stands_behind : (u : PackageSource) (named : List ℕ) (k : ℕ) (ds : List Declaration) (m : DeclaredMethod) → Has (methods_from u named k ds) m → StandsBehind k ds m.number
+stands_behind u named k [] m h = absurd h
+stands_behind u named k (d ∷ ds) m h = choose (has_split (method_by u named k d.form) (methods_from u named (suc k) ds) m h) (λ i. stands_behind u named (suc k) ds m i)
   where
-    choose : Has (method_by u type k d.form) m ⊎ Has (methods_from u type (suc k) ds) m → (Has (methods_from u type (suc k) ds) m → StandsBehind (suc k) ds m.number) → StandsBehind k (d ∷ ds) m.number
-    choose (inl i) r = let e = method_here u type k d.form m i in record { behind = 0; number = (let n = e.0 in omega (arith, n)); declaration = d; is = refl; form = e.1 }
+    choose : Has (method_by u named k d.form) m ⊎ Has (methods_from u named (suc k) ds) m → (Has (methods_from u named (suc k) ds) m → StandsBehind (suc k) ds m.number) → StandsBehind k (d ∷ ds) m.number
+    choose (inl i) r = let e = method_here u named k d.form m i in record { behind = 0; number = (let n = e.0 in omega (arith, n)); declaration = d; is = refl; form = e.1 }
     choose (inr i) r = let e = r i in record { behind = suc e.behind; number = (let n = e.number in omega (arith, n)); declaration = e.declaration; is = e.is; form = e.form }
 
 -- a method declares something
-pub method_is_some : (u : PackageSource) (type : List ℕ) (m : DeclaredMethod) → Has (declared_methods u type) m → IsSome u m.number
-method_is_some u type m h =
-    let e = stands_behind u type 0 (declarations u) m h in
+pub method_is_some : (u : PackageSource) (named : List ℕ) (m : DeclaredMethod) → Has (declared_methods u named) m → IsSome u m.number
+method_is_some u named m h =
+    let e = stands_behind u named 0 (declarations u) m h in
     let n = e.number in let i : e.behind ≡ m.number = omega (arith, n) in
     (e.declaration, subst (λ (k : ℕ). slice_get (declarations u) k ≡ Some e.declaration) i e.is, method_some e.declaration.form e.form)
 

@@ -120,7 +120,7 @@ module _ (E : Env) where
     where
       choose : ((q : Operand) × HasForm E (chain x before) q) ⊎ ((before ≡ []) × ((n : Name) × (out-Expr x ≡ Expr-F.Name n))) → HasForm E (chain x before) o
       choose (inl (q, g)) = subst (HasForm E (chain x before)) (form_once F (form_more g) h) g
-      choose (inr (i, n, j)) = let l = ap (chain x) i ∙ j in subst (λ z. HasForm E z o) (sym l) (name_back (subst (λ z. HasForm F z o) l h))
+      choose (inr (i, (n, j))) = let l = ap (chain x) i ∙ j in subst (λ z. HasForm E z o) (sym l) (name_back (subst (λ z. HasForm F z o) l h))
   chain_back e x before p after (bare_name {n = n} j) is h = absurd (no_primary n x (before ++ p ∷ after) (sym j ∙ is))
 
   selects_back : {at : Node} {o : Operand} {name : Name} → ((x : Expr) → Stands at (expression x) → IsTypedNode E (expression x)) → Selects F at o name → Selects E at o name

@@ -29,7 +29,7 @@ module _ (client : List PackageFile) (module_path : List ℕ) (folders : List Fo
   pub record IsNextFolder (slots : ReadFolders) (n : ℕ) : Type 0 where
     pub wanted : IsWanted slots n
     pub fresh : IsFresh slots n
-    pub first : (m : ℕ) → IsWanted slots m → IsFresh slots m → ComesFirst folders n m
+    pub first : (m : ℕ) → IsWanted slots m → IsFresh slots m → ComesFirst module_path folders n m
 
   module _ (gives : ℕ → Reading → Type 0) where
     -- the folders that are read after some time

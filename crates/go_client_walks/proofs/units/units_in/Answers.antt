@@ -2,7 +2,7 @@ use Rattle.std.proofs.Common.{Bool, None, List, get_or, set, refl, subst, arith}
 use Rattle.go_imports.proofs.Members.{get_or_same}
 use Rattle.go_units.specs.inner.UnitOrder.{AddsUnit}
 use Rattle.go_units.proofs.UnitOrdering.{making_first, making_next, units_are, folder_there, held_read}
-use Rattle.go_client_walks.proofs.WalkedFiles.{readable_some}
+use Rattle.go_units.proofs.WalkedFiles.{readable_some}
 use Rattle.go_client_walks.proofs.units.units_in.Goals as goal
 
 pub loop-number-init : goal.loop-number-init
