@@ -1,5 +1,6 @@
 -- What is answered of a client whose files are read.
 use Rattle.std.proofs.Common.{◌≡◌, ℕ, false, List, Ok, Err, Result, sym, ap, ◌∙◌, subst}
+use Rattle.std.specs.Prelude.{IfOk, IfErr}
 use Rattle.go_client_files.specs.ClientFiles.{AreClientFiles, AreOfOne, GivesParsed, IsFirstFaulty, ReadsClient, client_files}
 use Rattle.go_client_files.specs.declared.parsed.ParsedFile.{ParsedFile}
 use Rattle.go_client_files.specs.declared.uses.ClientFiles.{ClientFiles}
@@ -42,12 +43,16 @@ module _ (module_path : List ℕ) (folders : List Folder) (client : Folder) (is 
     faulty at f (error.Cycle path) h k = k
     faulty at f error.NoMemory h k = tt
 
-    pub refused_all : (xs : List ParsedFile) (e : UnitError) → Gives (GivesParsed p) (client_files tree) xs → CheckCause module_path folders xs e → ReadsClient module_path folders p tree (Err e)
+    refused_all : (xs : List ParsedFile) (e : UnitError) → Gives (GivesParsed p) (client_files tree) xs → CheckCause module_path folders xs e → ReadsClient module_path folders p tree (Err e)
     refused_all xs (error.File at f) g k = absurd k
     refused_all xs (error.MixedNames path) g k = (k.0, xs, g, k.1)
     refused_all xs (error.InternalUse at place) g k = (k.0, xs, record { given = g; one = k.1 }, k.2, k.3, k.4)
     refused_all xs (error.Cycle path) g k = k
     refused_all xs error.NoMemory g k = tt
 
-    pub accepted_all : (xs : List ParsedFile) (list : ClientFiles) → Gives (GivesParsed p) (client_files tree) xs → IsAccepted module_path folders xs list → ReadsClient module_path folders p tree (Ok list)
+    accepted_all : (xs : List ParsedFile) (list : ClientFiles) → Gives (GivesParsed p) (client_files tree) xs → IsAccepted module_path folders xs list → ReadsClient module_path folders p tree (Ok list)
     accepted_all xs list g k = (xs, record { given = g; one = k.one }, k.are, k.free)
+
+    pub answered : (xs : List ParsedFile) (r : Result ClientFiles UnitError) → Gives (GivesParsed p) (client_files tree) xs → IfOk r (IsAccepted module_path folders xs) → IfErr r (CheckCause module_path folders xs) → ReadsClient module_path folders p tree r
+    answered xs (Ok list) g a b = accepted_all xs list g a
+    answered xs (Err e) g a b = refused_all xs e g b

@@ -59,7 +59,7 @@ module _ (module_path : List ℕ) (folders : List Folder) where
   -- ---- what they are like
 
   named_by : (x : ParsedFile) (f : ClientFile) → GivesClientFile module_path folders x (Some f) → f.file.outline.«package».text ≡ x.source.outline.«package».text
-  named_by x f k = ap (λ o. o.«package».text) k.2.0
+  named_by x f k = ap (λ o. o.«package».text) k.2
 
   made_alike : (xs : List ParsedFile) (list : ClientFiles) → AreOfOne xs → (a : AreClientFiles module_path folders xs list) → AreAlike (map file_in a.made)
   made_alike xs list one a f g h k =

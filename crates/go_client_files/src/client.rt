@@ -106,10 +106,10 @@ fn accepted(
         return Err(mixed_names(alloc, client));
     }
     let list = package_files(alloc, module_path, folders, parsed)?;
-    if let Err(error) = check_free(alloc, client, list.files.items()) {
-        return Err(error);
+    match check_free(alloc, client, list.files.items()) {
+        Err(error) => Err(error),
+        Ok(()) => Ok(list),
     }
-    Ok(list)
 }
 
 /// The files of a client of a module on a platform: those in the root of its tree that the platform chooses and that don't import

@@ -1,5 +1,5 @@
 -- What stands in context in an environment does in one that has more.
-use Rattle.std.proofs.Common.{◌≡◌, List, [], ◌∷◌, Option, None, Some, refl}
+use Rattle.std.proofs.Common.{List, [], ◌∷◌, Option, refl}
 use Rattle.go_model.specs.declared.types.term.Term.{Term, Term-F}
 use Rattle.go_rules.specs.Environments.{Env}
 use Rattle.go_rules.specs.Growth.{Grows}
@@ -21,7 +21,7 @@ use Rattle.go_syntax.specs.declared.expression.Expr.{Expr}
 use Rattle.go_syntax.specs.declared.name.Name.{Name}
 use Rattle.go_syntax.specs.declared.statement.LiteralBlock.{LiteralBlock}
 use Rattle.go_syntax.specs.declared.statement.Stmt.{Stmt}
-use Rattle.go_syntax.specs.declared.statement.TypeCase.{TypeCase, out-TypeCase}
+use Rattle.go_syntax.specs.declared.statement.TypeCase.{out-TypeCase}
 use Rattle.go_syntax.specs.declared.types.ParameterDecl.{ParameterDecl}
 use Rattle.go_syntax.specs.declared.types.Signature.{Signature as Sig}
 use Rattle.go_typings.proofs.GrowRules.{gives_more}

@@ -2,7 +2,7 @@
 use Rattle.std.proofs.Common.{inl, inr, ◌≡◌, ℕ, Bool, true, false, List, Option, Some, None, refl, sym, ap, ◌∙◌, subst}
 use Rattle.go_base.specs.Lists.{Has}
 use Rattle.go_rules.proofs.OneKind.{no_truth}
-use Rattle.go_rules.specs.Nodes.{Node, Stands, TypeLayer, expression, parts, post, signature, stands_here, stands_in, type, type_parts, value}
+use Rattle.go_rules.specs.Nodes.{Node, Stands, TypeLayer, expression, parts, stands_here, stands_in, type, type_parts}
 use Rattle.go_syntax.specs.declared.expression.Expr.{Expr}
 use Rattle.go_syntax.specs.declared.types.ParameterDecl.{ParameterDecl, out-ParameterDecl}
 use Rattle.go_syntax.specs.declared.types.«Type».{«Type» as Typ, «Type-F» as Typ-F, «fold-roll-Type» as fold-roll-Typ, «out-Type» as out-Typ, «roll-Type» as roll-Typ, «roll-out-Type» as roll-out-Typ}

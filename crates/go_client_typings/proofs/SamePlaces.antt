@@ -1,5 +1,5 @@
 -- In two environments of which each has what the other has the same bodies are typed, and the others aren't at the same places.
-use Rattle.std.proofs.Common.{◌≡◌, ℕ, List, [], ◌∷◌, Option, None, Some}
+use Rattle.std.proofs.Common.{ℕ, List, [], ◌∷◌, Option, None, Some}
 use Rattle.go_base.specs.Lists.{Each}
 use Rattle.go_client_typings.specs.Bodies.{AreTypedBodies, HasBody, has_literal, has_own, HasUntyped, IsTypedFunc, func_in, untyped_itself, untyped_statement}
 use Rattle.go_client_typings.proofs.GrowContexts.{context_f, enters_body_f, enters_f, inside_f, leaves_f}

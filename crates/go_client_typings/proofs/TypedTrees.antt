@@ -2,7 +2,7 @@
 use Rattle.std.proofs.Common.{◌≡◌, ◌⊎◌, ◌+◌, ◌<◌, ℕ, zero, suc, Bool, true, false, List, [], ◌∷◌, ◌++◌, Option, None, Some, length, map, refl, sym, ap, ◌∙◌, subst, inl, inr, arith}
 use Rattle.std.specs.Prelude.{if◌then◌else◌, slice_get}
 use Rattle.go_base.specs.Lists.{Each, Has}
-use Rattle.go_base.proofs.Members.{each_has, has_split}
+use Rattle.go_base.proofs.Members.{has_split}
 use Rattle.go_model.specs.declared.types.package.Entity.{Entity}
 use Rattle.go_model.specs.declared.types.term.Term.{Term}
 use Rattle.go_rules.specs.Asks.{texts}
@@ -13,14 +13,13 @@ use Rattle.go_rules.specs.declared.operand.Operand.{Operand}
 use Rattle.go_soundness.proofs.DeclaredForms.{is_at}
 use Rattle.go_syntax.specs.declared.expression.Expr.{Expr}
 use Rattle.go_syntax.specs.declared.name.Name.{Name}
-use Rattle.go_syntax.specs.declared.types.ParameterDecl.{out-ParameterDecl}
 use Rattle.go_syntax.specs.declared.types.«Type».{«Type» as Typ}
 use Rattle.go_typed_parts.specs.TypedNodes.{IsTypedNode, typed_expression, typed_signature, typed_type}
 use Rattle.go_typings.specs.Assignments.{At, all_of}
 use Rattle.go_typings.specs.DeclarationAsks.{Asks, ValuesFit}
 use Rattle.go_typings.specs.DeclarationNodes.{nodes}
 use Rattle.go_typings.specs.DeclarationRules.{AreConstants, constants_more, constants_none, given_type, Gives, gives_alias, gives_constants, gives_definition, gives_function, gives_method, gives_typed_variables, gives_variables}
-use Rattle.go_typings.specs.Declarations.{Form, constants, variables, alias, definition, function, method, Declaration, Declared, declarations, declared, names_of, place_from}
+use Rattle.go_typings.specs.Declarations.{Form, constants, variables, alias, definition, function, method, Declaration, declarations, names_of, place_from}
 use Rattle.go_typings.specs.Initializers.{Initialize, by_call, by_each, by_two, GivesValueAndTruth, two_of_map, two_of_value}
 use Rattle.go_typings.specs.PackageEnvironments.{Entries, Entry, environment}
 use Rattle.go_typings.specs.Receivers.{DeclaredMethod, base, declared_methods, is_named, method_by, methods_from}

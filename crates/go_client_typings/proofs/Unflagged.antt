@@ -1,6 +1,6 @@
 -- What is typed in the profile is typed without its flag.
-use Rattle.std.proofs.Common.{◌≡◌, ◌⊎◌, ℕ, zero, suc, Bool, true, false, List, [], ◌∷◌, ◌++◌, Option, None, Some, refl, sym, ap, ◌∙◌, subst, inl, inr}
-use Rattle.std.specs.Prelude.{length, slice_get}
+use Rattle.std.proofs.Common.{◌≡◌, ◌⊎◌, ℕ, zero, suc, List, [], ◌∷◌, ◌++◌, Some, sym, ap, ◌∙◌, subst, inl, inr}
+use Rattle.std.specs.Prelude.{slice_get}
 use Rattle.go_base.specs.Lists.{Each, Has}
 use Rattle.go_base.proofs.Members.{each_has}
 use Rattle.go_client_typings.specs.Clients.{Blocks, IsTypedClient, blocks_in, without_flag}
@@ -10,11 +10,11 @@ use Rattle.go_client_typings.proofs.TypedTrees.{DeclaresSome, IsSome, TreesAreTy
 use Rattle.go_model.specs.declared.types.names.Sel.{Sel}
 use Rattle.go_model.specs.declared.types.names.TypeName.{TypeName}
 use Rattle.go_model.specs.declared.types.term.Term.{Term, Term-F, out-Term}
-use Rattle.go_model.specs.types.Selectors.{Ending, Spot, start, steps}
+use Rattle.go_model.specs.types.Selectors.{Ending, Spot, start}
 use Rattle.go_model.specs.types.Terms.{Layer}
 use Rattle.go_references.specs.declared.references.Reference.{Reference}
 use Rattle.go_rules.specs.Asks.{Meets}
-use Rattle.go_rules.specs.Environments.{BeginsLayer, Env, EnteredLayer, Found, Told, ToldLayer, ToldTo}
+use Rattle.go_rules.specs.Environments.{BeginsLayer, Env, EnteredLayer, Found, ToldLayer, ToldTo}
 use Rattle.go_rules.specs.Expressions.{Has as Typed, HasForm, chain, has_name, has_operand}
 use Rattle.go_rules.specs.Growth.{Grows, unflagged}
 use Rattle.go_rules.specs.Nodes.{ExprLayer, Node, Stands, expression, signature, type}
@@ -33,15 +33,15 @@ use Rattle.go_syntax.specs.declared.name.Name.{Name}
 use Rattle.go_syntax.specs.declared.types.ParameterDecl.{ParameterDecl, out-ParameterDecl}
 use Rattle.go_typed_parts.specs.TypedNodes.{IsTypedNode, bare_name, typed_expression}
 use Rattle.go_typed_parts.proofs.TypedParts.{chain_typed, typed_within}
-use Rattle.go_typings.specs.Assignments.{At, all_of, before}
+use Rattle.go_typings.specs.Assignments.{before}
 use Rattle.go_typings.specs.DeclarationAsks.{Asks, FormAsks, IsMethod}
 use Rattle.go_typings.specs.DeclarationNodes.{length_references, nodes, references, strong_references}
 use Rattle.go_typings.specs.Declarations.{Form, constants, variables, alias, definition, function, method, Declaration, declarations}
 use Rattle.go_typings.specs.PackageEnvironments.{Entries, environment}
-use Rattle.go_typings.specs.References.{Finds, FindsMethod, FindsOf, finds_expression, finds_value, HasLiteral, literal, literal_array, literal_key, literal_value, HoldsValues, holds_item, holds_map_item, holds_slice_item, IsFieldKey, IsOmitted, LeadsTo, leads_by_method, leads_by_name, leads_here, NamesDeclaration, omitted_base, omitted_itself, Selects}
+use Rattle.go_typings.specs.References.{FindsMethod, FindsOf, finds_expression, finds_value, HasLiteral, literal, literal_array, literal_key, literal_value, HoldsValues, holds_item, holds_map_item, holds_slice_item, IsFieldKey, IsOmitted, LeadsTo, leads_by_method, leads_by_name, leads_here, NamesDeclaration, omitted_base, omitted_itself, Selects}
 use Rattle.go_typings.specs.Sources.{PackageSource, Setting}
 use Rattle.go_typings.specs.Typings.{IsTyping}
-use Rattle.go_typings.proofs.Cells.{none_some, some_once}
+use Rattle.go_typings.proofs.Cells.{some_once}
 use Rattle.go_typings.proofs.GrowRules.{gives_more}
 
 -- ---- in an environment

@@ -13,7 +13,7 @@ use Rattle.go_syntax.specs.declared.expression.Expr.{Expr, Expr-F, out-Expr}
 use Rattle.go_syntax.specs.declared.statement.LiteralBlock.{LiteralBlock}
 use Rattle.go_syntax.specs.declared.types.Signature.{Signature as Sig}
 use Rattle.go_typings.specs.DeclarationNodes.{nodes}
-use Rattle.go_typings.specs.Declarations.{Form, constants, variables, alias, definition, function, method}
+use Rattle.go_typings.specs.Declarations.{Form, function, method}
 use Rattle.go_typings.specs.Refusals.{offset_of}
 
 -- the function or method that is declared

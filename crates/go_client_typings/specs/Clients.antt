@@ -1,7 +1,7 @@
 -- When a client is typed, bodies and all, and in the profile; and the place that is told of one that isn't typed.
 -- Public source: Go specification, "Packages", "Declarations and scope" and "Blocks". Own: the profile, and the order of causes: a name that is declared twice, an import that isn't found, a
 -- declaration without a typing, a statement. Bodies are typed once all declarations are, in the environment of the whole package.
-use Rattle.std.specs.Prelude.{◌≡◌, ◌<◌, ◌≤◌, ◌⊎◌, ℕ, Bool, true, false, List, [], Option, None, Some, get_or}
+use Rattle.std.specs.Prelude.{◌≡◌, ◌<◌, ◌≤◌, ◌⊎◌, ℕ, Bool, true, false, List, [], get_or}
 use Rattle.go_base.specs.Lists.{Has}
 use Rattle.go_client_typings.specs.Bodies.{AreTypedBodies, HasUntyped}
 use Rattle.go_client_typings.specs.declared.vetted.Vetted.{Vetted}

@@ -13,7 +13,6 @@ use Rattle.go_units.specs.inner.Reaching.{AsksNew, FilesAskNew, HasModule, HasMo
 use Rattle.go_units.specs.declared.folder.Folder.{Folder}
 use Rattle.go_units.specs.declared.package_uses.PackageFile.{PackageFile}
 use Rattle.go_units.specs.declared.reader.Reading.{Reading}
-use Rattle.go_units.specs.declared.reader.Reading.TheVariants as reading
 use Rattle.go_units.specs.declared.unit_error.UnitError.{UnitError}
 use Rattle.go_units.specs.declared.unit_error.UnitError.TheVariants as error
 

@@ -1,7 +1,7 @@
 -- The folders that are read for a module with a client, one after another: those of the module in the order of their paths, and then always the one with the least path among those of the
 -- standard library for which a package that is read asks, or the client. The client imports as a package of the module does.
 -- Public source: Go specification, "Import declarations". Own: the order; that the client is read after the module's folders.
-use Rattle.std.specs.Prelude.{◌≡◌, ◌<◌, ◌⊎◌, ℕ, true, false, Some, None, List, [], length, slice_set, Result, Ok, Err}
+use Rattle.std.specs.Prelude.{◌≡◌, ◌<◌, ◌⊎◌, ℕ, false, Some, List, [], length, slice_set, Result, Ok, Err}
 use Rattle.go_imports.specs.Gives.{Gives}
 use Rattle.go_imports.specs.declared.package_files.SourceFile.{SourceFile}
 use Rattle.go_client_walks.specs.declared.units.WalkedClient.{WalkedClient}

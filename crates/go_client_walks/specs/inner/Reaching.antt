@@ -1,5 +1,5 @@
 -- What the functions keep that read one folder after another.
-use Rattle.std.specs.Prelude.{◌≡◌, ◌<◌, ◌⊎◌, ℕ, false, List, length, Result, Ok, Err}
+use Rattle.std.specs.Prelude.{◌≡◌, ◌⊎◌, ℕ, false, List, length, Result, Ok, Err}
 use Rattle.go_base.specs.Lists.{Has}
 use Rattle.go_client_walks.specs.ClientWalks.{IsAskedWith, IsFirstRefusal, IsOwnRefusal, Walked}
 use Rattle.go_client_walks.specs.declared.units.WalkedClient.{WalkedClient}

@@ -1,8 +1,5 @@
-use Rattle.std.proofs.Common.{List, subst}
-use Rattle.go_client_walks.specs.ClientWalks.{AllAreRead}
 use Rattle.go_client_walks.proofs.WalkedFiles.{walked_rows, readable}
 use Rattle.go_client_walks.proofs.units.client_walk.Goals as goal
-use Rattle.go_units.specs.declared.package_uses.PackageFile.{PackageFile}
 
 pub finished-requires-clause-rows : goal.finished-requires-clause-rows
 finished-requires-clause-rows g c = walked_rows c.items.result.now c.args.module_path.now c.args.folders.now (g.R.FolderReader.gives c.args.reader.now) c.in-Ok.ensures.ok.walked
