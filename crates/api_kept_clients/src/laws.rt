@@ -2,10 +2,9 @@
 ghost use Rattle.std.specs.Prelude.{◌≡◌, ℕ, List};
 ghost use Rattle.go_model.specs.types.Terms.{client_path};
 ghost use Rattle.go_model.specs.worlds.Worlds.{IsWorld, Packages};
-ghost use Rattle.go_syntax.specs.declared.statement.LiteralBlock.{LiteralBlock};
 ghost use Rattle.go_type_images.specs.declared.pair.TypePair.{TypePair};
 ghost use Rattle.go_typings.specs.Sources.{PackageSource};
-ghost use Rattle.go_client_packages.specs.ClientUnits.{IsTypedClient};
+ghost use Rattle.go_client_typings.specs.Clients.{Blocks, IsTypedClient};
 ghost use Rattle.api_correspond.specs.OwnedPairs.{HoldsOwned};
 ghost use Rattle.api_correspond.specs.Rules.{Compatible};
 ghost use Rattle.api_correspond.specs.SharedStd.{ShareStd};
@@ -17,7 +16,7 @@ ghost use Rattle.api_kept_relations.specs.StdTypes.{StdMethodsStay, StdStandsAlo
 /// new one: both with the packages of the standard library that it brings, and it imports public packages of the module and packages of the
 /// standard library that both sides have.
 pub fn compatible_clients()
-    ensures { (old new before after : Packages) (pairs : List TypePair) (bits : ℕ) (u : PackageSource) (blocks : ℕ → List LiteralBlock) → HoldsOwned old new pairs → Compatible old new → IsWorld old → IsWorld new → ShareStd old new → StdMethodsStay old
+    ensures { (old new before after : Packages) (pairs : List TypePair) (bits : ℕ) (u : PackageSource) (blocks : Blocks) → HoldsOwned old new pairs → Compatible old new → IsWorld old → IsWorld new → ShareStd old new → StdMethodsStay old
         → ServesClients old before → ServesClients new after → ShareStd before after → StdStandsAlone before → u.path ≡ client_path → ImportsShown old before after u
         → IsTypedClient (for_client bits before) u blocks → IsTypedClient (for_client bits after) u blocks }
 {}
@@ -25,7 +24,7 @@ pub fn compatible_clients()
 /// So it is over the worlds of lists of packages that are typed one after another, as those of two trees and of a client of each, where the
 /// standard library is the same.
 pub fn clients_of_units()
-    ensures { (bits : ℕ) (us vs bs xs : List PackageSource) (old new before after : Packages) (pairs : List TypePair) (u : PackageSource) (blocks : ℕ → List LiteralBlock) → ServesUnits bits us bs old before → ServesUnits bits vs xs new after
+    ensures { (bits : ℕ) (us vs bs xs : List PackageSource) (old new before after : Packages) (pairs : List TypePair) (u : PackageSource) (blocks : Blocks) → ServesUnits bits us bs old before → ServesUnits bits vs xs new after
         → ShareStdUnits us vs → ShareStdUnits bs xs → HoldsOwned old new pairs → Compatible old new → u.path ≡ client_path → ImportsShown old before after u
         → IsTypedClient (for_client bits before) u blocks → IsTypedClient (for_client bits after) u blocks }
 {}

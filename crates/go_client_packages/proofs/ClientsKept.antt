@@ -1,5 +1,5 @@
 -- A client's package that is typed with its bodies on the old side is so on the new one.
-use Rattle.std.proofs.Common.{◌≡◌, inl, inr, ℕ, zero, suc, Bool, true, false, List, [], ◌∷◌, map, refl, sym, ◌∙◌, subst, Option, Some, None}
+use Rattle.std.proofs.Common.{◌≡◌, inl, inr, ℕ, zero, suc, Bool, true, false, List, [], ◌∷◌, map, refl, sym, ap, ◌∙◌, subst, Option, Some, None}
 use Rattle.std.specs.Prelude.{if◌then◌else◌, slice_get}
 use Rattle.go_base.proofs.Members.{gather_of, has_split}
 use Rattle.go_base.specs.Gathered.{gather}
@@ -30,9 +30,10 @@ use Rattle.go_typings.specs.Sources.{PackageSource, Setting, SourceFile}
 use Rattle.go_client_types.specs.Keeping.{Keeps}
 use Rattle.go_client_types.proofs.FoundTypes.{in_map}
 use Rattle.go_client_statements.proofs.Bodies.{body_kept, outside_kept}
+use Rattle.go_client_typings.specs.Bodies.{AreTypedBodies, IsTypedFunc, func_in}
+use Rattle.go_client_typings.specs.Clients.{Blocks, IsTypedClient, blocks_in}
 use Rattle.go_client_packages.specs.ClientEntries.{entries_image}
 use Rattle.go_client_packages.specs.ClientSettings.{KeepsSettings}
-use Rattle.go_client_packages.specs.ClientUnits.{HasTypedBody, HasTypedStatements, IsTypedClient}
 use Rattle.go_client_packages.proofs.EntriesKept.{entries_reached}
 use Rattle.go_client_packages.proofs.Environments.{environment_kept}
 use Rattle.go_client_packages.proofs.Lengths.{below_length}
@@ -75,14 +76,10 @@ in_files file (x ∷ xs) d h = elim (has_split (map (in_file file) (gather forms
   | inr k ↦ in_files (suc file) xs d k
 ]
 
-has_at : {A : Type 0} (xs : List A) (n : ℕ) (x : A) → slice_get xs n ≡ Some x → HasItem xs x
-has_at [] zero x e = absurd (none_some e)
-has_at [] (suc n) x e = absurd (none_some e)
-has_at (y ∷ ys) zero x e = inl (one_some e)
-has_at (y ∷ ys) (suc n) x e = inr (has_at ys n x e)
-
-receives : (u : PackageSource) (n : ℕ) (d : Declaration) → slice_get (declarations u) n ≡ Some d → Receives d.form
-receives u n d e = in_files 0 u.files d (has_at (declarations u) n d e)
+numbered : {A : Type 0} (xs : List A) (x : A) → HasItem xs x → (n : ℕ) × (slice_get xs n ≡ Some x)
+numbered [] x h = absurd h
+numbered (y ∷ ys) x (inl e) = (zero, ap Some e)
+numbered (y ∷ ys) x (inr h) = let g = numbered ys x h in (suc g.0, g.1)
 
 -- ---- statements
 
@@ -90,7 +87,7 @@ module _ (E F : Env) (r : Naming) (pairs : List TypePair) (std : TypeName → Bo
   own_receiver : (p : ParameterDecl) (f : Func) → f.receiver ≡ Some p → Meets E (type (out-ParameterDecl p).type_) → (d : ParameterDecl) → f.receiver ≡ Some d → Meets E (type (out-ParameterDecl d).type_)
   own_receiver p f i m d e = subst (λ (z : ParameterDecl). Meets E (type (out-ParameterDecl z).type_)) (one_some (sym i ∙ e)) m
 
-  body_stays : (f : Form) → Receives f → Each (Meets E) (nodes f) → HasTypedBody E blocks f → HasTypedBody F blocks f
+  body_stays : (f : Form) → Receives f → Each (Meets E) (nodes f) → IsTypedFunc E blocks (func_in f) → IsTypedFunc F blocks (func_in f)
   body_stays (function f) i m h = body_kept E F r pairs std is_open K blocks f (λ d e. absurd (none_some (sym i ∙ e))) m.0 h
   body_stays (method p f) i m h = body_kept E F r pairs std is_open K blocks f (own_receiver p f i m.0) m.1.0 h
   body_stays (constants s place) i m h = h
@@ -102,12 +99,12 @@ module _ (E F : Env) (r : Naming) (pairs : List TypePair) (std : TypeName → Bo
   outside_stays [] m h = tt
   outside_stays (n ∷ ns) m h = (outside_kept E F r pairs std is_open K blocks n m.0 h.0, outside_stays ns m.1 h.1)
 
-  statements_kept : (f : Form) → Receives f → Each (Meets E) (nodes f) → HasTypedStatements E blocks f → HasTypedStatements F blocks f
-  statements_kept f i m h = record { body = body_stays f i m h.body; outside = outside_stays (nodes f) m h.outside }
+  bodies_kept : (f : Form) → Receives f → Each (Meets E) (nodes f) → AreTypedBodies E blocks f → AreTypedBodies F blocks f
+  bodies_kept f i m h = record { body = body_stays f i m h.body; literals = outside_stays (nodes f) m h.literals }
 
 -- ---- the package
 
-module _ (s t : Setting) (u : PackageSource) (r : Naming) (pairs : List TypePair) (std : TypeName → Bool) (is_open : Sel → Bool) (K : KeepsSettings s t u r pairs std is_open) (blocks : ℕ → List LiteralBlock) where
+module _ (s t : Setting) (u : PackageSource) (r : Naming) (pairs : List TypePair) (std : TypeName → Bool) (is_open : Sel → Bool) (K : KeepsSettings s t u r pairs std is_open) (blocks : Blocks) where
   pub client_kept : IsTypedClient s u blocks → IsTypedClient t u blocks
   client_kept c =
       let a = c.entries in
@@ -118,7 +115,8 @@ module _ (s t : Setting) (u : PackageSource) (r : Naming) (pairs : List TypePair
         found = c.found;
         entries = entries_image r a;
         typing = typing_kept s t u r pairs std is_open K a c.typing;
-        statements = λ n d e. (
-            let met = (asked_at s u all a c.typing n d (within n _ (below_length (declarations u) n d e)) e).meets in
-            statements_kept (environment s u a d) (environment t u (entries_image r a) d) r pairs std is_open (environment_kept s t u r pairs std is_open K a h d) (blocks d.file) d.form (receives u n d e) met (c.statements n d e));
+        bodies = λ d has. (
+            let n = numbered (declarations u) d has in
+            let met = (asked_at s u all a c.typing n.0 d (within n.0 _ (below_length (declarations u) n.0 d n.1)) n.1).meets in
+            bodies_kept (environment s u a d) (environment t u (entries_image r a) d) r pairs std is_open (environment_kept s t u r pairs std is_open K a h d) (blocks_in blocks d.file) d.form (in_files 0 u.files d has) met (c.bodies d has));
       }

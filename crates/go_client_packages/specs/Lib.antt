@@ -1,3 +1,2 @@
 pub mod ClientEntries
 pub mod ClientSettings
-pub mod ClientUnits

@@ -4,7 +4,6 @@ ghost use Rattle.go_base.specs.Lists.{Each};
 ghost use Rattle.go_model.specs.declared.types.names.Sel.{Sel};
 ghost use Rattle.go_model.specs.declared.types.names.TypeName.{TypeName};
 ghost use Rattle.go_rules.specs.Asks.{Meets};
-ghost use Rattle.go_syntax.specs.declared.statement.LiteralBlock.{LiteralBlock};
 ghost use Rattle.go_type_images.specs.Images.{Naming};
 ghost use Rattle.go_type_images.specs.declared.pair.TypePair.{TypePair};
 ghost use Rattle.go_typings.specs.Assignments.{Below, Within};
@@ -19,7 +18,7 @@ ghost use Rattle.go_typings.specs.Typings.{IsTyping, Typing, given};
 ghost use Rattle.go_client_types.specs.Keeping.{Keeps};
 ghost use Rattle.go_client_packages.specs.ClientEntries.{DefinesNone, EntriesReached, EntryReached, entries_image, entry_image};
 ghost use Rattle.go_client_packages.specs.ClientSettings.{KeepsSettings};
-ghost use Rattle.go_client_packages.specs.ClientUnits.{IsTypedClient};
+ghost use Rattle.go_client_typings.specs.Clients.{Blocks, IsTypedClient};
 
 /// Over packages that keep what a client is given, the environment of each of its declarations keeps the old one, where the entries have
 /// their images. A declaration that defines no type is given the image of its entry there, and is asked what it was; and ranks fall along
@@ -52,5 +51,5 @@ pub fn kept_typings()
 
 /// Over such packages a client's package that is typed with its bodies on the old side is so on the new one.
 pub fn kept_clients()
-    ensures { (s t : Setting) (u : PackageSource) (r : Naming) (pairs : List TypePair) (std : TypeName → Bool) (is_open : Sel → Bool) → KeepsSettings s t u r pairs std is_open → (blocks : ℕ → List LiteralBlock) → IsTypedClient s u blocks → IsTypedClient t u blocks }
+    ensures { (s t : Setting) (u : PackageSource) (r : Naming) (pairs : List TypePair) (std : TypeName → Bool) (is_open : Sel → Bool) → KeepsSettings s t u r pairs std is_open → (blocks : Blocks) → IsTypedClient s u blocks → IsTypedClient t u blocks }
 {}
