@@ -75,6 +75,8 @@ tree("keys of a struct's literal")(lambda share: module("package p\ntype T struc
 
 # declarations
 one_file("constants of a group", "const (\nA = iota\n", lambda n: "a%d\n" % n, lambda last: ")\n")
+tree("a long expression that constants repeat")(lambda share: module("package p\nconst (\nA = 1" + "+1" * (1000000 // share) + "\n" + "".join("a%d\n" % n for n in range(250000 // share)) + ")\n"))
+one_file("constants of texts of 65,000 bytes", 'const s = "' + "x" * 65000 + '"\n', lambda n: "const s%d = s\n" % n, statuses=(0, 6))
 one_file("constants of later ones", "", lambda n: "const c%d = c%d\n" % (n, n + 1), lambda last: "const c%d = 1\n" % (last + 1))
 one_file("variables of one", "var a int\n", lambda n: "var v%d = a\n" % n)
 one_file("declarations of the last", "", lambda n: "var v%d z\n" % n, lambda last: "type z int\n")
@@ -84,6 +86,7 @@ one_file("aliases of later ones", "", lambda n: "type t%d = t%d\n" % (n, n + 1),
 one_file("types of later ones", "", lambda n: "type t%d t%d\n" % (n, n + 1), lambda last: "type t%d int\n" % (last + 1))
 one_file("embedded pointers", "type t0 struct{ F int }\n", lambda n: "type t%d struct{ *t%d }\n" % (n, n - 1), lambda last: "type Top struct{ t%d }\n" % last)
 one_file("embedded interfaces", "type t0 interface{ M() }\n", lambda n: "type t%d interface{ t%d }\n" % (n, n - 1), lambda last: "type Top interface{ t%d }\n" % last)
+tree("an interface that one embeds again and again", "features", (0, 6))(lambda share: module("package p\ntype I interface {" + "".join("m%d();" % n for n in range(200000 // share)) + "}\ntype J interface {" + "I;" * (900000 // share) + "}\n"))
 one_file("fields", "type X struct {\n", lambda n: "F%d int\n" % n, lambda last: "}\n")
 one_file("methods of an interface", "type X interface {\n", lambda n: "M%d()\n" % n, lambda last: "}\n")
 one_file("methods of a type", "type X int\n", lambda n: "func (X) M%d()\n" % n)
