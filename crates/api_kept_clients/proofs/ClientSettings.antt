@@ -1,6 +1,5 @@
 -- Compatible worlds keep what a client is given.
-use Rattle.std.proofs.Common.{◌≡◌, ◌⊎◌, inl, inr, ℕ, Bool, true, List, [], refl, sym, ap, ◌∙◌, subst, Option, Some, None}
-use Rattle.go_base.specs.Lists.{Has}
+use Rattle.std.proofs.Common.{◌≡◌, ◌⊎◌, inl, inr, ℕ, true, List, [], refl, sym, ap, ◌∙◌, subst, Option, Some}
 use Rattle.go_model.specs.declared.types.package.Entity.{Entity}
 use Rattle.go_model.specs.declared.types.package.Package.{Package}
 use Rattle.go_model.specs.types.Tables.{Table}
@@ -12,8 +11,7 @@ use Rattle.go_type_images.specs.NewNames.{new_name}
 use Rattle.go_type_images.specs.declared.pair.TypePair.{TypePair}
 use Rattle.go_typings.proofs.Cells.{either, none_some}
 use Rattle.go_typings.proofs.HeldImports.{path_found, path_missing}
-use Rattle.go_typings.specs.PackageEnvironments.{had_path}
-use Rattle.go_typings.specs.Sources.{Import, PackageSource, imports_of}
+use Rattle.go_typings.specs.Sources.{PackageSource}
 use Rattle.go_client_types.specs.Keeping.{EntityReached, IsKeptEntity}
 use Rattle.go_client_packages.specs.ClientSettings.{Holds, KeepsSettings, object_at}
 use Rattle.api_correspond.specs.OwnedPairs.{HoldsOwned}

@@ -1,6 +1,5 @@
 -- The worlds of lists of packages are as a client of them asks.
 use Rattle.std.proofs.Common.{◌≡◌, ℕ, List, [], sym, ◌∙◌, None}
-use Rattle.go_base.specs.Lists.{Has}
 use Rattle.go_model.specs.worlds.Worlds.{IsWorld, Packages}
 use Rattle.go_type_images.specs.declared.pair.TypePair.{TypePair}
 use Rattle.go_typings.specs.Sources.{PackageSource}
@@ -31,9 +30,9 @@ is_world bits us w a x k = world_in_turn bits k.become no_world a.own_paths x (n
 share_std : (bits : ℕ) (us vs : List PackageSource) (w v : Packages) → KeepStdApart us → KeepStdApart vs → HavePaths us → HavePaths vs → ShareStdUnits us vs → IsWorldOf bits us w → IsWorldOf bits vs v → ShareStd w v
 share_std bits us vs w v a b x y s k l = record {
   sides = λ path p q e f. (
-    let g = written_side bits us w a x k path p e in
-    let h = written_side bits vs v b y l path q f in
-    g.3 ∙ s.sides g.0 h.0 g.1 h.1 (g.2 ∙ sym h.2) ∙ sym h.3);
+      let g = written_side bits us w a x k path p e in
+      let h = written_side bits vs v b y l path q f in
+      g.3 ∙ s.sides g.0 h.0 g.1 h.1 (g.2 ∙ sym h.2) ∙ sym h.3);
   same = λ path p q e f std. same_std bits us vs w v a b x y s.same k l path p q e f std;
 }
 

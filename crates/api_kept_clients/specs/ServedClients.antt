@@ -1,6 +1,6 @@
 -- The world that a client of another world is typed over, and what the client imports of it.
 -- Own: a client brings packages of the standard library that the other world may lack.
-use Rattle.std.specs.Prelude.{◌≡◌, ◌⊎◌, ℕ, Bool, true, List, [], Option, None, Some}
+use Rattle.std.specs.Prelude.{◌≡◌, ◌⊎◌, ℕ, true, List, [], None, Some}
 use Rattle.go_base.specs.Lists.{Has}
 use Rattle.go_model.specs.declared.types.package.Package.{Package}
 use Rattle.go_model.specs.worlds.Worlds.{IsWorld, Packages}

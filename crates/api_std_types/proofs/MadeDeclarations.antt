@@ -1,5 +1,5 @@
 -- What a declaration is given is of made types, where the environment is.
-use Rattle.std.proofs.Common.{◌≡◌, ℕ, zero, suc, List, Option, map, sym, subst}
+use Rattle.std.proofs.Common.{ℕ, zero, suc, List, Option, map, sym, subst}
 use Rattle.std.specs.Prelude.{replicate}
 use Rattle.go_base.specs.Lists.{Each, Has as HasItem}
 use Rattle.go_model.specs.declared.constants.value.Untyped.TheVariants as untyped

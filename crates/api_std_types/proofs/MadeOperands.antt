@@ -1,5 +1,5 @@
 -- What names denote, and what operators, conversions and slice expressions make of operands of made types, is of made types.
-use Rattle.std.proofs.Common.{◌≡◌, inl, inr, ℕ, Bool, List, [], ◌∷◌, Option, Some, None, map, refl, sym, ◌∙◌, subst}
+use Rattle.std.proofs.Common.{◌≡◌, inl, ℕ, Bool, List, [], ◌∷◌, Option, Some, None, map, refl, sym, ◌∙◌, subst}
 use Rattle.go_base.specs.Lists.{Each, Has}
 use Rattle.go_base.specs.declared.operator.CompareOp.{CompareOp}
 use Rattle.go_model.specs.declared.constants.value.Basic.TheVariants as basic

@@ -1,9 +1,8 @@
 -- A package is of made types, where what it is typed over is, and what it declares.
-use Rattle.std.proofs.Common.{◌≡◌, ℕ, zero, suc, ◌<◌, Bool, true, false, List, [], ◌∷◌, Option, Some, None, refl, sym, ap, ◌∙◌, subst, inl, inr, arith}
+use Rattle.std.proofs.Common.{◌≡◌, ℕ, zero, suc, ◌<◌, Bool, false, List, [], ◌∷◌, Option, Some, None, refl, sym, ap, ◌∙◌, subst, inl, inr, arith}
 use Rattle.std.specs.Prelude.{slice_get}
 use Rattle.std.specs.Option.{option_or}
 use Rattle.std.specs.Str.{bytes_eq}
-use Rattle.go_base.proofs.Members.{each_has}
 use Rattle.go_base.specs.Keys.{first_with}
 use Rattle.go_base.specs.Lists.{Each, Has}
 use Rattle.go_model.specs.declared.constants.value.Basic.TheVariants as basic
@@ -17,12 +16,11 @@ use Rattle.go_model.specs.declared.types.package.Object.{Object}
 use Rattle.go_model.specs.declared.types.package.Package.{Package}
 use Rattle.go_model.specs.declared.types.term.Method.{out-Method}
 use Rattle.go_model.specs.declared.types.term.Signature.{Signature}
-use Rattle.go_model.specs.declared.types.term.Term.{Term-F, roll-Term}
+use Rattle.go_model.specs.declared.types.term.Term.{Term-F}
 use Rattle.go_model.specs.types.MethodSets.{method_sel}
 use Rattle.go_model.specs.types.Terms.{error_method, error_type, is_error}
 use Rattle.go_model.specs.types.Underlying.{entry}
 use Rattle.go_model.specs.worlds.Worlds.{defined_in, name_of, object_in, object_name, path_of, table_of}
-use Rattle.go_rules.proofs.LocalTypes.{each_made}
 use Rattle.go_rules.specs.Operands.{basic_term}
 use Rattle.go_rules.specs.Regions.{error_name}
 use Rattle.go_rules.specs.Scopes.{as_import, entity_of, of_universe}

@@ -1,5 +1,5 @@
 -- Types that are made of names, labels of fields and methods which are as is said.
-use Rattle.std.proofs.Common.{◌≡◌, inl, inr, ℕ, zero, suc, Bool, true, false, List, [], ◌∷◌, ◌++◌, length, map, replicate, refl, sym, ap, ◌∙◌, subst, Some, None}
+use Rattle.std.proofs.Common.{◌≡◌, inl, inr, ℕ, zero, suc, Bool, List, [], ◌∷◌, ◌++◌, length, map, replicate, refl, sym, subst, Some}
 use Rattle.go_base.proofs.Members.{each_has, has_split}
 use Rattle.go_base.specs.Lists.{Each, Has}
 use Rattle.go_model.specs.declared.constants.value.Basic.{Basic}
@@ -7,9 +7,9 @@ use Rattle.go_model.specs.declared.types.names.Sel.{Sel}
 use Rattle.go_model.specs.declared.types.names.TypeName.{TypeName}
 use Rattle.go_model.specs.declared.types.package.Defined.{Defined}
 use Rattle.go_model.specs.declared.types.package.MethodOf.{MethodOf}
-use Rattle.go_model.specs.declared.types.term.Field.{Field, out-Field, roll-Field, out-roll-Field}
+use Rattle.go_model.specs.declared.types.term.Field.{Field, roll-Field, out-roll-Field}
 use Rattle.go_model.specs.declared.types.term.Method.{Method, out-Method, roll-Method, out-roll-Method}
-use Rattle.go_model.specs.declared.types.term.Signature.{Signature, out-Signature, roll-Signature, out-roll-Signature}
+use Rattle.go_model.specs.declared.types.term.Signature.{Signature, out-Signature, out-roll-Signature}
 use Rattle.go_model.specs.declared.types.term.Term.{Term, Term-F, out-Term, roll-Term, out-roll-Term}
 use Rattle.go_model.specs.types.Members.{field_sel}
 use Rattle.go_model.specs.types.MethodSets.{method_sel}

@@ -1,5 +1,5 @@
 -- All names and all selectors in a made type are as is said.
-use Rattle.std.proofs.Common.{◌≡◌, ◌⊎◌, inl, inr, Bool, true, List, [], ◌∷◌, ◌++◌, map, refl, sym, ap, ◌∙◌, subst}
+use Rattle.std.proofs.Common.{◌≡◌, inl, inr, Bool, true, List, [], ◌∷◌, ◌++◌, map, refl, sym, ap, ◌∙◌, subst}
 use Rattle.go_base.specs.Gathered.{gather}
 use Rattle.go_base.specs.Lists.{Each, Has, Passes}
 use Rattle.go_model.specs.declared.types.names.Sel.{Sel}
@@ -16,7 +16,7 @@ use Rattle.go_model.specs.types.TypeSelectors.{Sels, field_sels, method_sels, pa
 use Rattle.go_rules.proofs.LocalTerms.{each_passes, passes_both}
 use Rattle.go_rules.proofs.LocalTypes.{each_made}
 use Rattle.go_selectors.proofs.Lists.{gather-append}
-use Rattle.go_type_images.specs.Parts.{field_type, function_type, method_type, parts}
+use Rattle.go_type_images.specs.Parts.{field_type, method_type, parts}
 use Rattle.go_shared_types.proofs.Items.{in_map}
 use Rattle.go_shared_types.proofs.PartNames.{names_of_function, selectors_of_function}
 use Rattle.api_std_types.proofs.MadeTypes.{IsLevel, Made, made}

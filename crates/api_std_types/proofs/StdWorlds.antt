@@ -1,5 +1,5 @@
 -- In the world of packages that are typed one after another the standard library leads to itself alone, and has its methods only with its types.
-use Rattle.std.proofs.Common.{◌≡◌, ◌⊎◌, inl, inr, ℕ, Bool, true, false, ◌||◌, List, [], ◌∷◌, ◌++◌, Option, Some, None, map, refl, sym, ap, ◌∙◌, subst, if◌then◌else◌}
+use Rattle.std.proofs.Common.{◌≡◌, ◌⊎◌, inl, inr, ℕ, Bool, true, false, ◌||◌, List, [], ◌∷◌, Option, Some, None, map, refl, sym, ap, ◌∙◌, subst, if◌then◌else◌}
 use Rattle.std.specs.Str.{bytes_eq}
 use Rattle.std.proofs.lemmas.Slice.Eq.{bytes_eq-Decides}
 use Rattle.go_base.specs.Gathered.{gather}
@@ -24,16 +24,15 @@ use Rattle.go_model.specs.types.TypeNames.{names, signature_names}
 use Rattle.go_model.specs.types.TypeSelectors.{selectors, signature_selectors}
 use Rattle.go_model.specs.types.Underlying.{entry, methods_of}
 use Rattle.go_model.specs.worlds.PackageTypes.{declared_selectors, defined_names, defined_selectors, object_names, object_selectors, of_entity, package_names, package_selectors}
-use Rattle.go_model.specs.worlds.Worlds.{Packages, name_of, object_in, object_name, path_of, with_package}
+use Rattle.go_model.specs.worlds.Worlds.{Packages, object_in, object_name, path_of, with_package}
 use Rattle.go_rules.proofs.LocalTerms.{each_passes, passes_both}
 use Rattle.go_rules.proofs.LocalTypes.{each_made}
 use Rattle.go_rules.proofs.OneKind.{no_truth}
 use Rattle.go_rules.specs.Environments.{is_exported}
 use Rattle.go_type_images.specs.Parts.{function_type, method_type, parts}
-use Rattle.go_shared_types.proofs.Items.{in_map}
 use Rattle.go_shared_types.proofs.PartNames.{error_sel, names_of_function, selectors_of_function}
 use Rattle.go_typed_packages.proofs.Lists.{own_placed}
-use Rattle.go_typings.proofs.Cells.{either, if_false, if_true, maybe, none_some, some_once}
+use Rattle.go_typings.proofs.Cells.{either, if_false, if_true, none_some, some_once}
 use Rattle.go_typings.proofs.HeldImports.{path_found, path_missing}
 use Rattle.go_typings.proofs.ReachedRegion.{first_has}
 use Rattle.go_typings.specs.PackageEnvironments.{had_path}
@@ -45,7 +44,7 @@ use Rattle.go_exposed.specs.OfferedWorlds.{Become, IsWorldOf, become_more, becom
 use Rattle.go_std_worlds.proofs.MoreLists.{found_after, found_still, key_finds}
 use Rattle.go_std_worlds.specs.StdSources.{HavePaths, KeepStdApart}
 use Rattle.go_unit_worlds.proofs.WorldsInTurn.{AreNew, Keeps, all_new, keeps_next, keeps_none, new_rest, or_left, or_right}
-use Rattle.api_correspond.specs.Publics.{Exports, of_std, package_at, types_of}
+use Rattle.api_correspond.specs.Publics.{of_std, package_at, types_of}
 use Rattle.api_correspond.specs.Rules.{is_std_sel}
 use Rattle.api_kept_relations.specs.StdTypes.{EntityHasStdMethods, HasStdMethods, IsOfStd, StdMethodsStay, StdStandsAlone, is_open_sel, is_std_name, std_methods}
 use Rattle.api_std_types.proofs.MadeTypes.{DefinedMade, IsLevel, Made, made}

@@ -1,16 +1,14 @@
 -- What a client's declaration is asked besides what it is given, once all is given, it is asked on the new side as well.
-use Rattle.std.proofs.Common.{◌≡◌, ◌≢◌, inl, inr, ℕ, Bool, true, false, ◌&&◌, List, [], ◌∷◌, length, map, refl, sym, ap, ◌∙◌, subst, Option, Some, None}
+use Rattle.std.proofs.Common.{◌≡◌, inl, inr, ℕ, Bool, false, ◌&&◌, List, [], ◌∷◌, length, map, refl, sym, ap, ◌∙◌, subst, Some}
 use Rattle.std.specs.Prelude.{codes}
 use Rattle.std.specs.Str.{bytes_eq}
 use Rattle.go_base.specs.Lists.{Each, Has as HasItem}
 use Rattle.go_model.specs.declared.types.names.Sel.{Sel}
 use Rattle.go_model.specs.declared.types.names.TypeName.{TypeName}
-use Rattle.go_model.specs.declared.types.package.Defined.{Defined}
 use Rattle.go_model.specs.declared.types.term.Field.{Field, out-Field}
-use Rattle.go_model.specs.declared.types.term.Term.{Term, Term-F, out-Term}
-use Rattle.go_model.specs.types.Imports.{is_imported}
+use Rattle.go_model.specs.declared.types.term.Term.{Term-F, out-Term}
 use Rattle.go_model.specs.types.Terms.{Layer, client_path, error_type, is_error}
-use Rattle.go_model.specs.types.Underlying.{entry, fields_of}
+use Rattle.go_model.specs.types.Underlying.{entry}
 use Rattle.go_model.specs.worlds.Worlds.{bars_methods}
 use Rattle.go_rules.specs.Asks.{Meets}
 use Rattle.go_rules.specs.Environments.{Env}
@@ -18,7 +16,7 @@ use Rattle.go_rules.specs.Nodes.{Node}
 use Rattle.go_syntax.specs.declared.declaration.Func.{Func}
 use Rattle.go_syntax.specs.declared.types.ParameterDecl.{ParameterDecl}
 use Rattle.go_type_images.specs.EntryImages.{defined_to, entry_to}
-use Rattle.go_type_images.specs.Images.{Naming, image, image_of_field, image_of_layer, same_sels}
+use Rattle.go_type_images.specs.Images.{Naming, image_of_field, image_of_layer, same_sels}
 use Rattle.go_type_images.specs.declared.pair.TypePair.{TypePair}
 use Rattle.go_type_images.proofs.ImageLevels.{out_image, out_image_field}
 use Rattle.go_typings.proofs.Cells.{if_false}

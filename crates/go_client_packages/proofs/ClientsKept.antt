@@ -1,5 +1,5 @@
 -- A client's package that is typed with its bodies on the old side is so on the new one.
-use Rattle.std.proofs.Common.{◌≡◌, inl, inr, ℕ, zero, suc, Bool, true, false, List, [], ◌∷◌, map, refl, sym, ap, ◌∙◌, subst, Option, Some, None}
+use Rattle.std.proofs.Common.{◌≡◌, inl, inr, ℕ, zero, suc, Bool, true, false, List, [], ◌∷◌, map, refl, sym, ◌∙◌, subst, Option, Some, None}
 use Rattle.std.specs.Prelude.{if◌then◌else◌, slice_get}
 use Rattle.go_base.proofs.Members.{gather_of, has_split}
 use Rattle.go_base.specs.Gathered.{gather}
@@ -10,7 +10,7 @@ use Rattle.go_rules.specs.Asks.{Meets}
 use Rattle.go_rules.specs.Environments.{Env}
 use Rattle.go_rules.specs.Nodes.{Node, type}
 use Rattle.go_rules.proofs.OneName.{none_some, one_some}
-use Rattle.go_statement_rules.specs.Bodies.{AreTypedOutside, IsTypedBody}
+use Rattle.go_statement_rules.specs.Bodies.{AreTypedOutside}
 use Rattle.go_syntax.specs.declared.declaration.ConstSpec.{ConstSpec}
 use Rattle.go_syntax.specs.declared.declaration.Decl.{Decl}
 use Rattle.go_syntax.specs.declared.declaration.Decl.TheVariants as decl
@@ -69,9 +69,9 @@ in_files : (file : ℕ) (fs : List SourceFile) (d : Declaration) → HasItem (de
 in_files file [] d h = absurd h
 in_files file (x ∷ xs) d h = elim (has_split (map (in_file file) (gather forms x.declarations)) (declarations_from (suc file) xs) d h) [
   | inl k ↦ (
-    let g = in_map (in_file file) (gather forms x.declarations) d k in
-    let w = gather_of forms x.declarations g.0 g.1 in
-    subst (λ (z : Declaration). Receives z.form) g.2 (in_forms w.0 g.0 w.2))
+      let g = in_map (in_file file) (gather forms x.declarations) d k in
+      let w = gather_of forms x.declarations g.0 g.1 in
+      subst (λ (z : Declaration). Receives z.form) g.2 (in_forms w.0 g.0 w.2))
   | inr k ↦ in_files (suc file) xs d k
 ]
 
@@ -119,6 +119,6 @@ module _ (s t : Setting) (u : PackageSource) (r : Naming) (pairs : List TypePair
         entries = entries_image r a;
         typing = typing_kept s t u r pairs std is_open K a c.typing;
         statements = λ n d e. (
-          let met = (asked_at s u all a c.typing n d (within n _ (below_length (declarations u) n d e)) e).meets in
-          statements_kept (environment s u a d) (environment t u (entries_image r a) d) r pairs std is_open (environment_kept s t u r pairs std is_open K a h d) (blocks d.file) d.form (receives u n d e) met (c.statements n d e));
+            let met = (asked_at s u all a c.typing n d (within n _ (below_length (declarations u) n d e)) e).meets in
+            statements_kept (environment s u a d) (environment t u (entries_image r a) d) r pairs std is_open (environment_kept s t u r pairs std is_open K a h d) (blocks d.file) d.form (receives u n d e) met (c.statements n d e));
       }

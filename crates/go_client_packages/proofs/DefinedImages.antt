@@ -1,6 +1,6 @@
 -- A declaration of a client is given on the new side the image of its entry; with it is known where the names of types lead by aliases.
 use Rattle.std.proofs.Common.{◌≡◌, ◌⊎◌, inl, inr, ℕ, zero, suc, ◌≤◌, Bool, true, false, List, [], ◌∷◌, length, map, replicate, refl, sym, ap, ◌∙◌, subst, Option, Some, None}
-use Rattle.std.specs.Prelude.{is_some, slice_get}
+use Rattle.std.specs.Prelude.{slice_get}
 use Rattle.go_base.specs.Lists.{Each, Has as HasItem}
 use Rattle.go_model.specs.declared.types.names.Sel.{Sel}
 use Rattle.go_model.specs.declared.types.names.TypeName.{TypeName}
@@ -28,7 +28,7 @@ use Rattle.go_type_images.specs.declared.pair.TypePair.{TypePair}
 use Rattle.go_type_images.proofs.ImageLevels.{image_roll}
 use Rattle.go_typings.specs.DeclarationNodes.{nodes}
 use Rattle.go_typings.specs.DeclarationRules.{AreConstants, constants_more, constants_none, Gives, gives_alias, gives_constants, gives_definition, gives_function, gives_method, gives_typed_variables, gives_variables, MayDefine, is_name, is_qualified, is_struct_or_interface}
-use Rattle.go_typings.specs.Declarations.{Declaration, Form, alias, constants, declarations, definition, function, method, variables}
+use Rattle.go_typings.specs.Declarations.{Declaration, Form, alias, declarations, definition}
 use Rattle.go_typings.specs.PackageEnvironments.{Entries, Entry, environment, objects, underlying, signed}
 use Rattle.go_typings.specs.Receivers.{name_form, written_name}
 use Rattle.go_typings.specs.Sources.{PackageSource, Setting}

@@ -1,14 +1,12 @@
 -- The entries of a client's declarations: the images of those of a typing are had from below on the new side.
-use Rattle.std.proofs.Common.{◌≡◌, ◌⊎◌, inl, inr, ℕ, zero, suc, ◌<◌, ◌≤◌, Bool, true, false, List, [], length, refl, sym, ap, ◌∙◌, subst, Option, Some, None, if◌then◌else◌, arith}
+use Rattle.std.proofs.Common.{◌≡◌, ◌⊎◌, inl, inr, ℕ, zero, suc, ◌<◌, Bool, true, false, List, length, refl, sym, ap, ◌∙◌, subst, Option, Some, None, if◌then◌else◌, arith}
 use Rattle.std.specs.Prelude.{nat_lt, slice_get}
 use Rattle.std.proofs.lemmas.Option.{slice_get_within}
-use Rattle.go_base.specs.Lists.{Has as HasItem}
 use Rattle.go_model.specs.declared.types.names.Sel.{Sel}
 use Rattle.go_model.specs.declared.types.names.TypeName.{TypeName}
 use Rattle.go_model.specs.declared.types.package.Entity.{Entity}
 use Rattle.go_model.specs.declared.types.package.Entity.TheVariants as entity
-use Rattle.go_model.specs.declared.types.term.Term.{Term, Term-F, out-Term, out-roll-Term}
-use Rattle.go_rules.specs.Environments.{Env}
+use Rattle.go_model.specs.declared.types.term.Term.{Term, Term-F, out-roll-Term}
 use Rattle.go_rules.proofs.OneName.{one_some}
 use Rattle.go_soundness.proofs.DeclaredForms.{is_at}
 use Rattle.go_syntax.specs.declared.declaration.TypeSpec.{TypeSpec}
@@ -17,16 +15,15 @@ use Rattle.go_syntax.specs.declared.name.QualifiedName.{QualifiedName}
 use Rattle.go_type_images.specs.Images.{Naming}
 use Rattle.go_type_images.specs.declared.pair.TypePair.{TypePair}
 use Rattle.go_typed_packages.proofs.OwnDeclarations.{asked_at, had_within}
-use Rattle.go_typings.proofs.Cells.{before_has, before_within, either, some_once}
+use Rattle.go_typings.proofs.Cells.{before_has, before_within, some_once}
 use Rattle.go_typings.proofs.GrowEnvironments.{environment_more, object_back}
-use Rattle.go_typings.specs.Assignments.{At, Below, before}
+use Rattle.go_typings.specs.Assignments.{Below, before}
 use Rattle.go_typings.specs.DeclarationRules.{Gives}
 use Rattle.go_typings.specs.Declarations.{Form, alias, constants, definition, function, method, variables, Declaration, Declared, declarations, declared}
 use Rattle.go_typings.specs.PackageEnvironments.{Entries, Entry, entity_by, environment, object_of, objects, own_type}
 use Rattle.go_typings.specs.Receivers.{aliased, aliased_by, name_form, own_aliased, written_name}
 use Rattle.go_typings.specs.Sources.{PackageSource, Setting}
 use Rattle.go_typings.specs.Typings.{Typing, given}
-use Rattle.go_client_types.specs.Keeping.{Keeps}
 use Rattle.go_client_expressions.proofs.Expressions.{names_grow}
 use Rattle.go_client_packages.specs.ClientEntries.{EntriesReached, EntryReached, entries_image, entry_image, if_had}
 use Rattle.go_client_packages.specs.ClientSettings.{KeepsSettings}

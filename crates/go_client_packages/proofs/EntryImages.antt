@@ -1,13 +1,10 @@
 -- What a client has of its images of entries: the images of what it has of the entries.
-use Rattle.std.proofs.Common.{◌≡◌, ℕ, zero, suc, Bool, true, false, ◌&&◌, List, [], ◌∷◌, ◌++◌, map, refl, sym, ap, ◌∙◌, subst, Option, Some, None}
+use Rattle.std.proofs.Common.{◌≡◌, ℕ, zero, suc, Bool, true, false, ◌&&◌, List, [], ◌∷◌, ◌++◌, map, refl, sym, ap, ◌∙◌, Option, Some, None}
 use Rattle.std.specs.Prelude.{not, slice_get}
 use Rattle.std.specs.Option.{option_or}
 use Rattle.std.specs.Str.{bytes_eq}
 use Rattle.std.proofs.lemmas.Slice.Eq.{bytes_eq-Decides}
-use Rattle.go_base.specs.Gathered.{gather}
-use Rattle.go_model.specs.declared.types.names.Sel.{Sel}
 use Rattle.go_model.specs.declared.types.names.TypeName.{TypeName}
-use Rattle.go_model.specs.declared.types.package.Defined.{Defined}
 use Rattle.go_model.specs.declared.types.package.Entity.{Entity}
 use Rattle.go_model.specs.declared.types.package.Entity.TheVariants as entity
 use Rattle.go_model.specs.declared.types.package.MethodOf.{MethodOf}
@@ -18,8 +15,7 @@ use Rattle.go_model.specs.types.Terms.{client_path}
 use Rattle.go_rules.specs.Scopes.{as_import, of_universe}
 use Rattle.go_rules.specs.Universe.{predeclared}
 use Rattle.go_rules.specs.declared.predeclared.Predeclared.{Predeclared}
-use Rattle.go_rules.specs.declared.seen.Seen.{Seen}
-use Rattle.go_type_images.specs.EntryImages.{defined_to, entity_to, entry_to, method_to}
+use Rattle.go_type_images.specs.EntryImages.{entity_to, entry_to, method_to}
 use Rattle.go_type_images.specs.Images.{Naming, image, image_of_signature, same_sels}
 use Rattle.go_type_images.proofs.ImageLevels.{image_roll}
 use Rattle.go_type_images.proofs.ImageParts.{map_append}

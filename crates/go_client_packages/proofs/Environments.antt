@@ -10,13 +10,12 @@ use Rattle.go_model.specs.declared.types.names.Sel.{Sel}
 use Rattle.go_model.specs.declared.types.names.TypeName.{TypeName}
 use Rattle.go_model.specs.declared.types.package.Defined.{Defined}
 use Rattle.go_model.specs.declared.types.package.Entity.{Entity}
-use Rattle.go_model.specs.declared.types.package.Package.{Package}
 use Rattle.go_model.specs.types.Imports.{is_imported}
 use Rattle.go_model.specs.types.Tables.{Table}
 use Rattle.go_model.specs.types.Terms.{client_path, error_type, is_error}
 use Rattle.go_model.specs.types.Underlying.{entry}
 use Rattle.go_model.specs.worlds.Worlds.{Packages, defined_in, path_of, table_of}
-use Rattle.go_rules.specs.Environments.{Env, is_exported}
+use Rattle.go_rules.specs.Environments.{is_exported}
 use Rattle.go_rules.specs.Scopes.{as_import, of_universe}
 use Rattle.go_rules.specs.Universe.{predeclared}
 use Rattle.go_rules.specs.declared.predeclared.Predeclared.{Predeclared}

@@ -1,15 +1,13 @@
 -- Ranks that fall along the references of a client's declarations on the old side do so on the new one.
-use Rattle.std.proofs.Common.{◌≡◌, ℕ, Bool, true, List, Some}
-use Rattle.std.specs.Prelude.{slice_get}
+use Rattle.std.proofs.Common.{ℕ, Bool, List}
 use Rattle.go_model.specs.declared.types.names.Sel.{Sel}
 use Rattle.go_model.specs.declared.types.names.TypeName.{TypeName}
 use Rattle.go_type_images.specs.Images.{Naming}
 use Rattle.go_type_images.specs.declared.pair.TypePair.{TypePair}
 use Rattle.go_typed_packages.proofs.OwnDeclarations.{asked_at}
 use Rattle.go_typings.specs.DeclarationNodes.{strong_references}
-use Rattle.go_typings.specs.Declarations.{Declaration, declarations}
 use Rattle.go_typings.specs.PackageEnvironments.{Entries, environment}
-use Rattle.go_typings.specs.References.{Falls, NamesDeclaration}
+use Rattle.go_typings.specs.References.{Falls}
 use Rattle.go_typings.specs.Sources.{PackageSource, Setting}
 use Rattle.go_typings.specs.Typings.{Typing}
 use Rattle.go_client_packages.specs.ClientEntries.{EntriesReached, entries_image}

@@ -1,5 +1,5 @@
 -- A method of the client's own that a selector in a typed tree finds on the new side it finds on the old one.
-use Rattle.std.proofs.Common.{◌≡◌, ◌⊎◌, inl, inr, ℕ, Bool, true, false, List, [], ◌∷◌, ◌++◌, map, refl, sym, ap, ◌∙◌, subst, Option, Some, None}
+use Rattle.std.proofs.Common.{◌≡◌, ◌⊎◌, inl, inr, Bool, true, false, List, [], ◌∷◌, ◌++◌, refl, sym, ap, ◌∙◌, subst, Some}
 use Rattle.std.proofs.lemmas.Slice.Eq.{bytes_eq-Decides}
 use Rattle.go_base.specs.Lists.{Each}
 use Rattle.go_model.specs.declared.types.names.Sel.{Sel}
@@ -10,7 +10,7 @@ use Rattle.go_model.specs.types.Selectors.{Ending, is_defined_pointer, field as 
 use Rattle.go_model.specs.types.Terms.{IsBlank, blank, client_path}
 use Rattle.go_rules.specs.Asks.{Meets}
 use Rattle.go_rules.specs.Environments.{Env, Found, selector_of}
-use Rattle.go_rules.specs.Expressions.{Denotes, DenotesImported, Has, has_operand, HasForm, has_imported, has_name, has_primary, HasPost, post_builtin, post_call, post_conversion, post_field, post_method, post_method_expression, HasPosts, posts_more, posts_none, chain, is_blank, is_type}
+use Rattle.go_rules.specs.Expressions.{Denotes, DenotesImported, has_operand, HasForm, has_imported, has_name, has_primary, HasPost, post_builtin, post_call, post_conversion, post_field, post_method, post_method_expression, HasPosts, posts_more, posts_none, chain, is_blank, is_type}
 use Rattle.go_rules.specs.Nodes.{ExprLayer, Node, expression, expression_parts, post}
 use Rattle.go_rules.specs.Operands.{IsTyped, ShapeWithin, is_value_mode, type_name, typed_constant, typed_value}
 use Rattle.go_rules.specs.declared.operand.Operand.{Operand}

@@ -1,9 +1,8 @@
 -- A declaration of a client that defines no type is given on the new side the image of what it is given on the old one.
-use Rattle.std.proofs.Common.{◌≡◌, Bool, true, List, [], ◌∷◌, refl, sym, ap, subst, Option}
+use Rattle.std.proofs.Common.{◌≡◌, Bool, true, List, subst}
 use Rattle.go_base.specs.Lists.{Each}
 use Rattle.go_model.specs.declared.types.names.Sel.{Sel}
 use Rattle.go_model.specs.declared.types.names.TypeName.{TypeName}
-use Rattle.go_model.specs.declared.types.package.Entity.TheVariants as entity
 use Rattle.go_model.specs.declared.types.term.Signature.{Signature}
 use Rattle.go_model.specs.declared.types.term.Term.{Term, Term-F}
 use Rattle.go_model.specs.types.Bounds.{IsWithinBounds}
@@ -15,13 +14,13 @@ use Rattle.go_rules.specs.Operands.{function_of}
 use Rattle.go_rules.proofs.LocalParts.{each_left, each_right}
 use Rattle.go_syntax.specs.declared.name.QualifiedName.{QualifiedName}
 use Rattle.go_syntax.specs.declared.types.Signature.{Signature as Sig, out-Signature as out-Sig}
-use Rattle.go_type_images.specs.Images.{Naming, image, image_of_signature, same_sels}
+use Rattle.go_type_images.specs.Images.{Naming, image_of_signature, same_sels}
 use Rattle.go_type_images.specs.declared.pair.TypePair.{TypePair}
 use Rattle.go_type_images.proofs.ImageLevels.{image_roll}
 use Rattle.go_typings.specs.DeclarationNodes.{nodes}
 use Rattle.go_typings.specs.DeclarationRules.{Gives, gives_alias, gives_constants, gives_definition, gives_function, gives_method, gives_typed_variables, gives_variables}
-use Rattle.go_typings.specs.Declarations.{Declaration, Form, alias, constants, definition, function, method, variables}
-use Rattle.go_typings.specs.PackageEnvironments.{Entry, objects, signed}
+use Rattle.go_typings.specs.Declarations.{Declaration, Form}
+use Rattle.go_typings.specs.PackageEnvironments.{Entry, signed}
 use Rattle.go_client_types.specs.Keeping.{Keeps}
 use Rattle.go_client_types.proofs.Operands.{bounded}
 use Rattle.go_client_types.proofs.TypeForms.{meets_parts}

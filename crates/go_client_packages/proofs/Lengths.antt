@@ -1,5 +1,5 @@
 -- No length of an array of a client leads back on the new side, where none does on the old one.
-use Rattle.std.proofs.Common.{◌≡◌, ◌⊎◌, inl, inr, ℕ, zero, suc, ◌<◌, Bool, true, List, [], ◌∷◌, length, refl, sym, ap, ◌∙◌, subst, Option, Some, None, arith}
+use Rattle.std.proofs.Common.{◌≡◌, inl, inr, ℕ, zero, suc, ◌<◌, Bool, true, List, [], ◌∷◌, length, refl, sym, ap, ◌∙◌, subst, Some, arith}
 use Rattle.std.specs.Prelude.{slice_get}
 use Rattle.go_base.proofs.Members.{each_has}
 use Rattle.go_base.specs.Lists.{Has as HasItem}
@@ -15,7 +15,7 @@ use Rattle.go_type_images.specs.declared.pair.TypePair.{TypePair}
 use Rattle.go_typed_packages.proofs.OwnDeclarations.{asked_at, given_at, method_at}
 use Rattle.go_typings.proofs.Cells.{none_some, some_once}
 use Rattle.go_typings.proofs.SoundDeclarations.{within}
-use Rattle.go_typings.specs.Assignments.{At, all_of}
+use Rattle.go_typings.specs.Assignments.{all_of}
 use Rattle.go_typings.specs.DeclarationNodes.{length_references, nodes, references}
 use Rattle.go_typings.specs.Declarations.{Declaration, Form, alias, constants, declarations, definition, function, method, names_of, place_from, variables}
 use Rattle.go_typings.specs.PackageEnvironments.{Entries, environment}

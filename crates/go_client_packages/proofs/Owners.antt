@@ -9,9 +9,8 @@ use Rattle.go_model.specs.types.Tables.{Table}
 use Rattle.go_model.specs.types.Terms.{IsBlank, client_path}
 use Rattle.go_rules.specs.Asks.{IsOwnLayer}
 use Rattle.go_rules.specs.Environments.{Env, Found}
-use Rattle.go_rules.proofs.OneName.{one_some}
 use Rattle.go_type_images.specs.Images.{Naming, image, image_of_signature, same_sels}
-use Rattle.go_type_images.specs.SpotImages.{at_spot, ending_to, spot_to, target_to}
+use Rattle.go_type_images.specs.SpotImages.{at_spot, ending_to, target_to}
 use Rattle.go_type_images.specs.declared.pair.TypePair.{TypePair}
 use Rattle.go_client_types.specs.Endings.{end_at}
 use Rattle.go_client_types.specs.Keeping.{Keeps}

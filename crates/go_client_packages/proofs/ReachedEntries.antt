@@ -10,9 +10,9 @@ use Rattle.go_model.specs.declared.types.package.Defined.{Defined}
 use Rattle.go_model.specs.declared.types.package.Entity.{Entity}
 use Rattle.go_model.specs.declared.types.package.Entity.TheVariants as entity
 use Rattle.go_model.specs.declared.types.package.MethodOf.{MethodOf}
-use Rattle.go_model.specs.declared.types.term.Method.{Method, out-Method}
+use Rattle.go_model.specs.declared.types.term.Method.{out-Method}
 use Rattle.go_model.specs.declared.types.term.Signature.{Signature, out-Signature, roll-Signature, out-roll-Signature}
-use Rattle.go_model.specs.declared.types.term.Term.{Term, Term-F, out-Term, roll-Term, out-roll-Term}
+use Rattle.go_model.specs.declared.types.term.Term.{Term, Term-F, roll-Term, out-roll-Term}
 use Rattle.go_model.specs.types.Terms.{client_path, error_method, error_type}
 use Rattle.go_model.specs.types.TypeNames.{names}
 use Rattle.go_rules.specs.Environments.{is_exported}
@@ -30,7 +30,7 @@ use Rattle.go_type_images.specs.declared.pair.TypePair.{TypePair}
 use Rattle.go_typed_packages.proofs.OwnDeclarations.{had_as, method_at, own_type_of}
 use Rattle.go_typings.proofs.Cells.{none_some, some_once}
 use Rattle.go_typings.proofs.GrowEnvironments.{object_back}
-use Rattle.go_typings.specs.Declarations.{Form, constants, variables, alias, definition, function, method, Declared, declarations, declared}
+use Rattle.go_typings.specs.Declarations.{Form, constants, variables, alias, definition, function, method, Declared}
 use Rattle.go_typings.specs.PackageEnvironments.{Entries, objects, underlying, signed, as_object, entity_by, had, meaning_at, object_of, own_defined, own_type}
 use Rattle.go_typings.specs.Receivers.{methods, selector}
 use Rattle.go_typings.specs.Sources.{PackageSource}

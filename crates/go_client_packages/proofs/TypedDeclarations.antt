@@ -1,5 +1,5 @@
 -- The trees of a declaration that is given something are typed, but for the type of a receiver, in which no expression stands.
-use Rattle.std.proofs.Common.{◌≡◌, ◌⊎◌, inl, inr, ℕ, Bool, true, false, List, [], ◌∷◌, ◌++◌, map, length, refl, sym, ap, ◌∙◌, subst, Option, Some, None}
+use Rattle.std.proofs.Common.{◌≡◌, ◌⊎◌, inl, inr, ℕ, false, List, [], ◌∷◌, ◌++◌, map, length, refl, sym, ap, ◌∙◌, subst, Option, Some, None}
 use Rattle.go_base.proofs.Members.{each_has, has_split}
 use Rattle.go_base.specs.Lists.{Each, Has as HasItem}
 use Rattle.go_model.specs.declared.types.package.Entity.{Entity}

@@ -25,8 +25,8 @@ module _ (s t : Setting) (u : PackageSource) (r : Naming) (pairs : List TypePair
       record {
         had = images_had s t u r pairs std is_open K all a typing;
         asks = λ n i. (
-          let g = typing.asks n i in
-          (g.0, g.1, asks_kept (environment s u a g.0) (environment t u (entries_image r a) g.0) r pairs std is_open (environment_kept s t u r pairs std is_open K a h g.0) u K.client client_is_no_error n g.0.form g.2));
+            let g = typing.asks n i in
+            (g.0, g.1, asks_kept (environment s u a g.0) (environment t u (entries_image r a) g.0) r pairs std is_open (environment_kept s t u r pairs std is_open K a h g.0) u K.client client_is_no_error n g.0.form g.2));
         rank = typing.rank;
         falls = falls_kept s t u r pairs std is_open K a h all typing typing.rank typing.falls;
         lengths = lengths_kept s t u r pairs std is_open K a h typing typing.lengths;

@@ -1,5 +1,5 @@
 -- A type form of a client stands for a type that the client writes itself, or is a name that leads by aliases to one of another package.
-use Rattle.std.proofs.Common.{◌≡◌, ◌⊎◌, inl, inr, ℕ, Bool, true, false, List, [], ◌∷◌, refl, sym, ap, ◌∙◌, subst, Option, Some, None}
+use Rattle.std.proofs.Common.{◌≡◌, ◌⊎◌, inl, inr, ℕ, Bool, true, false, List, [], refl, sym, ap, ◌∙◌, subst, Option, Some, None}
 use Rattle.std.specs.Option.{option_or}
 use Rattle.std.specs.Prelude.{codes}
 use Rattle.go_base.proofs.Members.{each_has}
@@ -11,14 +11,13 @@ use Rattle.go_model.specs.declared.types.names.TypeName.{TypeName}
 use Rattle.go_model.specs.declared.types.package.Entity.{Entity}
 use Rattle.go_model.specs.declared.types.package.Entity.TheVariants as entity
 use Rattle.go_model.specs.declared.types.term.Direction.TheVariants as direction
-use Rattle.go_model.specs.declared.types.term.Method.{Method}
 use Rattle.go_model.specs.declared.types.term.Term.{Term, Term-F, out-Term, roll-Term, out-roll-Term}
 use Rattle.go_model.specs.types.Imports.{is_imported}
 use Rattle.go_model.specs.types.MethodSets.{method_sel}
 use Rattle.go_model.specs.types.Terms.{Layer}
 use Rattle.go_rules.specs.Asks.{Meets, TypeMeets}
 use Rattle.go_rules.specs.Environments.{Env}
-use Rattle.go_rules.specs.Expressions.{Denotes, IsTypeName, NamesType, OfForm, of_array, of_channel, of_function, of_interface, of_map, of_name, of_paren, of_pointer, of_receive_channel, of_send_channel, of_slice, of_struct, OfType, of_type, seen_operand}
+use Rattle.go_rules.specs.Expressions.{IsTypeName, NamesType, OfForm, of_array, of_channel, of_function, of_interface, of_map, of_name, of_paren, of_pointer, of_receive_channel, of_send_channel, of_slice, of_struct, OfType, of_type, seen_operand}
 use Rattle.go_rules.specs.Nodes.{Node, TypeLayer, stands_here, type, type_parts}
 use Rattle.go_rules.specs.Operands.{any_term, basic_term, type_name}
 use Rattle.go_rules.specs.Scopes.{as_import, of_universe}
