@@ -25,13 +25,15 @@ def below():
 
 def needed(names):
     """Returns these crates and all that they stand on, lowest first."""
-    stands, found = below(), []
+    stands, found, done = below(), [], set()
 
     def add(name):
+        if name in done:
+            return
+        done.add(name)
         for it in stands[name]:
             add(it)
-        if name not in found:
-            found.append(name)
+        found.append(name)
 
     for name in names:
         add(name)

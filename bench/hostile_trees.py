@@ -54,6 +54,11 @@ one_file("one string", 'const X = "', lambda n: "a" * 64, lambda last: '"\n', (0
 one_file("one number", "const X = 1", lambda n: "0" * 64, statuses=(3,))
 one_file("one name", "var ", lambda n: "a" * 64, lambda last: " int\n")
 tree("lines before the package")(lambda share: module(filled(FILE // share, "", lambda n: "// a\n", lambda last: "package p\n")))
+one_file("imports of a header", "", lambda n: 'import _ "x/%d"\n' % n)
+tree("imports that aren't found, for what is left out")(lambda share: module("package p\n" + "".join('import a%d "x/%d"\n' % (n, n) for n in range(100000 // share)) + "".join(
+    "var v%d = a%d.X\n" % (n, n) for n in range(100000 // share))))
+tree("imports that aren't found, beside what is seen")(lambda share: {**module("package p\n" + "".join('import a%d "x/%d"\n' % (n, n) for n in range(40000 // share)) + 'import q "m/q"\n' + "".join(
+    "var v%d = a%d.X\nvar V%d q.T\n" % (n, n, n) for n in range(40000 // share))), "new/q/q.go": "package q\ntype T int\n"})
 tree("terms of a build line")(lambda share: module(filled(FILE // share, "//go:build linux", lambda n: "&&linux", lambda last: "\n\npackage p\n")))
 
 # expressions
@@ -70,6 +75,8 @@ tree("keys of a struct's literal")(lambda share: module("package p\ntype T struc
 
 # declarations
 one_file("constants of a group", "const (\nA = iota\n", lambda n: "a%d\n" % n, lambda last: ")\n")
+tree("a long expression that constants repeat")(lambda share: module("package p\nconst (\nA = 1" + "+1" * (1000000 // share) + "\n" + "".join("a%d\n" % n for n in range(250000 // share)) + ")\n"))
+one_file("constants of texts of 65,000 bytes", 'const s = "' + "x" * 65000 + '"\n', lambda n: "const s%d = s\n" % n, statuses=(0, 6))
 one_file("constants of later ones", "", lambda n: "const c%d = c%d\n" % (n, n + 1), lambda last: "const c%d = 1\n" % (last + 1))
 one_file("variables of one", "var a int\n", lambda n: "var v%d = a\n" % n)
 one_file("declarations of the last", "", lambda n: "var v%d z\n" % n, lambda last: "type z int\n")
@@ -79,6 +86,7 @@ one_file("aliases of later ones", "", lambda n: "type t%d = t%d\n" % (n, n + 1),
 one_file("types of later ones", "", lambda n: "type t%d t%d\n" % (n, n + 1), lambda last: "type t%d int\n" % (last + 1))
 one_file("embedded pointers", "type t0 struct{ F int }\n", lambda n: "type t%d struct{ *t%d }\n" % (n, n - 1), lambda last: "type Top struct{ t%d }\n" % last)
 one_file("embedded interfaces", "type t0 interface{ M() }\n", lambda n: "type t%d interface{ t%d }\n" % (n, n - 1), lambda last: "type Top interface{ t%d }\n" % last)
+tree("an interface that one embeds again and again", "features", (0, 6))(lambda share: module("package p\ntype I interface {" + "".join("m%d();" % n for n in range(200000 // share)) + "}\ntype J interface {" + "I;" * (900000 // share) + "}\n"))
 one_file("fields", "type X struct {\n", lambda n: "F%d int\n" % n, lambda last: "}\n")
 one_file("methods of an interface", "type X interface {\n", lambda n: "M%d()\n" % n, lambda last: "}\n")
 one_file("methods of a type", "type X int\n", lambda n: "func (X) M%d()\n" % n)
@@ -86,8 +94,16 @@ one_file("parameters", "func X(", lambda n: "a%d int," % n, lambda last: ")\n")
 one_file("results of a call", "func f() (int", lambda n: ",int", lambda last: ")\nfunc g(...int) int\nvar X = g(f())\n")
 one_file("a type of 65,535 nodes in each line", doubled("func(*) *"), lambda n: "var v%d a15\n" % n)
 one_file("comparisons at a type of 65,535 nodes", doubled("struct{ F, G * }"), lambda n: "var v%d = x == y\n" % n)
+one_file("conversions to a type of 65,535 nodes", doubled("struct{ F, G * }"), lambda n: "var v%d = a15(x)\n" % n)
+one_file("parameters and results of a type of 32,767 nodes", doubled("func(*) *"), lambda n: "func f%d(a14) a14\n" % n)
+one_file("elements of a type of 65,535 nodes", doubled("struct{ F, G * }"), lambda n: "var v%d = []a15{x}[0]\n" % n)
+for form in "*{}", "[]{}", "[2]{}", "map[int]{}", "chan {}", "func({})", "struct{{ F {} }}", "interface{{ M({}) }}":
+    one_file("a type of 32,767 nodes below " + form.format("T").replace("{ ", "{").replace(" }", "}"), doubled("func(*) *"), lambda n, form=form: "var v%d %s\n" % (n, form.format("a14")))
+one_file("constants that are left out", "const f = 0.5\n", lambda n: "const c%d = f\n" % n)
 tree("interfaces that all embed each other", "features", (3,))(lambda share: module("package p\n" + "".join(
     "type i%d interface {%s}\n" % (n, ";".join("i%d" % m for m in range(840 // share) if m != n)) for n in range(840 // share))))
+tree("2,000 interfaces that all embed each other", "features", (3,))(lambda share: {"new/go.mod": "module m\n", **{"new/p/f%d.go" % f: "package p\n" + "".join(
+    "type i%d interface {%s}\n" % (n, ";".join("i%d" % m for m in range(2000 // share) if m != n)) for n in range(2000 // share) if n % 8 == f) for f in range(8)}})
 tree("promoted methods of a chain", "features", (0, 6))(lambda share: module("package p\ntype T0 struct{}\nfunc (T0) M0()\n" + "".join(
     "type T%d struct{ T%d }\nfunc (T%d) M%d()\n" % (n, n - 1, n, n) for n in range(1, 4000 // share))))
 tree("selected methods of a type")(lambda share: module("package p\ntype T int\nvar t T\n" + "".join(
@@ -95,6 +111,7 @@ tree("selected methods of a type")(lambda share: module("package p\ntype T int\n
 
 # files and packages
 tree("files of one folder")(lambda share: {"new/go.mod": "module m\n", **{"new/p/f%d.go" % n: "package p\nconst C%d = 1\n" % n for n in range(FILES // share)}})
+tree("files of as many folders", "features", (0, 3))(lambda share: {"new/go.mod": "module m\n", **{"new/d%d/f.go" % n: "package p\n" for n in range(FILES // share)}})
 tree("folders", "features", (0,))(lambda share: {"new/go.mod": "module m\n", **{"new/d%d/README" % n: "" for n in range(FOLDERS // share - 1)}})
 tree("packages in a row")(lambda share: {"new/go.mod": "module m\n", "new/p0/a.go": "package p0\ntype T int\n", **{
     "new/p%d/a.go" % n: 'package p%d\nimport "m/p%d"\ntype T struct{ A p%d.T }\n' % (n, n - 1, n - 1) for n in range(1, PACKAGES // share)}})
@@ -104,6 +121,8 @@ tree("packages in a circle", "features", (3,))(lambda share: {"new/go.mod": "mod
 tree("packages that import all before")(lambda share: {"new/go.mod": "module m\n", **{
     "new/p%d/a.go" % n: "package p%d\n" % n + "".join('import "m/p%d"\n' % m for m in range(n)) + "".join(
         "var X%d p%d.T\n" % (m, m) for m in range(n)) + "type T int\n" for n in range(1500 // share)}})
+tree("a chain of 400,000 constants")(lambda share: {"new/go.mod": "module m\n", **{"new/p/f%d.go" % f: "package p\n" + "".join(
+    "const c%d = %s\n" % (n, "c%d" % (n + 1) if n + 1 < 400000 // share else "1") for n in range(f, 400000 // share, 16)) for f in range(16)}})
 many_files("64 MiB of constants", lambda n, m: "const c%d_%d = 1\n" % (n, m))
 many_files("64 MiB of structs", lambda n, m: "type T%d_%d struct{ A, B int; C []string }\n" % (n, m))
 many_files("64 MiB of functions", lambda n, m: "func F%d_%d(a, b int) (c string, d error) { return }\n" % (n, m))

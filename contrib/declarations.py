@@ -139,7 +139,10 @@ def forget(folder):
     with contextlib.suppress(OSError):
         found = sorted((os.path.join(folder, name) for name in os.listdir(folder)), key=os.path.getmtime)
         for each in found[:-MOST]:
-            shutil.rmtree(each, ignore_errors=True)
+            if os.path.isdir(each):
+                shutil.rmtree(each, ignore_errors=True)
+            else:
+                os.remove(each)
 
 
 def keep(store, made, place, lines):
@@ -162,6 +165,33 @@ def keep(store, made, place, lines):
         return os.path.join(made, "std")
     finally:
         shutil.rmtree(waits, ignore_errors=True)
+
+
+def digest_of_tree(sums, folder):
+    """Adds to a digest what apigate reads of a module."""
+    for name in ["go.mod", *modules.walked(folder)]:
+        text = modules.content(os.path.join(folder, name))
+        sums.update(b"%s\0%d\0" % (os.fsencode(name), len(text)) + text)
+
+
+def promised(std, platforms, old):
+    """The features of the old tree: those of before, where program, declarations, platforms and tree are the same and the declarations are kept."""
+    program, within = gating.ready(), os.path.dirname(os.path.dirname(std))
+    store = kept("promises") if program != gating.PROGRAM and within == kept("declarations") else None
+    if not store:
+        return gating.promised(std, platforms, old)
+    sums = hashlib.sha256(json.dumps([os.path.basename(os.path.dirname(std)), platforms]).encode() + modules.content(program))
+    digest_of_tree(sums, old)
+    place = os.path.join(store, sums.hexdigest()[:32])
+    try:
+        found = modules.content(place).decode()
+        os.utime(place)
+    except (OSError, ValueError):
+        found = gating.promised(std, platforms, old)
+        with contextlib.suppress(OSError):
+            places.put(place, found.encode())
+            forget(store)
+    return found
 
 
 def cut(room, platforms, old, new, settings=None):

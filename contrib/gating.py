@@ -1,5 +1,6 @@
 """What the recipes have in common: how programs are run, and within which limits, versions, why nothing was judged, and how a run ends."""
 import collections
+import contextlib
 import os
 import re
 import resource
@@ -9,6 +10,9 @@ import subprocess
 import sys
 
 TOP = os.path.dirname(os.path.dirname(os.path.abspath(__file__)))
+sys.path.append(os.path.join(TOP, "tools"))
+import bounds
+
 PROGRAM = os.path.join(TOP, "apigate")
 NUMBER = "(0|[1-9][0-9]*)"
 RELEASE = re.compile(r"v?%s\.%s\.%s$" % (NUMBER, NUMBER, NUMBER))
@@ -29,6 +33,14 @@ class Stop(Exception):
     def __init__(self, what, status=REFUSED):
         super().__init__(what)
         self.status = status
+
+
+class Refused(Exception):
+    """What the program says of a tree that it refuses."""
+
+    def __init__(self, status, fault):
+        super().__init__(fault)
+        self.status, self.fault = status, fault
 
 
 def numbers(version):
@@ -62,25 +74,41 @@ def count(text):
 
 
 def limit(seconds, megabytes):
-    """Sets the limits."""
+    """Sets the limits, that of data also for this script, which reads files of the module too."""
     global limits
     limits = Limits(seconds, megabytes)
+    most = resource.getrlimit(resource.RLIMIT_DATA)[1]
+    resource.setrlimit(resource.RLIMIT_DATA, (bounds.least(megabytes << 20, most), most))
+
+
+def unlimited():
+    """Takes back what limit() set for this script."""
+    most = resource.getrlimit(resource.RLIMIT_DATA)[1]
+    resource.setrlimit(resource.RLIMIT_DATA, (most, most))
 
 
 def within(words, **how):
     """Runs a program within the limits, with nothing to read but what it is given, and keeps what it says. Where it is ended for them, nothing was judged."""
-    name, most = BUILT.sub("", os.path.basename(words[0])), resource.getrlimit(resource.RLIMIT_DATA)[1]
-    data = min(limits.megabytes << 20, sys.maxsize if most == resource.RLIM_INFINITY else most)
+    name = BUILT.sub("", os.path.basename(words[0]))
 
     def before():
-        resource.setrlimit(resource.RLIMIT_DATA, (data, data))
+        # a group of its own, so that what it runs itself ends with it
+        os.setpgrp()
+        bounds.bound(limits.megabytes << 20)
         resource.setrlimit(resource.RLIMIT_CORE, (0, 0))
 
-    given = {} if "input" in how else {"stdin": subprocess.DEVNULL}
-    try:
-        ended = subprocess.run(words, capture_output=True, preexec_fn=before, timeout=limits.seconds, check=False, **given, **how)
-    except subprocess.TimeoutExpired:
-        raise Stop("%s took more than %d seconds, and was ended; nothing was judged" % (name, limits.seconds)) from None
+    given = how.pop("input", None)
+    source = subprocess.DEVNULL if given is None else subprocess.PIPE
+    with subprocess.Popen(words, stdin=source, stdout=subprocess.PIPE, stderr=subprocess.PIPE, preexec_fn=before, **how) as ran:
+        try:
+            ended = subprocess.CompletedProcess(words, 0, *ran.communicate(given, timeout=limits.seconds))
+        except BaseException as error:
+            with contextlib.suppress(ProcessLookupError):
+                os.killpg(ran.pid, signal.SIGKILL)
+            if not isinstance(error, subprocess.TimeoutExpired):
+                raise
+            raise Stop("%s took more than %d seconds, and was ended; nothing was judged" % (name, limits.seconds)) from None
+        ended.returncode = ran.returncode
     if ended.returncode < 0:
         raise Stop("%s was ended by signal %d; nothing was judged" % (name, -ended.returncode))
     return ended
@@ -95,7 +123,7 @@ def check_module(folder):
 
 def at_hand():
     """The program itself where it stands ready, so that the launcher needn't look at all sources at each run; else nothing."""
-    sys.path += [os.path.join(TOP, ".ci"), os.path.join(TOP, "tools")]
+    sys.path.append(os.path.join(TOP, ".ci"))
     try:
         import building
         import delivered
@@ -117,7 +145,7 @@ def ready():
         found = at_hand()
     if not found:
         # without limits: a proof takes hours, and reads no module
-        tried = subprocess.run([PROGRAM, "make", "--seed", "1", "--size", "1"], stdin=subprocess.DEVNULL, stdout=subprocess.DEVNULL, check=False)
+        tried = subprocess.run([PROGRAM, "make", "--seed", "1", "--size", "1"], stdin=subprocess.DEVNULL, stdout=subprocess.DEVNULL, preexec_fn=unlimited, check=False)
         if tried.returncode:
             raise Stop("the program can't be run", tried.returncode)
         found = PROGRAM
@@ -130,19 +158,32 @@ def told(words):
     return ran.returncode, ran.stdout.decode(), ran.stderr.decode(errors="replace")
 
 
-def gate(room, std, platforms, old, new, api, exceptions, version):
+def common(std, platforms):
+    """The words of each mode that reads trees."""
+    return ["--std", std, "--platforms", platforms]
+
+
+def promised(std, platforms, old):
+    """The features of the old tree; raises what ends the run where they can't be told."""
+    status, report, fault = told(["features", "--new", old, *common(std, platforms)])
+    if status:
+        # what is new to this run is the old tree
+        raise Refused(status, fault.replace("apigate: new", "apigate: old", 1))
+    return report
+
+
+def gate(room, std, platforms, old, new, api, exceptions, version, promises=promised):
     """Runs the gate; without files of frozen lines the features of the old tree are the promises. Returns its status, report and line on
     standard error."""
-    common = ["--std", std, "--platforms", platforms]
     if not api:
         api = os.path.join(room, "api.txt")
-        status, report, fault = told(["features", "--new", old, *common])
-        if status:
-            # what is new to this run is the old tree
-            return status, "", fault.replace("apigate: new", "apigate: old", 1)
+        try:
+            report = promises(std, platforms, old)
+        except Refused as refused:
+            return refused.status, "", refused.fault
         with open(api, "w", encoding="utf-8") as file:
             file.write(report)
-    words = ["gate", "--old", old, "--new", new, *common, "--api", api, "--version", version]
+    words = ["gate", "--old", old, "--new", new, *common(std, platforms), "--api", api, "--version", version]
     return told(words + (["--except", exceptions] if exceptions else []))
 
 
@@ -170,4 +211,11 @@ def main(run):
     except OSError as error:
         say("%s: %s" % (os.path.basename(sys.argv[0]), shown(str(error))))
         status = 4
+    except MemoryError:
+        status = 6
+        say("%s: out of memory; nothing was judged" % os.path.basename(sys.argv[0]))
+    except Exception as error:
+        # where it isn't caught, the interpreter ends with the status of a verdict
+        say("%s: %s: %s" % (os.path.basename(sys.argv[0]), type(error).__name__, shown(str(error))))
+        status = REFUSED
     sys.exit(status)

@@ -1,4 +1,5 @@
 """A git repository: its releases, and the files of a commit. Nothing of it is changed."""
+import functools
 import os
 import re
 
@@ -115,8 +116,9 @@ class Repository:
         os.makedirs(folder, exist_ok=True)
 
 
+@functools.cache
 def around(folder):
-    """The repository of a folder, or None."""
+    """The repository of a folder, or None; it is looked for once."""
     try:
         return Repository(folder)
     except gating.Stop as stop:

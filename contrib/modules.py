@@ -1,8 +1,10 @@
 """Modules on disk: the files that apigate reads of one, its path, and copies of it that Go's own commands understand."""
+import functools
 import json
 import os
 import re
 import shutil
+import tempfile
 
 import gating
 
@@ -14,6 +16,8 @@ NEW_FORM_LINE = re.compile(rb"^//go:build[ \t][^\n]*", re.M)
 ELEMENT = re.compile(r"[A-Za-z0-9~][A-Za-z0-9._~-]*$|_$")
 # where Debian's packages of Go modules stand
 DEBIAN = "/usr/share/gocode"
+# the most bytes of a file that apigate reads
+MOST = 4 << 20
 
 
 def walked(folder):
@@ -33,27 +37,40 @@ def content(path):
 
 
 def old_form(folder):
-    """The files that have build lines of the old form alone."""
+    """The files that have build lines of the old form alone, but for those that are too large for apigate."""
     found = []
     for name in walked(folder):
-        text = content(os.path.join(folder, name))
+        path = os.path.join(folder, name)
+        text = content(path) if os.path.getsize(path) <= MOST else b""
         if OLD_FORM.search(text) and not NEW_FORM.search(text):
             found.append(name)
     return found
 
 
-def renew(folder):
+def formatted(texts):
+    """What gofmt makes of each of these texts: where it can't read one, the text itself."""
+    with tempfile.TemporaryDirectory(prefix="release-gate-") as room:
+        places = [os.path.join(room, "%d.go" % number) for number in range(len(texts))]
+        for place, text in zip(places, texts):
+            with open(place, "wb") as file:
+                file.write(text)
+        for first in range(0, len(places), 500):
+            gating.within(["gofmt", "-w", "--", *places[first:first + 500]])
+        return [content(place) for place in places]
+
+
+def renew(folder, found=None):
     """Gives these files of a copy build lines of the new form, those that gofmt gives them, in place of the old ones, so that no other line
     moves; returns the files."""
-    found = old_form(folder)
-    for name in found:
-        path = os.path.join(folder, name)
-        ran = gating.within(["gofmt", "--", name], cwd=folder)
-        new = NEW_FORM_LINE.search(ran.stdout)
+    found = old_form(folder) if found is None else found
+    if not found:
+        return []
+    texts = [content(os.path.join(folder, name)) for name in found]
+    for name, text, made in zip(found, texts, formatted(texts)):
+        new = NEW_FORM_LINE.search(made)
         if new:
-            text = OLD_FORM_LINE.sub(lambda _: b"//", OLD_FORM_LINE.sub(lambda _: new[0], content(path), count=1))
-            with open(path, "wb") as file:
-                file.write(text)
+            with open(os.path.join(folder, name), "wb") as file:
+                file.write(OLD_FORM_LINE.sub(lambda _: b"//", OLD_FORM_LINE.sub(lambda _: new[0], text, count=1)))
     return found
 
 
@@ -122,6 +139,8 @@ def near_replaces(text):
 
 def point(file, words, origin):
     """Makes what a go.mod or go.work replaces by a folder beside it point there from anywhere."""
+    if not near_replaces(content(file).decode(errors="replace")):
+        return
     said = go(os.path.dirname(file), *words, "-json", file, GOWORK="off", GOFLAGS="")
     for each in (json.loads(said).get("Replace") or []) if said else []:
         if is_near(each["New"]["Path"]):
@@ -130,8 +149,26 @@ def point(file, words, origin):
             go(os.path.dirname(file), *words, "-replace=%s=%s" % (old, to), file, GOWORK="off", GOFLAGS="")
 
 
+@functools.cache
+def named_workspace():
+    """The go.work that Go's settings name for every folder, or nothing."""
+    return go(os.sep, "env", "GOWORK")
+
+
+def above(folder):
+    """A folder and all those above it."""
+    while True:
+        yield folder
+        if os.path.dirname(folder) == folder:
+            return
+        folder = os.path.dirname(folder)
+
+
 def workspace(folder):
-    """The go.work that counts in a folder, or nothing."""
+    """The go.work that counts in a folder, or nothing. Go's command is asked only where there may be one."""
+    around = [each for path in {os.path.abspath(folder), os.path.realpath(folder)} for each in above(path)]
+    if not any(os.path.exists(os.path.join(each, "go.work")) for each in around) and not named_workspace():
+        return ""
     found = go(folder, "env", "GOWORK")
     return found if found and found != "off" else ""
 

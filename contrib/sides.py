@@ -75,7 +75,7 @@ class Side:
         found = modules.old_form(self.folder)
         if found:
             self.copy()
-            modules.renew(self.folder)
+            modules.renew(self.folder, found)
             self.notes.append("gofmt gave a go:build line to %s of %s, on a copy: %s"
                               % ("a file" if len(found) == 1 else "%d files" % len(found), self.called, modules.names(found)))
 

@@ -9,51 +9,100 @@ import (
 	"go/parser"
 	"go/scanner"
 	"go/token"
-	"io"
 	"os"
 	"path/filepath"
+	"runtime"
 	"sort"
 	"strings"
+	"sync"
 
 	"apigate/internal/trees"
 )
 
+// A source is a file of a tree: how it is named in the digest, and where it stands.
+type source struct{ named, place string }
+
 // key is the digest of the trees.
 func key(of []*trees.Tree) (string, error) {
 	sum := sha256.New()
+	var all []source
 	for _, one := range of {
 		var paths []string
 		for path := range one.Places {
 			paths = append(paths, path)
 		}
 		sort.Strings(paths)
-		fmt.Fprintf(sum, "%q\n", one.Module)
 		for _, path := range paths {
-			if err := keyOfFolder(sum, path, one.Places[path]); err != nil {
+			found, err := sources(path, one.Places[path])
+			if err != nil {
 				return "", err
 			}
+			all = append(all, found...)
 		}
+		fmt.Fprintf(sum, "%q %d\n", one.Module, len(all))
+	}
+	parts, err := outers(all)
+	if err != nil {
+		return "", err
+	}
+	for i, each := range all {
+		fmt.Fprintf(sum, "%s%x\n", each.named, parts[i])
 	}
 	return fmt.Sprintf("%x", sum.Sum(nil)), nil
 }
 
-func keyOfFolder(sum io.Writer, path, folder string) error {
+func sources(path, folder string) ([]source, error) {
 	entries, err := os.ReadDir(folder)
 	if err != nil {
-		return err
+		return nil, err
 	}
+	var found []source
 	for _, entry := range entries {
-		if !entry.Type().IsRegular() || !strings.HasSuffix(entry.Name(), ".go") || strings.HasSuffix(entry.Name(), "_test.go") {
+		if entry.Type().IsRegular() && strings.HasSuffix(entry.Name(), ".go") && !strings.HasSuffix(entry.Name(), "_test.go") {
+			found = append(found, source{fmt.Sprintf("%q %q\n", path, entry.Name()), filepath.Join(folder, entry.Name())})
+		}
+	}
+	return found, nil
+}
+
+// outers are the digests of what counts in each file, side by side; what stands in both trees is read twice and parsed once.
+func outers(all []source) ([][sha256.Size]byte, error) {
+	texts := make([][]byte, len(all))
+	first := map[[sha256.Size]byte]int{}
+	same := make([]int, len(all))
+	for i, each := range all {
+		text, err := os.ReadFile(each.place)
+		if err != nil {
+			return nil, err
+		}
+		whole := sha256.Sum256(text)
+		at, is := first[whole]
+		if !is {
+			at, texts[i] = i, text
+			first[whole] = i
+		}
+		same[i] = at
+	}
+	parts := make([][sha256.Size]byte, len(all))
+	var group sync.WaitGroup
+	free := make(chan struct{}, runtime.GOMAXPROCS(0))
+	for i := range all {
+		if same[i] != i {
 			continue
 		}
-		text, err := os.ReadFile(filepath.Join(folder, entry.Name()))
-		if err != nil {
-			return err
-		}
-		fmt.Fprintf(sum, "%q %q\n", path, entry.Name())
-		sum.Write(outer(text))
+		group.Add(1)
+		free <- struct{}{}
+		go func(i int) {
+			defer func() { <-free; group.Done() }()
+			parts[i] = sha256.Sum256(outer(texts[i]))
+			texts[i] = nil
+		}(i)
 	}
-	return nil
+	group.Wait()
+	for i, at := range same {
+		parts[i] = parts[at]
+	}
+	return parts, nil
 }
 
 // outer is a file up to its package clause, where build lines stand, and then its tokens outside of the bodies of functions; one that

@@ -26,7 +26,7 @@ type answer struct {
 }
 
 // Answers are all that may be said, with Go's errors. Where features may be said, Skipped is what was left out for them, and Cut are the
-// texts of the files without that.
+// texts of the files without that, or as was asked.
 type Answers struct {
 	Case    string
 	Answers []answer
@@ -34,6 +34,7 @@ type Answers struct {
 	Counts  map[string]int
 	Skipped []Skipped
 	Cut     map[string]string `json:"-"`
+	Left    map[string]string `json:"-"` // files with what was left out, where they are asked for
 }
 
 // An outcome is what may be said of a package, by classes of differences: that it is typed, and what is left out by which causes, or why it
@@ -443,8 +444,26 @@ func once(lines []string) []string {
 	return kept
 }
 
+// A settled module is one with features, its packages behind those that they import.
+type settled struct {
+	*checking
+	order  []*units.Folder
+	sieves map[string]*sieve
+	left   map[string]map[int]string // what is left out, by the paths of packages
+}
+
 // AnswersTo answers a question.
-func AnswersTo(asked units.Question) Answers {
+func AnswersTo(asked units.Question) Answers { return answersTo(asked, func(settled, *Answers) {}) }
+
+// AnswersWithoutUnseen answers a question. Where features may be said, Cut are the texts of the files without all that nobody sees, and
+// among the counts are the declarations of the module and those.
+func AnswersWithoutUnseen(asked units.Question) Answers { return answersTo(asked, cutUnseen) }
+
+// AnswersInParts answers a question. Where features may be said, Cut are the files of the packages of which something is left out, and of
+// those that they import, without that, without bodies and build lines; Left are further files, in which that stands.
+func AnswersInParts(asked units.Question) Answers { return answersTo(asked, divide) }
+
+func answersTo(asked units.Question, further func(settled, *Answers)) Answers {
 	all := Answers{Answers: []answer{}, Counts: map[string]int{}, Cut: map[string]string{}}
 	r, order, refused := units.UnitsOn(asked)
 	if refused != "" {
@@ -458,6 +477,7 @@ func AnswersTo(asked units.Question) Answers {
 	_, architecture, _ := strings.Cut(asked.Platform, "-")
 	c := &checking{r, map[string]*types.Package{}, types.SizesFor("gc", architecture)}
 	lines, met := []string{}, map[string]bool{}
+	done := settled{c, order, map[string]*sieve{}, map[string]map[int]string{}}
 	for _, f := range order {
 		all.Counts["packages"]++
 		goesOn := false
@@ -482,6 +502,10 @@ func AnswersTo(asked units.Question) Answers {
 			found.typed = c.leaveOut(found.sieve, way.left, found.typed, &all)
 		}
 		c.known[f.Path] = found.typed.pack
+		if found.sieve == nil {
+			return all
+		}
+		done.sieves[f.Path], done.left[f.Path] = found.sieve, way.left
 		for _, class := range way.classes {
 			met[class] = true
 		}
@@ -490,6 +514,7 @@ func AnswersTo(asked units.Question) Answers {
 		}
 	}
 	all.Answers = append([]answer{{SortedKeys(met), once(lines), nil}}, all.Answers...)
+	further(done, &all)
 	return all
 }
 

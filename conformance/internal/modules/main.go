@@ -5,6 +5,9 @@
 //	answers PLATFORM          reads lines of a module's folder, a tab and a folder of declarations, as --std names one; answers each by
 //	                          a line of JSON, which the package answers describes, with refusals in the words of this gate
 //	cut PLATFORM OUT          does the same, and writes each module without what is left out of it, the first into OUT/0
+//	unseen PLATFORM OUT       does the same, and writes each module without all that nobody sees
+//	divided PLATFORM OUT      does the same, and writes of each module the packages of which something is left out, and those that they
+//	                          import: without that, bodies and build lines into OUT/0/kept, and files with that into OUT/0/left
 //	counts FOLDER             tells what the limits count in a module's tree
 //	parts FOLDER              tells as JSON, for each folder of a module with a package, the folders of the module that it stands on
 //	tree CUT MODULE OUT       writes the packages of a folder of declarations as those of a module, where none is internal
@@ -97,7 +100,7 @@ func causes(asked units.Question, module, line string) []string {
 }
 
 // fromFolders answers what a module's features are over a folder of declarations.
-func fromFolders(tree *moduleTree, platform string, std map[string]string) (all answers.Answers) {
+func fromFolders(tree *moduleTree, platform string, std map[string]string, answer func(units.Question) answers.Answers) (all answers.Answers) {
 	defer func() {
 		if fault := recover(); fault != nil {
 			all = answers.Answers{Errors: []string{fmt.Sprint(fault)}}
@@ -105,7 +108,7 @@ func fromFolders(tree *moduleTree, platform string, std map[string]string) (all 
 	}()
 	asked := units.Question{Word: "features", Platform: platform, Files: tree.files, StdFiles: std}
 	asked.Files["go.mod"] = "module " + tree.module + "\n"
-	all = answers.AnswersTo(asked)
+	all = answer(asked)
 	for i, one := range all.Answers {
 		all.Answers[i].Lost = nil
 		if len(one.Lines) != 1 || strings.HasPrefix(one.Lines[0], "pkg ") {
@@ -129,6 +132,40 @@ func eachTree(use func(tree *moduleTree, std map[string]string)) {
 			last, files = std, readBelow(std, false).files
 		}
 		use(readModule(folder), files)
+	})
+}
+
+// writeCut answers for modules, and writes each without what was cut from it.
+func writeCut(platform, folder string, answer func(units.Question) answers.Answers) {
+	count := 0
+	eachTree(func(tree *moduleTree, std map[string]string) {
+		told := fromFolders(tree, platform, std, answer)
+		for place, text := range tree.files {
+			if cut, is := told.Cut[place]; is {
+				text = cut
+			}
+			write(filepath.Join(folder, fmt.Sprint(count)), place, []byte(text))
+		}
+		tell(told)
+		count++
+	})
+}
+
+// writeDivided answers for modules, and writes each in two parts.
+func writeDivided(platform, folder string) {
+	count := 0
+	eachTree(func(tree *moduleTree, std map[string]string) {
+		told := fromFolders(tree, platform, std, answers.AnswersInParts)
+		top := filepath.Join(folder, fmt.Sprint(count))
+		write(top, "kept/go.mod", []byte("module "+tree.module+"\n"))
+		for place, text := range told.Cut {
+			write(top, "kept/"+place, []byte(text))
+		}
+		for place, text := range told.Left {
+			write(top, "left/"+place, []byte(text))
+		}
+		tell(told)
+		count++
 	})
 }
 
@@ -205,20 +242,15 @@ func main() {
 	case len(words) == 3 && words[0] == "lines":
 		linesOf(words[1], words[2])
 	case len(words) == 2 && words[0] == "answers":
-		eachTree(func(tree *moduleTree, std map[string]string) { tell(fromFolders(tree, words[1], std)) })
-	case len(words) == 3 && words[0] == "cut":
-		count := 0
 		eachTree(func(tree *moduleTree, std map[string]string) {
-			answer := fromFolders(tree, words[1], std)
-			for place, text := range tree.files {
-				if cut, is := answer.Cut[place]; is {
-					text = cut
-				}
-				write(filepath.Join(words[2], fmt.Sprint(count)), place, []byte(text))
-			}
-			tell(answer)
-			count++
+			tell(fromFolders(tree, words[1], std, answers.AnswersTo))
 		})
+	case len(words) == 3 && words[0] == "cut":
+		writeCut(words[1], words[2], answers.AnswersTo)
+	case len(words) == 3 && words[0] == "unseen":
+		writeCut(words[1], words[2], answers.AnswersWithoutUnseen)
+	case len(words) == 3 && words[0] == "divided":
+		writeDivided(words[1], words[2])
 	case len(words) == 2 && words[0] == "counts":
 		tell(readBelow(words[1], true).counts)
 	case len(words) == 2 && words[0] == "parts":
@@ -232,7 +264,7 @@ func main() {
 	case len(words) > 5 && words[0] == "shuffled":
 		writeShuffled(words[1], words[2], words[3], words[4], words[5:])
 	default:
-		fmt.Fprintln(os.Stderr, "modules: lines, answers, cut, counts, parts, tree, again, paths or shuffled")
+		fmt.Fprintln(os.Stderr, "modules: lines, answers, cut, unseen, divided, counts, parts, tree, again, paths or shuffled")
 		os.Exit(2)
 	}
 }

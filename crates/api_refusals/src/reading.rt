@@ -78,7 +78,7 @@ fn counted<'a>(
 ) -> Reading<'a>
     requires reading { IsReading tree.now std_tree.now unit.now reading }
     ensures reading { IsReading tree.now std_tree.now unit.now result }
-    ensures number { result.number ≡ reading.number }
+    ensures number { result.number ≡ reading.entry.number }
     ensures at { take result.count.offset result.bytes.now ≡ take offset result.bytes.now }
 {
     Reading {

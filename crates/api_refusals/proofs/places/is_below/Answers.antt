@@ -1,4 +1,6 @@
-use Rattle.std.proofs.Common.{sym, ◌∙◌, ◌∷◌}
+use Rattle.std.proofs.Common.{List, ℕ, sym, ap, ◌∙◌, ◌∷◌, length}
+use Rattle.std.specs.Prelude.{bytes_eq}
+use Rattle.go_base.proofs.Lists.{rest_from}
 use Rattle.api_refusals.proofs.PathFronts.{other_front, same_front}
 use Rattle.api_refusals.proofs.places.is_below.Goals as goal
 
@@ -7,4 +9,5 @@ returns-then-not-begins_with c = other_front c.args.folder.now (47 ∷ c.args.na
 
 pub returns : goal.returns
 returns c =
-    c.is_behind_slash.ensures ∙ same_front c.args.folder.now (47 ∷ c.args.name.now) c.args.path.now (sym c.begins_with.ensures.value ∙ c.if-not-begins_with.false)
+    c.is_behind_slash.ensures ∙ ap (λ (w : List ℕ). bytes_eq (47 ∷ c.args.name.now) w) (rest_from (length c.args.folder.now) c.args.path.now)
+    ∙ same_front c.args.folder.now (47 ∷ c.args.name.now) c.args.path.now (sym c.begins_with.ensures.value ∙ c.if-not-begins_with.false)
