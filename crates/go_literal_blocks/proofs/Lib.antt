@@ -1,0 +1,2 @@
+pub mod RisingBlocks
+pub mod Gathering

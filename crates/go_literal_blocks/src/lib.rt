@@ -1,0 +1,5 @@
+//! The function literals that stand in trees, and the block of each, which stands beside the trees.
+#![tactic(auto)]
+
+pub mod blocks;
+pub mod literals;
