@@ -69,6 +69,15 @@ func importsAt(text *bytes.Buffer, set *token.FileSet, tree *ast.File, places ma
 	}
 }
 
+// signature is the part of a text in which a function stands without its body; that of an initializer is empty.
+func signature(text string, set *token.FileSet, function *ast.FuncDecl) string {
+	part := text[set.Position(function.Pos()).Offset:set.Position(function.Type.End()).Offset]
+	if function.Recv == nil && (function.Name.Name == "init" || function.Name.Name == "main") {
+		return part + " {}"
+	}
+	return part
+}
+
 // kept is the text of a file without what is left out, without bodies and without imports that it doesn't use then.
 func (p settled) kept(file units.ReadFile, text string, gone map[ast.Node]bool) string {
 	text = without(p.Set, file.Tree, text, gone)
@@ -80,11 +89,11 @@ func (p settled) kept(file units.ReadFile, text string, gone map[ast.Node]bool) 
 	importsAt(out, set, tree, usedIn(file, tree))
 	imports.KeepImports(tree, func(*ast.ImportSpec) bool { return false })
 	for _, decl := range tree.Decls {
-		end := decl.End()
-		if function, is := decl.(*ast.FuncDecl); is && function.Body != nil {
-			end = function.Body.Pos()
+		if function, is := decl.(*ast.FuncDecl); is {
+			fmt.Fprintf(out, "\n%s\n", signature(text, set, function))
+		} else {
+			fmt.Fprintf(out, "\n%s\n", text[set.Position(decl.Pos()).Offset:set.Position(decl.End()).Offset])
 		}
-		fmt.Fprintf(out, "\n%s\n", strings.TrimRight(text[set.Position(decl.Pos()).Offset:set.Position(end).Offset], " "))
 	}
 	return out.String()
 }
@@ -94,7 +103,7 @@ func (p settled) alone(file units.ReadFile, text string, d *declaration) string 
 	part := func(from, to token.Pos) string { return text[p.Set.Position(from).Offset:p.Set.Position(to).Offset] }
 	switch node := d.Node.(type) {
 	case *ast.FuncDecl:
-		return part(node.Pos(), node.Type.End())
+		return signature(text, p.Set, node)
 	case *ast.TypeSpec:
 		return "type " + part(node.Pos(), node.End())
 	case *ast.ValueSpec:

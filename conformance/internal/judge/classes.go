@@ -156,7 +156,7 @@ func (d *difference) touches(l line, message string) bool {
 	if told := memberInMessage.FindStringSubmatch(text); told != nil && membersRules[l.rule] && told[1] == l.subject {
 		return true
 	}
-	if from, _, _ := halves(l.subject); l.rule == "type" {
+	if from, _, _ := halves(l.subject); l.rule == "type" || l.rule == "constant" {
 		for _, name := range words.FindAllString(from, -1) {
 			if name[strings.LastIndex(name, ".")+1:] == namesInMessage.FindStringSubmatch(text)[1] {
 				return true

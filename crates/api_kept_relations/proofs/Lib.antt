@@ -2,10 +2,10 @@ mod Carried
 mod Keeping
 mod Labels
 mod Names
-mod Objects
+pub mod Objects
 mod PairFinds
 mod PairLabels
-mod Pairs
-mod Preserving
+pub mod Pairs
+pub mod Preserving
 mod StdEntries
 mod StdShared

@@ -10,7 +10,6 @@ use Rattle.go_model.specs.types.Underlying.{under}
 use Rattle.go_rules.specs.Asks.{ElementMeets, EmbedsField, EmbedsInterface, FieldMeets, IsOwnLayer, MayStandUnder, Meets, TypeMeets}
 use Rattle.go_rules.specs.Environments.{Env}
 use Rattle.go_rules.specs.Nodes.{ElemLayer, FieldLayer, Node, TypeLayer, stands_here, type, type_parts}
-use Rattle.go_rules.proofs.GrowAsks.{grows_same}
 use Rattle.go_syntax.specs.declared.name.QualifiedName.{QualifiedName}
 use Rattle.go_syntax.specs.declared.types.FieldDecl.{FieldDecl, FieldDecl-F, out-FieldDecl}
 use Rattle.go_syntax.specs.declared.types.InterfaceElem.{InterfaceElem, InterfaceElem-F, out-InterfaceElem}
@@ -60,7 +59,7 @@ module _ (E F : Env) (r : Naming) (pairs : List TypePair) (std : TypeName → Bo
 
   field_kept : (star : Bool) (q : QualifiedName) → EmbedsField E star q → EmbedsField F star q
   field_kept star q m =
-      let f = type_name_kept E F E r pairs std is_open K (grows_same E) K.barred q m.embedded m.names in
+      let f = type_name_kept E F E r pairs std is_open K (λ x u a. a) K.barred q m.embedded m.names in
       let own = m.permitted K.barred in
       record {
         embedded = to m.embedded;
@@ -72,7 +71,7 @@ module _ (E F : Env) (r : Naming) (pairs : List TypePair) (std : TypeName → Bo
 
   interface_kept : (q : QualifiedName) → EmbedsInterface E q → EmbedsInterface F q
   interface_kept q m =
-      let f = type_name_kept E F E r pairs std is_open K (grows_same E) K.barred q m.embedded m.names in
+      let f = type_name_kept E F E r pairs std is_open K (λ x u a. a) K.barred q m.embedded m.names in
       record { embedded = to m.embedded; names = f.0; permitted = λ e. own_stays m.embedded (m.permitted K.barred) }
 
   field_met : (l : FieldLayer) → FieldMeets E l → FieldMeets F l
@@ -94,7 +93,7 @@ module _ (E F : Env) (r : Naming) (pairs : List TypePair) (std : TypeName → Bo
   -- ---- type forms
 
   level_met : (l : TypeLayer) → TypeMeets E l → Each (Meets E) (type_parts l) → TypeMeets F l
-  level_met (Typ-F.Map key t) n h = let f = type_kept E F E r pairs std is_open K (grows_same E) K.barred n.1 h.0 in (to n.0, f.0, relations.compares E F r pairs std is_open K n.0 f.1 n.2)
+  level_met (Typ-F.Map key t) n h = let f = type_kept E F E r pairs std is_open K (λ x u a. a) K.barred n.1 h.0 in (to n.0, f.0, relations.compares E F r pairs std is_open K n.0 f.1 n.2)
   level_met (Typ-F.Struct ds) n h = (n.0, fields_met ds n.1)
   level_met (Typ-F.Interface xs) n h = (n.0, elements_met xs n.1)
   level_met l n h = tt

@@ -145,7 +145,11 @@ measures_image r builtins.Len l = length_image r l
 measures_image r builtins.Cap l = capacity_image r l
 measures_image r f l = refl
 
-module _ (E F G : Env) (r : Naming) (pairs : List TypePair) (std : TypeName → Bool) (is_open : Sel → Bool) (K : Keeps E F r pairs std is_open) (grows : Grows E G) (barred : G.profile ≡ true) where
+-- what a name of a type stands for, it stands for in an environment that has more
+pub names_grow : (E G : Env) → Grows E G → (q : QualifiedName) (t : Term) → IsTypeName E q t → IsTypeName G q t
+names_grow E G grows q t a = subst (λ D. IsTypeName D q t) (joined_is E G grows) (type_name_more E G grows q t a)
+
+module _ (E F G : Env) (r : Naming) (pairs : List TypePair) (std : TypeName → Bool) (is_open : Sel → Bool) (K : Keeps E F r pairs std is_open) (more : (q : QualifiedName) (t : Term) → IsTypeName E q t → IsTypeName G q t) (barred : G.profile ≡ true) where
   abbrev to : Term → Term
   to = image r same_sels
 
@@ -166,9 +170,6 @@ module _ (E F G : Env) (r : Naming) (pairs : List TypePair) (std : TypeName → 
 
   pub type_name_kept : (q : QualifiedName) (t : Term) → IsTypeName E q t → IsTypeName F q (to t) × R t
   type_name_kept q t d = by_name q.qualifier q.name t d
-
-  more : (q : QualifiedName) (t : Term) → IsTypeName E q t → IsTypeName G q t
-  more q t a = subst (λ D. IsTypeName D q t) (joined_is E G grows) (type_name_more E G grows q t a)
 
   client_sel : (n : Name) → IsClientSel (selector_of E n.text)
   client_sel n = selected.client_sel E F r pairs std is_open K n
@@ -481,7 +482,7 @@ module _ (E F G : Env) (r : Naming) (pairs : List TypePair) (std : TypeName → 
     pub has_kept : {e : Expr} {o : Operand} → Has E e o → Meets G (expression e) → (q : Operand) × Has F e q × A o q
     has_kept (has_operand {e = e} a s) m = let f = form_kept a (meets_parts G (expression e) m) in (f.0, has_operand f.1 (within_after r pairs std is_open f.2 s), f.2)
 
-    form_kept : {l : ExprLayer} {o : Operand} → HasForm E l o → Met (expression_parts l) → (q : Operand) × HasForm F l q × A o q
+    pub form_kept : {l : ExprLayer} {o : Operand} → HasForm E l o → Met (expression_parts l) → (q : Operand) × HasForm F l q × A o q
     form_kept has_int h = (_, has_int, after_constant tt)
     form_kept has_rune h = (_, has_rune, after_constant tt)
     form_kept (has_string i) h = (_, has_string i, after_constant tt)
@@ -591,7 +592,7 @@ module _ (E F G : Env) (r : Naming) (pairs : List TypePair) (std : TypeName → 
     optional_kept optional_none h = optional_none
     optional_kept (optional_some a i) h = let f = has_kept a h.0 in optional_some f.1 (index f.2 i)
 
-    each_kept : {es : List Expr} {os : List Operand} → HasEach E es os → Met (map expression es) → (qs : List Operand) × HasEach F es qs × AreAfter r pairs std is_open os qs
+    pub each_kept : {es : List Expr} {os : List Operand} → HasEach E es os → Met (map expression es) → (qs : List Operand) × HasEach F es qs × AreAfter r pairs std is_open os qs
     each_kept each_none h = ([], each_none, tt)
     each_kept (each_more a x) h = let f = has_kept a h.0 in let g = each_kept x h.1 in (f.0 ∷ g.0, each_more f.1 g.1, (f.2, g.2))
 
@@ -748,7 +749,7 @@ module _ (E F G : Env) (r : Naming) (pairs : List TypePair) (std : TypeName → 
     result_kept (result_parameters x) h = let f = parameters_kept x h in (result_parameters f.0, f.1)
     result_kept (result_type a) h = let f = type_kept a h.0 in (result_type f.0, (f.1, tt))
 
-    fields_kept : {ds : List FieldDecl} {fs : List Field} → OfFields E ds fs → Each (λ d. FieldMeets G (out-FieldDecl d)) ds → Met (fields_parts ds) → OfFields F ds (fields_to fs) × MadeFields fs
+    pub fields_kept : {ds : List FieldDecl} {fs : List Field} → OfFields E ds fs → Each (λ d. FieldMeets G (out-FieldDecl d)) ds → Met (fields_parts ds) → OfFields F ds (fields_to fs) × MadeFields fs
     fields_kept fields_none n h = (fields_none, (tt, tt))
     fields_kept (fields_named {d = d} {ds = ds} {ns = ns} {tag = tag} {u = u} {fs = fs} e a x) n h =
         let g = type_kept a (subst (λ l. Met (field_parts l)) e (each_left (Meets G) (field_parts (out-FieldDecl d)) (fields_parts ds) h)).0 in
@@ -760,7 +761,7 @@ module _ (E F G : Env) (r : Naming) (pairs : List TypePair) (std : TypeName → 
         let own = embeds_own star q u (subst (FieldMeets G) e n.0) a in
         (subst (OfFields F (d ∷ ds)) (λ i. (ap (λ t. field_of F true t tag q.name) (sym (starred_image star u)) ∙ sym (field_image true (starred star u) tag q.name)) i ∷ fields_to fs) (fields_embedded (to u) e g.0 k.0), ((field_made true (starred star u) tag q.name (λ y. own), k.1.0), (field_reached true (starred star u) tag q.name (starred_reached star u g.1), k.1.1)))
 
-    methods_kept : {xs : List InterfaceElem} {ms : List Method} → OfMethods E xs ms → Each (λ x. ElementMeets G (out-InterfaceElem x)) xs → Met (elems_parts xs) → OfMethods F xs (methods_to ms) × MadeMethods ms
+    pub methods_kept : {xs : List InterfaceElem} {ms : List Method} → OfMethods E xs ms → Each (λ x. ElementMeets G (out-InterfaceElem x)) xs → Met (elems_parts xs) → OfMethods F xs (methods_to ms) × MadeMethods ms
     methods_kept methods_none n h = (methods_none, (tt, tt))
     methods_kept (methods_method {x = x} {xs = xs} {n = name} {g = g} {h = k} {ms = ms} e a y) n h =
         let p = meets_parts G (at_signature g) (subst (λ l. Met (elem_parts l)) e (each_left (Meets G) (elem_parts (out-InterfaceElem x)) (elems_parts xs) h)).0 in

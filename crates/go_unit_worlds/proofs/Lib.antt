@@ -1,3 +1,3 @@
-mod JoinedInTurn
-mod SharedWorlds
-mod WorldsInTurn
+pub mod JoinedInTurn
+pub mod SharedWorlds
+pub mod WorldsInTurn

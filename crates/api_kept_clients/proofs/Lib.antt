@@ -1,0 +1,2 @@
+mod ClientSettings
+mod UnitWorlds

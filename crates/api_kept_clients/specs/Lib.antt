@@ -1,0 +1,2 @@
+pub mod ServedClients
+pub mod ServedUnits

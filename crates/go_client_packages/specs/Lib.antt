@@ -1,0 +1,2 @@
+pub mod ClientEntries
+pub mod ClientSettings

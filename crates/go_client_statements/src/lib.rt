@@ -1,0 +1,4 @@
+//! Statements of a client in two environments, of which the new one keeps what the old one gives.
+#![tactic(auto)]
+
+pub mod laws;
