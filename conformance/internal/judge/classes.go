@@ -508,10 +508,20 @@ func (d *difference) movedAway(l line) bool {
 			if q == nil || q.types.Scope().Lookup(name) == nil {
 				continue
 			}
-			object := p.types.Scope().Lookup(name)
-			if isMoved(object.Type(), q.types.Scope().Lookup(name).Type()) && d.old.reached(object)[owner] {
+			object, other := p.types.Scope().Lookup(name), q.types.Scope().Lookup(name)
+			if d.old.reached(object)[owner] && (isMoved(object.Type(), other.Type()) || d.leadsToMoved(other, owner)) {
 				return true
 			}
+		}
+	}
+	return false
+}
+
+// leadsToMoved tells whether an object of the new tree leads to a type of the owner's name in another package.
+func (d *difference) leadsToMoved(object types.Object, owner *types.TypeName) bool {
+	for name := range d.new.reached(object) {
+		if name.Name() == owner.Name() && name.Pkg() != nil && name.Pkg().Path() != owner.Pkg().Path() {
+			return true
 		}
 	}
 	return false
