@@ -1,0 +1,11 @@
+pub mod Pairs
+pub mod Decided
+pub mod SideForms
+pub mod SideValues
+pub mod Results
+pub mod Changes
+pub mod Chains
+pub mod Calls
+pub mod Offering
+pub mod Accepting
+pub mod Definitions

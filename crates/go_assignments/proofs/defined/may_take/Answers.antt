@@ -1,0 +1,16 @@
+use Rattle.go_rules.specs.Usability.{UsableAs}
+use Rattle.go_type_terms.specs.Answers.{env_in}
+use Rattle.go_assignments.proofs.Decided.{decided_as}
+use Rattle.go_assignments.proofs.Offering.{one_variable}
+use Rattle.go_assignments.specs.inner.Definitions.{MayTake}
+use Rattle.go_assignments.proofs.defined.may_take.Goals as goal
+
+pub returns-in-Some : goal.returns-in-Some
+returns-in-Some c =
+    let E = env_in c.args.context.now in
+    let o = c.args.value.now in
+    let t = c.in-Some.term.now in
+    decided_as (UsableAs E o t) (MayTake E c.args.name.now o) c.is_usable.result (λ u. (t, c.in-Some.ensures, u)) (one_variable E c.args.name.now o c.in-Some.ensures) c.is_usable.ensures
+
+pub returns-in-None : goal.returns-in-None
+returns-in-None c = λ h. c.in-None.ensures h.0 h.1

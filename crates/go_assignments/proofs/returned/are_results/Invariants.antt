@@ -1,0 +1,8 @@
+use Rattle.std.proofs.Common.{take}
+use Rattle.std.specs.List.{AllZip}
+use Rattle.go_rules.specs.Usability.{UsableAs}
+use Rattle.go_type_terms.specs.Answers.{env_in}
+use Rattle.go_assignments.proofs.returned.are_results.Given as goal
+
+abbrev pub invariant-loop-at : goal.invariant-loop-at
+invariant-loop-at l = AllZip (UsableAs (env_in l.context)) (take l.at l.operands) (take l.at l.results)

@@ -1,0 +1,5 @@
+pub mod Sides
+pub mod Changes
+pub mod Results
+pub mod Calls
+pub mod Definitions

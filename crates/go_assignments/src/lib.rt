@@ -1,0 +1,13 @@
+//! Whether simple statements are typed: calls and receives that stand alone, sends, assignments, steps, short variable
+//! declarations, and the values of `return`.
+#![tactic(auto)]
+
+pub mod added;
+pub mod alone;
+pub mod assigned;
+pub mod changed;
+pub mod defined;
+pub mod returned;
+pub mod sent;
+pub mod sides;
+pub mod values;

@@ -1,0 +1,3 @@
+pub mod PlacesInside
+pub mod Surveying
+pub mod PartsInside

@@ -1,0 +1,3 @@
+pub mod Surveys
+pub mod LiteralRuns
+pub mod Parts
