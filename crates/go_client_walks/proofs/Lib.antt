@@ -1,2 +1,0 @@
-pub mod ReachedFolders
-pub mod WalkedFiles

@@ -1,2 +1,0 @@
-pub mod ClientWalks
-pub mod inner
