@@ -5,9 +5,9 @@ use anyhow::{bail, ensure};
 use std::alloc::{AllocError, Global};
 
 /// The sections that aren't files and don't begin a case.
-const SECTIONS: [&str; 12] = [
-    "and", "archive", "capacity", "counts", "differs", "error", "fails", "load", "output",
-    "status", "taken", "words",
+const SECTIONS: [&str; 14] = [
+    "and", "archive", "capacity", "counts", "differs", "error", "fails", "load", "made", "output",
+    "status", "taken", "tries", "words",
 ];
 
 /// A marker and the text under it.

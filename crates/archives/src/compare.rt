@@ -155,3 +155,33 @@ pub fn add_differences(
     add_pieces(alloc, found, label, &got.output_pieces)?;
     add_pieces(alloc, found, label, &got.error_pieces)
 }
+
+// Whether the bytes are one line.
+fn is_line(bytes: &[u8]) -> bool {
+    let (number, start) = last_line(bytes);
+    number == 2 && start == bytes.len()
+}
+
+/// Tells where a run ends with another status than these, with a report and a line, or with neither.
+pub fn add_unlisted(
+    alloc: Global,
+    found: &mut String,
+    label: &str,
+    statuses: &[u8],
+    got: &Ending,
+) -> Result<(), AllocError> {
+    if !statuses.contains(&got.status) {
+        let status = got.status;
+        let text = format!(in alloc; "status: got {status}")?;
+        add(found, label, text.as_str())?;
+    }
+    if got.status < 2 {
+        return add_text(alloc, found, label, "error", &[], &got.error);
+    }
+    if !is_line(&got.error) {
+        let shown = quoted(alloc, &got.error)?;
+        let text = format!(in alloc; "error: no line, but {shown}")?;
+        add(found, label, text.as_str())?;
+    }
+    add_text(alloc, found, label, "output", &[], &got.output)
+}

@@ -2,6 +2,7 @@
 use crate::archive::Piece;
 use crate::escape::unescaped;
 use crate::heading::Copies;
+use crate::made::add_made;
 use anyhow::bail;
 use go_base::list::List;
 use go_base::text::Text;
@@ -235,6 +236,10 @@ pub fn files(alloc: Global, pieces: &[&Piece], row: usize) -> anyhow::Result<Lis
         if is_held {
             add_files(alloc, &mut pairs, piece, section_at(&pieces[at..]), row)?;
         }
+    }
+    let made = text(alloc, section(pieces, "made"), row)?;
+    for line in made.as_str().split_terminator('\n') {
+        add_made(alloc, &mut pairs, line)?;
     }
     Ok(pairs)
 }

@@ -1,7 +1,8 @@
 //! Which calls and writes of a run fail, and how many bytes its sinks take.
 use crate::archive::Piece;
-use crate::content::{section, text};
+use crate::content::{files, section, text};
 use crate::counted::{CountedFiles, CountedSink};
+use crate::tries::{cut, tries_of};
 use anyhow::{anyhow, bail, ensure};
 use go_base::list::List;
 use go_outside::failing_files::FailingFiles;
@@ -13,13 +14,15 @@ use std::alloc::Global;
 /// The most bytes that a sink takes where a case says nothing else.
 const CAPACITY: u64 = 1_048_576;
 
-/// A call or a write that fails besides those that the case names.
+/// A call or a write that fails besides those that the case names, or how many first bytes the file
+/// that is cut has.
 #[derive(Clone, Copy, Debug)]
 pub enum Trial {
     Plain,
     Call(u64),
     OutputWrite(u64),
     ErrorWrite(u64),
+    Prefix(u64),
 }
 
 /// The numbers, from 1, of the calls and writes that fail, and which are tried in turn.
@@ -80,7 +83,7 @@ impl Failing {
 
     fn add_trial(&mut self, trial: Trial) -> anyhow::Result<()> {
         match trial {
-            Trial::Plain => {}
+            Trial::Plain | Trial::Prefix(_) => {}
             Trial::Call(number) => self.calls.push(number)?,
             Trial::OutputWrite(number) => self.output_writes.push(number)?,
             Trial::ErrorWrite(number) => self.error_writes.push(number)?,
@@ -144,6 +147,23 @@ fn clash(alloc: Global, path: &[u8]) -> anyhow::Error {
     }
 }
 
+// The files in this row and this trial.
+fn tried_files(
+    alloc: Global,
+    pieces: &[&Piece],
+    row: usize,
+    trial: Trial,
+) -> anyhow::Result<List<FilePair>> {
+    let pairs = files(alloc, pieces, row)?;
+    let Trial::Prefix(len) = trial else {
+        return Ok(pairs);
+    };
+    match tries_of(alloc, pieces, row)? {
+        Some(tries) => cut(alloc, pairs, &tries, len),
+        None => Ok(pairs),
+    }
+}
+
 /// The store and the two sinks of a run.
 #[derive(Drop)]
 pub struct Outside {
@@ -171,7 +191,7 @@ pub fn outside_of(
     let output_capacity = capacity_of(alloc, pieces, row, "output")?;
     let error_capacity = capacity_of(alloc, pieces, row, "error")?;
     Ok(Outside {
-        files: store(alloc, crate::content::files(alloc, pieces, row)?, calls)?,
+        files: store(alloc, tried_files(alloc, pieces, row, trial)?, calls)?,
         output: sink(alloc, output_capacity, output_writes)?,
         error: sink(alloc, error_capacity, error_writes)?,
     })

@@ -11,6 +11,8 @@ mod escape;
 pub mod failing;
 mod heading;
 pub mod load;
+mod made;
 pub mod outline;
+pub mod tries;
 pub mod wanted;
 pub mod words;

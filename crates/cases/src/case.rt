@@ -2,12 +2,13 @@
 use crate::gate::run_words;
 use anyhow::bail;
 use archives::archive::Piece;
-use archives::compare::{add_differences, add_text};
+use archives::compare::{add_differences, add_text, add_unlisted};
 use archives::content::{content, section, text};
 use archives::ending::Ending;
 use archives::failing::{Trial, failing_of, outside_of};
 use archives::load::run_load;
 use archives::outline::run_outline;
+use archives::tries::tries_of;
 use archives::wanted::{error_fault, output_fault, read_fault, wanted_of};
 use archives::words::words;
 use std::thread::Threads;
@@ -94,6 +95,25 @@ fn try_error_writes<R: Threads + Sync + AllocGlobal>(
     Ok(())
 }
 
+// Tells where a run isn't as it may be when a file is cut after each of its bytes.
+fn try_prefixes<R: Threads + Sync + AllocGlobal>(
+    rt: &R,
+    found: &mut String,
+    pieces: &[&Piece],
+    row: usize,
+) -> anyhow::Result<()> {
+    let alloc = rt.alloc();
+    let Some(tries) = tries_of(alloc, pieces, row)? else {
+        return Ok(());
+    };
+    for len in 0..=tries.len {
+        let got = ending(rt, pieces, row, Trial::Prefix(len))?;
+        let label = format!(in alloc; "first {len} bytes: ")?;
+        add_unlisted(alloc, found, label.as_str(), &tries.statuses, &got)?;
+    }
+    Ok(())
+}
+
 // What differs in a row, a difference in each line.
 fn differences<R: Threads + Sync + AllocGlobal>(
     rt: &R,
@@ -115,6 +135,7 @@ fn differences<R: Threads + Sync + AllocGlobal>(
     if failing.tries_error_writes {
         try_error_writes(rt, &mut found, pieces, row, &plain)?;
     }
+    try_prefixes(rt, &mut found, pieces, row)?;
     Ok(found)
 }
 

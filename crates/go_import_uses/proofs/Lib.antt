@@ -4,3 +4,4 @@ pub mod Selected
 pub mod Declarations
 pub mod SeenImports
 pub mod NeededImports
+pub mod SelectedPlaces

@@ -1,1 +1,2 @@
 pub mod FirstNeeded
+pub mod SelectedPlaces

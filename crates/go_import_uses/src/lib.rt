@@ -4,4 +4,5 @@
 mod imports;
 pub mod missing;
 pub mod needed;
+mod places;
 mod references;

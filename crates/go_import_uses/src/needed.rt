@@ -1,5 +1,5 @@
 //! The first import that isn't found and from which a seen declaration selects.
-ghost use Rattle.std.specs.Prelude.{◌≡◌, true, length, map, IfNone, IfOk, IfSome};
+ghost use Rattle.std.specs.Prelude.{◌≡◌, ℕ, None, false, true, length, map, IfNone, IfOk, IfSome};
 ghost use Rattle.go_declarations.specs.Listings.{declaration_of, declarations_of};
 ghost use Rattle.go_exposed.specs.ExposedDeclarations.{IsExposed};
 ghost use Rattle.go_exposed.specs.ImportUses.{SelectsFrom};
@@ -7,12 +7,15 @@ ghost use Rattle.go_exposed.specs.Refusals.{IsMissing, IsNeeded, IsSeenIn};
 ghost use Rattle.go_graphs.specs.Flags.{AreFlagsOf};
 ghost use Rattle.go_import_uses.specs.Selecting.{OneSelects, Selects};
 ghost use Rattle.go_import_uses.specs.inner.FirstNeeded.{NeedsIn};
+ghost use Rattle.go_import_uses.specs.inner.SelectedPlaces.{HoldsPlaces};
 ghost use Rattle.go_selectors.specs.Answers.{Decides};
 ghost use Rattle.go_sources.specs.UnitSources.{import_of, source_of};
 ghost use Rattle.go_syntax.specs.declared.name.Place.{Place as Spot};
 ghost use Rattle.go_typings.specs.Declarations.{declarations as all_declarations};
+ghost use Rattle.go_typings.specs.Sources.{PackageSource};
 
 use crate::imports::{import_named, imports_of};
+use crate::places::{has_place, places_in};
 use crate::references::{is_selected, references};
 use go_base::memory::NoMemory;
 use go_declarations::listing::Declaration;
@@ -21,6 +24,7 @@ use go_references::references::Reference;
 use go_syntax::name::Place;
 use go_units::unit::{Unit, UsedImport};
 use std::alloc::Global;
+use std::collections::BTreeSet;
 
 fn is_same(left: &UsedImport, right: &UsedImport) -> bool
     ensures { Decides result (import_of left.now ≡ import_of right.now) }
@@ -121,22 +125,39 @@ fn is_seen_in(
     Ok(false)
 }
 
-// Whether an import isn't found and is needed.
+// Whether an import isn't found and is needed. Most are told by the places of those from which something seen selects.
 fn is_needed(
     alloc: Global,
     unit: &Unit,
     declarations: &[Declaration<'_>],
     seen: &[bool],
     file: u32,
+    places: &BTreeSet<u32>,
     import: &UsedImport,
 ) -> Result<bool, NoMemory>
-    requires { declarations_of declarations.now ≡ all_declarations (source_of unit.now) }
+    requires listed { declarations_of declarations.now ≡ all_declarations (source_of unit.now) }
+    requires held { HoldsPlaces (source_of unit.now) declarations.now seen.now file places.now.keys }
     ensures { AreFlagsOf (length (all_declarations (source_of unit.now))) (IsExposed (source_of unit.now)) seen.now → IfOk result (λ answer. Decides answer (IsNeeded (source_of unit.now) (file, import_of import.now))) }
 {
     if import.found {
         return Ok(false);
     }
+    if !has_place(places, import.place) {
+        return Ok(false);
+    }
     is_seen_in(alloc, unit, declarations, seen, file, import)
+}
+
+// Whether one of the imports isn't found; else none of them is needed.
+fn has_missing(imports: &[UsedImport]) -> bool
+    ensures { (u : PackageSource) (file : ℕ) → result ≡ false → NeedsIn u file imports.now None }
+{
+    for import in imports {
+        if !import.found {
+            return true;
+        }
+    }
+    false
 }
 
 // The first of the imports of a file that is needed.
@@ -151,8 +172,12 @@ fn needed_in(
     requires { declarations_of declarations.now ≡ all_declarations (source_of unit.now) }
     ensures { AreFlagsOf (length (all_declarations (source_of unit.now))) (IsExposed (source_of unit.now)) seen.now → IfOk result (NeedsIn (source_of unit.now) file imports.now) }
 {
+    if !has_missing(imports) {
+        return Ok(None);
+    }
+    let places = places_in(alloc, unit, declarations, seen, file)?;
     for import in imports {
-        let found = is_needed(alloc, unit, declarations, seen, file, import)?;
+        let found = is_needed(alloc, unit, declarations, seen, file, &places, import)?;
         if found {
             return Ok(Some(Place {
                 file,
@@ -164,8 +189,8 @@ fn needed_in(
 }
 
 /// The place of the first import of a package, in the order of its files and their places, that isn't found and from which a declaration
-/// that is seen selects; None where there is none. It takes time by the number of the imports that aren't found and aren't needed before
-/// that, times that of the references.
+/// that is seen selects; None where there is none. Each file that has one that isn't found takes time by the number of its references, times that of its
+/// imports.
 pub fn first_needed(
     alloc: Global,
     unit: &Unit,

@@ -257,15 +257,15 @@ fn names_what_a_store_lists_and_has_not(rt: HostRuntime) {
     }
 }
 
-// A constant in so many parentheses. A program as Rattle's own compiler builds it wants a larger stack for
+// A constant behind and before so many parentheses. A program as Rattle's own compiler builds it wants a larger stack for
 // the deepest ones than it is given, so no archive holds them.
-fn in_parentheses(alloc: Global, pairs: u32) -> Result<Vec<u8>, AllocError> {
+fn in_parentheses(alloc: Global, open: u32, closed: u32) -> Result<Vec<u8>, AllocError> {
     let mut source = Vec::from_slice(alloc, b"package p\nconst X = ")?;
-    for _ in 0..pairs {
+    for _ in 0..open {
         source.push(b'(')?;
     }
     source.push(b'5')?;
-    for _ in 0..pairs {
+    for _ in 0..closed {
         source.push(b')')?;
     }
     Ok(source)
@@ -289,8 +289,12 @@ fn reads_syntax_up_to_a_height_of_256(rt: HostRuntime) -> Result<(), Fail> {
     let report = b"pkg m/p, const X = 5\npkg m/p, const X ideal-int\n".as_slice();
     let refused =
         b"apigate: new linux-amd64: p/p.go: not in the grammar of this profile\n".as_slice();
-    for (pairs, code, wanted, fault) in [(256, 0, report, b"".as_slice()), (257, 3, b"", refused)] {
-        let source = in_parentheses(alloc, pairs)?;
+    for (open, closed, code, wanted, fault) in [
+        (256, 256, 0, report, b"".as_slice()),
+        (257, 257, 3, b"", refused),
+        (4_000_000, 0, 3, b"", refused),
+    ] {
+        let source = in_parentheses(alloc, open, closed)?;
         let mut files = List::new(alloc);
         add_file(alloc, &mut files, b"new/go.mod", b"module m\n")?;
         add_file(alloc, &mut files, b"new/p/p.go", &source)?;

@@ -5,6 +5,9 @@ use Rattle.go_import_uses.proofs.OneOf.{is_not, is_so}
 use Rattle.go_sources.specs.UnitSources.{import_of, source_of}
 use Rattle.go_import_uses.proofs.needed.needed_in.Goals as goal
 
+pub returns-then-not-has_missing : goal.returns-then-not-has_missing
+returns-then-not-has_missing c are = c.has_missing.ensures (source_of c.args.«unit».now) c.args.file c.if-not-has_missing.true
+
 pub returns-then-found : goal.returns-then-found
 returns-then-found c are =
     let u = source_of c.args.«unit».now in
