@@ -1,5 +1,5 @@
 -- What is found on a platform, by the worlds of its trees.
-use Rattle.std.proofs.Common.{◌≡◌, ◌+◌, ℕ, Option, Some, None, List, [], ◌∷◌, refl, sym, subst, arith}
+use Rattle.std.proofs.Common.{◌≡◌, ◌≤◌, ◌+◌, ℕ, Option, Some, None, List, [], ◌∷◌, refl, sym, subst, arith}
 use Rattle.api_features.specs.Features.{IsFeature}
 use Rattle.api_findings.specs.Checks.{CountsAtMost, count_more, count_none}
 use Rattle.api_findings.specs.Findings.{Finds, features_alone, with_verdict, OldStands, old_refused, new_refused}
@@ -44,6 +44,9 @@ module _ (barred : List (List ℕ)) (tree std_tree : Tree) (p : Platform) where
 
     pub both_count : (before mid now : ℕ) → CountsAtMostOn barred old std_tree p before mid → CountsAtMostOn barred tree std_tree p mid now → CountsAtMost barred (Some old) tree std_tree (p ∷ []) before now
     both_count before mid now k l = (k.0 + l.0 + 0, count_more k.0 l.0 k.1 l.1 count_none, omega (arith, k.2, l.2))
+
+    pub pair_count : (before now k l : ℕ) → CountsAtMostOn barred old std_tree p 0 k → CountsAtMostOn barred tree std_tree p 0 l → now ≤ before + k + l → CountsAtMost barred (Some old) tree std_tree (p ∷ []) before now
+    pair_count before now k l a b h = (a.0 + b.0 + 0, count_more a.0 b.0 a.1 b.1 count_none, omega (arith, a.2, b.2, h))
 
     module _ (w : Packages) (i : IsWorldOn barred old std_tree p w) where
       stands : OldStands barred (Some old) tree std_tree p

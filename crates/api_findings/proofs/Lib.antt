@@ -6,3 +6,4 @@ pub mod OneFinding
 pub mod OneListing
 pub mod PlainPaths
 pub mod PlatformFindings
+pub mod PlatformOutcomes

@@ -54,11 +54,11 @@ module _ (barred : List (List ℕ)) (old : Option Tree) (tree std_tree : Tree) w
   no_packages p None = refl
   no_packages p (Some t) = no_package
 
-  skip_all : (ps : List Platform) → Counts ps 0
+  pub skip_all : (ps : List Platform) → Counts ps 0
   skip_all [] = count_none
   skip_all (p ∷ ps) = count_more 0 0 (no_packages p old) no_package (skip_all ps)
 
-  counts_then : (p : Platform) (ps : List Platform) (k m : ℕ) → Counts (p ∷ []) k → Counts ps m → Counts (p ∷ ps) (k + m)
+  pub counts_then : (p : Platform) (ps : List Platform) (k m : ℕ) → Counts (p ∷ []) k → Counts ps m → Counts (p ∷ ps) (k + m)
   counts_then p ps k m (count_more a b h i count_none) d = let e : a + b + m ≡ a + b + 0 + m = omega arith in subst (Counts (p ∷ ps)) e (count_more a b h i d)
 
   -- ---- what was found on each of the platforms
@@ -153,10 +153,13 @@ module _ (barred : List (List ℕ)) (old : Option Tree) (tree std_tree : Tree) w
   pub none_counted : (ps : List Platform) (before now : ℕ) → now ≡ before → CountsAtMost barred old tree std_tree ps before now
   none_counted ps before now e = (0, skip_all ps, omega (arith, e))
 
+  pub many_taken : (ps : List Platform) (i : ℕ) (lists : List (List Line)) (vs : List Verdict) (before now : ℕ) → i < length ps → TakenTo ps i lists vs before now → length lists ≡ i
+  many_taken ps i lists vs before now within t = same_length t.found ∙ length_take i ps (omega (arith, within))
+
   -- what is found on the next platform, where an earlier one is alike
   module _ (ps : List Platform) (ns : List ℕ) (firsts : AreFirsts (files_of old tree std_tree) ps ns) (i : ℕ) (lists : List (List Line)) (vs : List Verdict) (before now : ℕ) (within : i < length ps) (t : TakenTo ps i lists vs before now) where
     many : length lists ≡ i
-    many = same_length t.found ∙ length_take i ps (omega (arith, within))
+    many = many_taken ps i lists vs before now within t
 
     pub alike_earlier : get_or ns i 0 < length lists → IsFoundAlike barred old tree std_tree (platform_at ps i) (get_or lists (get_or ns i 0) []) (slice_get vs (get_or ns i 0))
     alike_earlier h = record {

@@ -1,9 +1,11 @@
 //! What a run finds in its trees on platforms.
-ghost use Rattle.std.specs.Prelude.{◌≡◌, ◌≢◌, ◌<◌, ◌++◌, ◌∷◌, [], IfOk, OnOk, get_or, length, slice_get};
+ghost use Rattle.std.specs.Prelude.{◌≡◌, ◌≢◌, ◌<◌, ◌++◌, ◌∷◌, [], IfOk, OnOk, false, get_or, length, slice_get};
 ghost use Rattle.std.specs.Option.{option_copied};
 ghost use Rattle.api_findings.specs.Checks.{CountsAtMost};
 ghost use Rattle.api_findings.specs.Findings.{AnswersFindings, AreLeftOut, IsOldTree};
 ghost use Rattle.api_findings.specs.inner.Found.{AnswersNext, IsFoundAlike, IsLeftOutAlike, IsMoreLeftOut, listed, verdicts_of};
+ghost use Rattle.api_findings.specs.inner.Outcomes.{AreOutcomes, IsOutcome, has_ended};
+ghost use Rattle.api_findings.specs.inner.Sides.{AreTrees};
 ghost use Rattle.api_lines.specs.Lines.{AreInOrder};
 ghost use Rattle.api_lines.specs.Merging.{HasNoContext};
 ghost use Rattle.go_base.specs.Lists.{Each, Has};
@@ -11,7 +13,8 @@ ghost use Rattle.go_file_choices.specs.AlikePlatforms.{AreFirsts, files_of};
 ghost use Rattle.go_model.specs.files.Trees.{IsTree};
 
 use crate::copies::{left_out_at, verdict_at};
-use crate::found::{Found, found_on};
+use crate::found::Found;
+use crate::outcomes::{Counted, Outcome, outcome_on, sought};
 use crate::trees::RunTrees;
 use api_judge::verdict::Verdict;
 use api_lines::platform_lines::PlatformLines;
@@ -25,6 +28,7 @@ use go_model::files::platform::Platform;
 use go_outside::gate::Gate;
 use go_unit_laws::laws::alike_units;
 use std::alloc::Global;
+use std::thread::Threads;
 
 /// What a run finds in its trees on platforms.
 pub struct Findings {
@@ -47,6 +51,19 @@ impl Drop for Findings {
 }
 
 impl Findings {
+    // Nothing, on no platform.
+    fn none(alloc: Global) -> Findings
+        ensures features { result.features ≡ [] }
+        ensures verdicts { result.verdicts ≡ [] }
+        ensures left_out { result.left_out ≡ [] }
+    {
+        Findings {
+            features: PlatformLines::new(alloc),
+            verdicts: List::new(alloc),
+            left_out: List::new(alloc),
+        }
+    }
+
     fn push_verdict(&mut self, verdict: Option<Verdict>) -> Result<(), NoMemory>
         ensures same { self.new.features ≡ self.old.features }
         ensures left_out { self.new.left_out ≡ self.old.left_out }
@@ -103,47 +120,41 @@ impl Findings {
     }
 }
 
-// Adds what is found on a platform, where the first one that is alike has this number: what was found there already, or what is found
-// now.
-fn add_next<G: Gate, L: Copy>(
+// Adds what came of a platform, where the first one that is alike has this number: what was found there already, or what was found here.
+fn add_outcome(
     alloc: Global,
     all: &mut Findings,
     first: usize,
     trees: &RunTrees<'_>,
     platform: Platform,
-    gate: &G,
-    steps: &mut Steps<L>,
+    outcome: Outcome,
 ) -> Result<(), PlatformError>
     requires alike { first < length all.old.features → IsFoundAlike trees.now.barred.now (option_copied trees.now.old_tree) trees.now.tree.now trees.now.std_tree.now platform (get_or all.old.features first []) (slice_get all.old.verdicts first) }
     requires left_out { first < length all.old.features → IsLeftOutAlike trees.now.barred.now (option_copied trees.now.old_tree) trees.now.tree.now trees.now.std_tree.now platform (slice_get all.old.left_out first) }
-    requires old { IsOldTree trees.now.barred.now (option_copied trees.now.old_tree) }
-    requires tree { IsTree trees.now.tree.now }
-    requires std { IsTree trees.now.std_tree.now }
-    requires named { trees.now.tree.now.module ≢ [] }
-    requires barred { Has trees.now.barred.now trees.now.tree.now.module }
+    requires outcome { IsOutcome trees.now.barred.now (option_copied trees.now.old_tree) trees.now.tree.now trees.now.std_tree.now first (length all.old.features) platform outcome }
+    ensures goes_on { OnOk result (has_ended outcome ≡ false) }
     ensures left_out { OnOk result (IsMoreLeftOut trees.now.barred.now (option_copied trees.now.old_tree) trees.now.tree.now trees.now.std_tree.now platform all.old.left_out all.new.left_out) }
     ensures answer { AnswersNext trees.now.barred.now (option_copied trees.now.old_tree) trees.now.tree.now trees.now.std_tree.now platform all.old.features all.old.verdicts all.new.features all.new.verdicts result }
-    ensures steps { CountsAtMost trees.now.barred.now (option_copied trees.now.old_tree) trees.now.tree.now trees.now.std_tree.now (platform ∷ []) steps.old steps.new }
 {
     alike_units();
-    if first < all.features.len() {
-        return match all.push_again(alloc, first) {
+    match outcome {
+        Outcome::Ended(error) => Err(error),
+        Outcome::Alike => match all.push_again(alloc, first) {
             Ok(()) => Ok(()),
             Err(NoMemory) => Err(PlatformError::NoMemory),
-        };
-    }
-    match found_on(alloc, trees, platform, gate, steps) {
-        Err(error) => Err(error),
-        Ok(found) => match all.push(alloc, found) {
+        },
+        Outcome::Sought(found) => match all.push(alloc, found) {
             Ok(()) => Ok(()),
             Err(NoMemory) => Err(PlatformError::NoMemory),
         },
     }
 }
 
-// What `find` says, by the numbers of the first platforms that are alike.
-fn find_by<G: Gate, L: Copy>(
+// What `find` says, by the numbers of the first platforms that are alike, one platform after another.
+fn find_in_order<R: Threads + Sync, G: Gate + Sync, L: Copy + Send>(
+    rt: &R,
     alloc: Global,
+    workers: u32,
     firsts: &[usize],
     trees: &RunTrees<'_>,
     platforms: &[Platform],
@@ -152,32 +163,25 @@ fn find_by<G: Gate, L: Copy>(
 ) -> Result<Findings, PlatformError>
     requires firsts { AreFirsts (files_of (option_copied trees.now.old_tree) trees.now.tree.now trees.now.std_tree.now) platforms.now firsts.now }
     requires old { IsOldTree trees.now.barred.now (option_copied trees.now.old_tree) }
-    requires tree { IsTree trees.now.tree.now }
-    requires std { IsTree trees.now.std_tree.now }
-    requires named { trees.now.tree.now.module ≢ [] }
-    requires barred { Has trees.now.barred.now trees.now.tree.now.module }
+    requires trees { AreTrees trees.now.barred.now trees.now.tree.now trees.now.std_tree.now }
     ensures answer { AnswersFindings trees.now.barred.now (option_copied trees.now.old_tree) trees.now.tree.now trees.now.std_tree.now platforms.now result }
     ensures left_out { IfOk result (λ found. AreLeftOut trees.now.barred.now trees.now.std_tree.now (option_copied trees.now.old_tree) trees.now.tree.now platforms.now found.left_out) }
     ensures steps { CountsAtMost trees.now.barred.now (option_copied trees.now.old_tree) trees.now.tree.now trees.now.std_tree.now platforms.now steps.old steps.new }
 {
-    let features = PlatformLines::new(alloc);
-    let verdicts = List::new(alloc);
-    let left_out = List::new(alloc);
-    let mut all = Findings {
-        features,
-        verdicts,
-        left_out,
-    };
+    let mut all = Findings::none(alloc);
     for at in 0..platforms.len() {
-        match add_next(
+        let outcome = outcome_on(
+            rt,
             alloc,
-            &mut all,
-            firsts[at],
+            workers,
             trees,
             platforms[at],
+            firsts[at],
+            at,
             gate,
             steps,
-        ) {
+        );
+        match add_outcome(alloc, &mut all, firsts[at], trees, platforms[at], outcome) {
             Err(error) => return Err(error),
             Ok(()) => {}
         }
@@ -185,11 +189,102 @@ fn find_by<G: Gate, L: Copy>(
     Ok(all)
 }
 
-/// What is found on these platforms in the new tree over the standard library's and, where there is an old tree, in both, and what was left out of them; or `Refused`
-/// with the fault line of the first platform on which a tree is refused, the old one before the new; or `NoMemory`. The counter rises by at
-/// most the number of the packages of both trees on all platforms together.
-pub fn find<G: Gate, L: Copy>(
+// The findings, of what came of each platform.
+fn gathered(
     alloc: Global,
+    firsts: &[usize],
+    trees: &RunTrees<'_>,
+    platforms: &[Platform],
+    outcomes: List<Outcome>,
+) -> Result<Findings, PlatformError>
+    requires firsts { AreFirsts (files_of (option_copied trees.now.old_tree) trees.now.tree.now trees.now.std_tree.now) platforms.now firsts.now }
+    requires outcomes { AreOutcomes trees.now.barred.now (option_copied trees.now.old_tree) trees.now.tree.now trees.now.std_tree.now 0 firsts.now platforms.now outcomes }
+    ensures answer { AnswersFindings trees.now.barred.now (option_copied trees.now.old_tree) trees.now.tree.now trees.now.std_tree.now platforms.now result }
+    ensures left_out { IfOk result (λ found. AreLeftOut trees.now.barred.now trees.now.std_tree.now (option_copied trees.now.old_tree) trees.now.tree.now platforms.now found.left_out) }
+{
+    let mut all = Findings::none(alloc);
+    let mut at = 0;
+    for outcome in outcomes.into_vec() {
+        match add_outcome(alloc, &mut all, firsts[at], trees, platforms[at], outcome) {
+            Err(error) => return Err(error),
+            Ok(()) => {}
+        }
+        at += 1;
+    }
+    Ok(all)
+}
+
+// The same, where several workers look at platforms at once.
+fn find_at_once<R: Threads + Sync, G: Gate + Sync, L: Copy + Send>(
+    rt: &R,
+    alloc: Global,
+    workers: u32,
+    firsts: &[usize],
+    trees: &RunTrees<'_>,
+    platforms: &[Platform],
+    gate: &G,
+    steps: &mut Steps<L>,
+) -> Result<Findings, PlatformError>
+    requires firsts { AreFirsts (files_of (option_copied trees.now.old_tree) trees.now.tree.now trees.now.std_tree.now) platforms.now firsts.now }
+    requires old { IsOldTree trees.now.barred.now (option_copied trees.now.old_tree) }
+    requires trees { AreTrees trees.now.barred.now trees.now.tree.now trees.now.std_tree.now }
+    ensures answer { AnswersFindings trees.now.barred.now (option_copied trees.now.old_tree) trees.now.tree.now trees.now.std_tree.now platforms.now result }
+    ensures left_out { IfOk result (λ found. AreLeftOut trees.now.barred.now trees.now.std_tree.now (option_copied trees.now.old_tree) trees.now.tree.now platforms.now found.left_out) }
+    ensures steps { CountsAtMost trees.now.barred.now (option_copied trees.now.old_tree) trees.now.tree.now trees.now.std_tree.now platforms.now steps.old steps.new }
+{
+    let Counted {
+        outcomes,
+        steps: counted,
+    } = sought(
+        rt,
+        alloc,
+        workers,
+        trees,
+        platforms,
+        firsts,
+        0,
+        gate,
+        steps.owner(),
+    );
+    steps.merge(counted);
+    match outcomes {
+        Err(NoMemory) => Err(PlatformError::NoMemory),
+        Ok(outcomes) => gathered(alloc, firsts, trees, platforms, outcomes),
+    }
+}
+
+// What `find` says, by the numbers of the first platforms that are alike.
+fn find_by<R: Threads + Sync, G: Gate + Sync, L: Copy + Send>(
+    rt: &R,
+    alloc: Global,
+    workers: u32,
+    firsts: &[usize],
+    trees: &RunTrees<'_>,
+    platforms: &[Platform],
+    gate: &G,
+    steps: &mut Steps<L>,
+) -> Result<Findings, PlatformError>
+    requires firsts { AreFirsts (files_of (option_copied trees.now.old_tree) trees.now.tree.now trees.now.std_tree.now) platforms.now firsts.now }
+    requires old { IsOldTree trees.now.barred.now (option_copied trees.now.old_tree) }
+    requires trees { AreTrees trees.now.barred.now trees.now.tree.now trees.now.std_tree.now }
+    ensures answer { AnswersFindings trees.now.barred.now (option_copied trees.now.old_tree) trees.now.tree.now trees.now.std_tree.now platforms.now result }
+    ensures left_out { IfOk result (λ found. AreLeftOut trees.now.barred.now trees.now.std_tree.now (option_copied trees.now.old_tree) trees.now.tree.now platforms.now found.left_out) }
+    ensures steps { CountsAtMost trees.now.barred.now (option_copied trees.now.old_tree) trees.now.tree.now trees.now.std_tree.now platforms.now steps.old steps.new }
+{
+    if workers < 2 {
+        return find_in_order(rt, alloc, workers, firsts, trees, platforms, gate, steps);
+    }
+    find_at_once(rt, alloc, workers, firsts, trees, platforms, gate, steps)
+}
+
+/// What is found on these platforms in the new tree over the standard library's and, where there is an old tree, in both, and what was left out of them; or `Refused`
+/// with the fault line of the first platform on which a tree is refused, the old one before the new; or `NoMemory`. So many workers look at platforms at
+/// once, and where there are more of them than platforms, at both trees; what is found doesn't depend on their number. The counter rises by at
+/// most the number of the packages of both trees on all platforms together.
+pub fn find<R: Threads + Sync, G: Gate + Sync, L: Copy + Send>(
+    rt: &R,
+    alloc: Global,
+    workers: u32,
     trees: &RunTrees<'_>,
     platforms: &[Platform],
     gate: &G,
@@ -208,6 +303,15 @@ pub fn find<G: Gate, L: Copy>(
 {
     match first_alike(alloc, trees.old_tree, trees.tree, trees.std_tree, platforms) {
         Err(NoMemory) => Err(PlatformError::NoMemory),
-        Ok(firsts) => find_by(alloc, firsts.items(), trees, platforms, gate, steps),
+        Ok(firsts) => find_by(
+            rt,
+            alloc,
+            workers,
+            firsts.items(),
+            trees,
+            platforms,
+            gate,
+            steps,
+        ),
     }
 }

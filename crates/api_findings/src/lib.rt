@@ -5,4 +5,6 @@ mod copies;
 pub mod findings;
 mod found;
 pub mod laws;
+mod outcomes;
+mod sides;
 pub mod trees;

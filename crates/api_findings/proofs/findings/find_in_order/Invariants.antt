@@ -1,7 +1,7 @@
 use Rattle.std.specs.Option.{option_copied}
 use Rattle.api_findings.proofs.LeftOutPlatforms.{LeftTo}
 use Rattle.api_findings.proofs.PlatformFindings.{TakenTo}
-use Rattle.api_findings.proofs.findings.find_by.Given as goal
+use Rattle.api_findings.proofs.findings.find_in_order.Given as goal
 
 abbrev pub invariant-loop-at : goal.invariant-loop-at
 invariant-loop-at g l =

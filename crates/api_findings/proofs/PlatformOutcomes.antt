@@ -1,0 +1,211 @@
+-- What comes of platforms that are looked at apart from each other.
+use Rattle.std.proofs.Common.{◌≡◌, ◌+◌, ◌<◌, ◌≤◌, ℕ, zero, suc, true, false, Option, List, [], ◌∷◌, ◌++◌, length, get_or, drop, take, Result, Ok, Err, IfOk, refl, sym, ap, ◌∙◌, subst, append_assoc, append-nil, arith, inl, inr}
+use Rattle.std.proofs.lemmas.List.{drop_more}
+use Rattle.api_findings.proofs.PlatformFindings.{Counts, TakenTo, counts_then, many_taken, skip_all}
+use Rattle.api_findings.specs.Checks.{CountsAtMost, CountsPackages, count_more, count_none}
+use Rattle.api_findings.specs.declared.found.Found.{Found}
+use Rattle.api_findings.specs.declared.outcomes.Outcome.{Outcome}
+use Rattle.api_findings.specs.declared.outcomes.Outcome.TheVariants as outcome
+use Rattle.api_findings.specs.inner.Found.{IsError}
+use Rattle.api_findings.specs.inner.Outcomes.{AreAppended, AreOutcomes, IsOutcome, has_ended}
+use Rattle.api_judge.specs.declared.verdict.Verdict.{Verdict}
+use Rattle.api_lines.specs.declared.line.Line.{Line}
+use Rattle.api_worlds.specs.declared.error.PlatformError.{PlatformError}
+use Rattle.go_base.proofs.Lists.{drop_past}
+use Rattle.go_base.specs.declared.memory.NoMemory.{NoMemory}
+use Rattle.go_imports.proofs.Members.{below_or}
+use Rattle.go_model.specs.declared.files.platform.Platform.{Platform}
+use Rattle.go_model.specs.declared.files.platform.Platform.TheVariants as platform
+use Rattle.go_model.specs.declared.files.tree.Tree.{Tree}
+
+-- both lists, where they are there
+pub appended_is : (r ours theirs : Result (List Outcome) NoMemory) (os us : List Outcome) → ours ≡ Ok os → theirs ≡ Ok us → IfOk r (λ all. all ≡ os ++ us) → AreAppended r ours theirs
+appended_is (Err e) ours theirs os us a b h = tt
+appended_is (Ok all) ours theirs os us a b h =
+    subst (λ r. AreAppended (Ok all) r theirs) (sym a) (subst (AreAppended (Ok all) (Ok os)) (sym b) h)
+
+module _ (barred : List (List ℕ)) (old : Option Tree) (tree std_tree : Tree) where
+  -- ---- one more
+
+  pub then_outcomes : (first number : ℕ) (p : Platform) (o : Outcome) (ns : List ℕ) (ps : List Platform) (os : List Outcome) → IsOutcome barred old tree std_tree first number p o → AreOutcomes barred old tree std_tree (number + 1) ns ps os
+      → AreOutcomes barred old tree std_tree number (first ∷ ns) (p ∷ ps) (o ∷ os)
+  then_outcomes first number p outcome.Alike ns ps os h a = (h, a)
+  then_outcomes first number p (outcome.Sought found) ns ps os h a = (h, a)
+  then_outcomes first number p (outcome.Ended e) ns ps os h a = h
+
+  pub last_outcome : (first number : ℕ) (p : Platform) (o : Outcome) (ns : List ℕ) (ps : List Platform) (os : List Outcome) → has_ended o ≡ true → IsOutcome barred old tree std_tree first number p o
+      → AreOutcomes barred old tree std_tree number (first ∷ ns) (p ∷ ps) (o ∷ os)
+  last_outcome first number p outcome.Alike ns ps os e h = absurd (cc)
+  last_outcome first number p (outcome.Sought found) ns ps os e h = absurd (cc)
+  last_outcome first number p (outcome.Ended e) ns ps os t h = h
+
+  -- ---- both lists
+
+  pub both_outcomes : (number : ℕ) (ns ms : List ℕ) (ps qs : List Platform) (os us : List Outcome) → AreOutcomes barred old tree std_tree number ns ps os → AreOutcomes barred old tree std_tree (number + length ps) ms qs us
+      → AreOutcomes barred old tree std_tree number (ns ++ ms) (ps ++ qs) (os ++ us)
+  both_outcomes number [] ms [] qs os us a b =
+      let here : number + 0 ≡ number = omega arith in
+      subst (λ (w : List Outcome). AreOutcomes barred old tree std_tree number ms qs (w ++ us)) (sym a) (subst (λ (n : ℕ). AreOutcomes barred old tree std_tree n ms qs us) here b)
+  both_outcomes number [] ms (p ∷ ps) qs os us a b = absurd a
+  both_outcomes number (n ∷ ns) ms [] qs os us a b = absurd a
+  both_outcomes number (n ∷ ns) ms (p ∷ ps) qs [] us a b = absurd a
+  both_outcomes number (n ∷ ns) ms (p ∷ ps) qs (outcome.Ended e ∷ os) us a b = a
+  both_outcomes number (n ∷ ns) ms (p ∷ ps) qs (outcome.Alike ∷ os) us a b =
+      let on : number + suc (length ps) ≡ number + 1 + length ps = omega arith in
+      (a.0, both_outcomes (number + 1) ns ms ps qs os us a.1 (subst (λ (k : ℕ). AreOutcomes barred old tree std_tree k ms qs us) on b))
+  both_outcomes number (n ∷ ns) ms (p ∷ ps) qs (outcome.Sought found ∷ os) us a b =
+      let on : number + suc (length ps) ≡ number + 1 + length ps = omega arith in
+      (a.0, both_outcomes (number + 1) ns ms ps qs os us a.1 (subst (λ (k : ℕ). AreOutcomes barred old tree std_tree k ms qs us) on b))
+
+  pub all_outcomes : (number : ℕ) (ns ms : List ℕ) (ps qs : List Platform) (r ours theirs : Result (List Outcome) NoMemory) → AreAppended r ours theirs → IfOk ours (AreOutcomes barred old tree std_tree number ns ps)
+      → IfOk theirs (AreOutcomes barred old tree std_tree (number + length ps) ms qs) → IfOk r (AreOutcomes barred old tree std_tree number (ns ++ ms) (ps ++ qs))
+  all_outcomes number ns ms ps qs (Err e) ours theirs a b c = tt
+  all_outcomes number ns ms ps qs (Ok all) (Ok os) (Ok us) a b c = subst (AreOutcomes barred old tree std_tree number (ns ++ ms) (ps ++ qs)) (sym a) (both_outcomes number ns ms ps qs os us b c)
+  all_outcomes number ns ms ps qs (Ok all) (Ok os) (Err e) a b c = absurd a
+  all_outcomes number ns ms ps qs (Ok all) (Err e) theirs a b c = absurd a
+
+  -- ---- how many packages
+
+  abbrev Packages : List Platform → ℕ → Type 0
+  Packages ps n = Counts barred old tree std_tree ps n
+
+  counts_both : (ps qs : List Platform) (n m : ℕ) → Packages ps n → Packages qs m → Packages (ps ++ qs) (n + m)
+  counts_both [] qs n m count_none d = let e : m ≡ 0 + m = omega arith in subst (Packages qs) e d
+  counts_both (p ∷ ps) qs n m (count_more a b {rest = rest} h i c) d =
+      let e : a + b + (rest + m) ≡ a + b + rest + m = omega arith in
+      subst (Packages (p ∷ (ps ++ qs))) e (count_more a b h i (counts_both ps qs rest m c d))
+
+  pub all_counted : (ps qs : List Platform) (k l total : ℕ) → CountsAtMost barred old tree std_tree ps 0 k → CountsAtMost barred old tree std_tree qs 0 l → total ≤ k + l → CountsAtMost barred old tree std_tree (ps ++ qs) 0 total
+  all_counted ps qs k l total a b h = (a.0 + b.0, counts_both ps qs a.0 b.0 a.1 b.1, omega (arith, a.2, b.2, h))
+
+  pub merged_count : (ps : List Platform) (k before now : ℕ) → CountsAtMost barred old tree std_tree ps 0 k → now ≤ before + k → CountsAtMost barred old tree std_tree ps before now
+  merged_count ps k before now a h = (a.0, a.1, omega (arith, a.2, h))
+
+  -- ---- what has come so far, of the first platforms
+
+  pub record SoughtTo (start : ℕ) (ns : List ℕ) (ps : List Platform) (i : ℕ) (os : List Outcome) (before now : ℕ) : Type 0 where
+    pub outcomes : (us : List Outcome) → AreOutcomes barred old tree std_tree (start + i) (drop i ns) (drop i ps) us → AreOutcomes barred old tree std_tree start ns ps (os ++ us)
+    pub count : ℕ
+    pub counted : now ≤ before + count
+    pub counts : (m : ℕ) → Packages (drop i ps) m → Packages ps (count + m)
+
+  pub sought_none : (start : ℕ) (ns : List ℕ) (ps : List Platform) (os : List Outcome) (before : ℕ) → os ≡ [] → SoughtTo start ns ps 0 os before before
+  sought_none start ns ps os before e =
+      let here : start + 0 ≡ start = omega arith in
+      record {
+        outcomes = λ us h. subst (λ (w : List Outcome). AreOutcomes barred old tree std_tree start ns ps (w ++ us)) (sym e) (subst (λ (n : ℕ). AreOutcomes barred old tree std_tree n ns ps us) here h);
+        count = 0;
+        counted = omega arith;
+        counts = λ m h. let z : m ≡ 0 + m = omega arith in subst (Packages ps) z h;
+      }
+
+  module _ (start : ℕ) (ns : List ℕ) (ps : List Platform) (same : length ns ≡ length ps) (i : ℕ) (d : Platform) (os : List Outcome) (before mid now : ℕ) (within : i < length ps)
+      (t : SoughtTo start ns ps i os before mid) (k : CountsAtMost barred old tree std_tree (get_or ps i d ∷ []) mid now) where
+    here : drop i ps ≡ get_or ps i d ∷ drop (i + 1) ps
+    here = drop_more ps i d within
+
+    first_here : drop i ns ≡ get_or ns i 0 ∷ drop (i + 1) ns
+    first_here = drop_more ns i 0 (omega (arith, within, same))
+
+    placed : (us : List Outcome) → AreOutcomes barred old tree std_tree (start + i) (get_or ns i 0 ∷ drop (i + 1) ns) (get_or ps i d ∷ drop (i + 1) ps) us → AreOutcomes barred old tree std_tree start ns ps (os ++ us)
+    placed us h = t.outcomes us (subst (λ (ms : List ℕ). AreOutcomes barred old tree std_tree (start + i) ms (drop i ps) us) (sym first_here) (subst (λ (qs : List Platform). AreOutcomes barred old tree std_tree (start + i) (get_or ns i 0 ∷ drop (i + 1) ns) qs us) (sym here) h))
+
+    pub count_sought : CountsAtMost barred old tree std_tree ps before now
+    count_sought = (
+      t.count + k.0,
+      subst (Packages ps) (omega arith) (t.counts (k.0 + 0) (subst (λ (w : List Platform). Packages w (k.0 + 0)) (sym here) (counts_then barred old tree std_tree (get_or ps i d) (drop (i + 1) ps) k.0 0 k.1 (skip_all barred old tree std_tree (drop (i + 1) ps))))),
+      omega (arith, t.counted, k.2),
+    )
+
+    module _ (o : Outcome) (is : IsOutcome barred old tree std_tree (get_or ns i 0) (start + i) (get_or ps i d) o) (all : List Outcome) (e : all ≡ os ++ o ∷ []) where
+      pub sought_more : SoughtTo start ns ps (i + 1) all before now
+      sought_more =
+          let on : start + (i + 1) ≡ start + i + 1 = omega arith in
+          record {
+            outcomes = λ us h.
+                subst (λ (w : List Outcome). AreOutcomes barred old tree std_tree start ns ps (w ++ us)) (sym e)
+                (subst (AreOutcomes barred old tree std_tree start ns ps) (sym (append_assoc os (o ∷ []) us))
+                (placed (o ∷ us) (then_outcomes (get_or ns i 0) (start + i) (get_or ps i d) o (drop (i + 1) ns) (drop (i + 1) ps) us is (subst (λ (n : ℕ). AreOutcomes barred old tree std_tree n (drop (i + 1) ns) (drop (i + 1) ps) us) on h))));
+            count = t.count + k.0;
+            counted = omega (arith, t.counted, k.2);
+            counts = λ m h. subst (Packages ps) (omega arith) (t.counts (k.0 + m) (subst (λ (w : List Platform). Packages w (k.0 + m)) (sym here) (counts_then barred old tree std_tree (get_or ps i d) (drop (i + 1) ps) k.0 m k.1 h)));
+          }
+
+      pub sought_last : has_ended o ≡ true → AreOutcomes barred old tree std_tree start ns ps all
+      sought_last f = subst (AreOutcomes barred old tree std_tree start ns ps) (sym e) (placed (o ∷ []) (last_outcome (get_or ns i 0) (start + i) (get_or ps i d) o (drop (i + 1) ns) (drop (i + 1) ps) [] f is))
+
+  module _ (start : ℕ) (ns : List ℕ) (ps : List Platform) (same : length ns ≡ length ps) (i : ℕ) (os : List Outcome) (before now : ℕ) (h : length ps ≤ i) (t : SoughtTo start ns ps i os before now) where
+    pub sought_all : AreOutcomes barred old tree std_tree start ns ps os
+    sought_all =
+        subst (AreOutcomes barred old tree std_tree start ns ps) (append-nil os)
+        (t.outcomes [] (subst (λ (ms : List ℕ). AreOutcomes barred old tree std_tree (start + i) ms (drop i ps) []) (sym (drop_past i ns (omega (arith, h, same)))) (subst (λ (qs : List Platform). AreOutcomes barred old tree std_tree (start + i) [] qs []) (sym (drop_past i ps h)) refl)))
+
+    pub count_all_sought : CountsAtMost barred old tree std_tree ps before now
+    count_all_sought = (t.count, subst (Packages ps) (omega arith) (t.counts 0 (subst (λ (w : List Platform). Packages w 0) (sym (drop_past i ps h)) count_none)), t.counted)
+
+  -- ---- what is left of the outcomes
+
+  pub Left : ℕ → List ℕ → List Platform → List Outcome → ℕ → Type 0
+  Left number ns ps os i = AreOutcomes barred old tree std_tree number (drop i ns) (drop i ps) os
+
+  no_platform : (number : ℕ) (ns : List ℕ) (o : Outcome) (os : List Outcome) → AreOutcomes barred old tree std_tree number ns [] (o ∷ os) → ⊥
+  no_platform number [] o os h = absurd (cc)
+  no_platform number (n ∷ ns) o os h = h
+
+  pub some_left : (number : ℕ) (ns : List ℕ) (ps : List Platform) (o : Outcome) (os : List Outcome) (i : ℕ) → Left number ns ps (o ∷ os) i → i < length ps
+  some_left number ns ps o os i h = elim (below_or i (length ps)) [
+    | inl within ↦ within
+    | inr past ↦ absurd (no_platform number (drop i ns) o os (subst (λ (qs : List Platform). AreOutcomes barred old tree std_tree number (drop i ns) qs (o ∷ os)) (drop_past i ps past) h))
+  ]
+
+  pub none_left : (number : ℕ) (ns : List ℕ) (ps : List Platform) (i : ℕ) → length ns ≡ length ps → Left number ns ps [] i → length ps ≤ i
+  none_left number ns ps i same h = elim (below_or i (length ps)) [
+    | inl within ↦ absurd (
+        subst (λ (qs : List Platform). AreOutcomes barred old tree std_tree number (get_or ns i 0 ∷ drop (i + 1) ns) qs []) (drop_more ps i platform.Linux386 within)
+        (subst (λ (ms : List ℕ). AreOutcomes barred old tree std_tree number ms (drop i ps) []) (drop_more ns i 0 (omega (arith, within, same))) h))
+    | inr past ↦ past
+  ]
+
+  head_of : (first number : ℕ) (p : Platform) (ns : List ℕ) (ps : List Platform) (o : Outcome) (os : List Outcome) → AreOutcomes barred old tree std_tree number (first ∷ ns) (p ∷ ps) (o ∷ os) → IsOutcome barred old tree std_tree first number p o
+  head_of first number p ns ps outcome.Alike os h = h.0
+  head_of first number p ns ps (outcome.Sought found) os h = h.0
+  head_of first number p ns ps (outcome.Ended e) os h = h
+
+  tail_of : (first number : ℕ) (p : Platform) (ns : List ℕ) (ps : List Platform) (o : Outcome) (os : List Outcome) → has_ended o ≡ false → AreOutcomes barred old tree std_tree number (first ∷ ns) (p ∷ ps) (o ∷ os)
+      → AreOutcomes barred old tree std_tree (number + 1) ns ps os
+  tail_of first number p ns ps outcome.Alike os e h = h.1
+  tail_of first number p ns ps (outcome.Sought found) os e h = h.1
+  tail_of first number p ns ps (outcome.Ended f) os e h = absurd (cc)
+
+  module _ (number : ℕ) (ns : List ℕ) (ps : List Platform) (same : length ns ≡ length ps) (o : Outcome) (os : List Outcome) (i : ℕ) (d : Platform) (h : Left number ns ps (o ∷ os) i) where
+    unfolded : AreOutcomes barred old tree std_tree number (get_or ns i 0 ∷ drop (i + 1) ns) (get_or ps i d ∷ drop (i + 1) ps) (o ∷ os)
+    unfolded =
+        let within = some_left number ns ps o os i h in
+        subst (λ (qs : List Platform). AreOutcomes barred old tree std_tree number (get_or ns i 0 ∷ drop (i + 1) ns) qs (o ∷ os)) (drop_more ps i d within)
+        (subst (λ (ms : List ℕ). AreOutcomes barred old tree std_tree number ms (drop i ps) (o ∷ os)) (drop_more ns i 0 (omega (arith, within, same))) h)
+
+    pub next_outcome : IsOutcome barred old tree std_tree (get_or ns i 0) number (get_or ps i d) o
+    next_outcome = head_of (get_or ns i 0) number (get_or ps i d) (drop (i + 1) ns) (drop (i + 1) ps) o os unfolded
+
+    pub next_left : has_ended o ≡ false → Left (number + 1) ns ps os (i + 1)
+    next_left e = tail_of (get_or ns i 0) number (get_or ps i d) (drop (i + 1) ns) (drop (i + 1) ps) o os e unfolded
+
+  pub first_left : (ns : List ℕ) (ps : List Platform) (os us : List Outcome) → us ≡ os → AreOutcomes barred old tree std_tree 0 ns ps os → Left 0 ns ps us 0
+  first_left ns ps os us e h = subst (AreOutcomes barred old tree std_tree 0 ns ps) (sym e) h
+
+  -- ---- of one platform
+
+  -- what comes of a platform comes of it as the one behind those on which something is found
+  pub outcome_there : (ps : List Platform) (i : ℕ) (lists : List (List Line)) (vs : List Verdict) (before now : ℕ) → i < length ps → TakenTo barred old tree std_tree ps i lists vs before now
+      → (first : ℕ) (p : Platform) (o : Outcome) → IsOutcome barred old tree std_tree first i p o → IsOutcome barred old tree std_tree first (length lists) p o
+  outcome_there ps i lists vs before now within t first p o h = subst (λ (n : ℕ). IsOutcome barred old tree std_tree first n p o) (sym (many_taken barred old tree std_tree ps i lists vs before now within t)) h
+
+  module _ (first number : ℕ) (p : Platform) (o : Outcome) where
+    pub alike_is : o ≡ outcome.Alike → IsOutcome barred old tree std_tree first number p o → first < number
+    alike_is e h = subst (IsOutcome barred old tree std_tree first number p) e h
+
+    pub sought_is : (found : Found) → o ≡ outcome.Sought found → IsOutcome barred old tree std_tree first number p o → IsOutcome barred old tree std_tree first number p (outcome.Sought found)
+    sought_is found e h = subst (IsOutcome barred old tree std_tree first number p) e h
+
+    pub ended_is : (e : PlatformError) → o ≡ outcome.Ended e → IsOutcome barred old tree std_tree first number p o → IsError barred old tree std_tree p e
+    ended_is e i h = subst (IsOutcome barred old tree std_tree first number p) i h

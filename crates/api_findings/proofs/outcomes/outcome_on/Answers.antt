@@ -1,0 +1,7 @@
+use Rattle.std.proofs.Common.{[], ◌∷◌, refl}
+use Rattle.std.specs.Option.{option_copied}
+use Rattle.api_findings.proofs.PlatformFindings.{none_counted}
+use Rattle.api_findings.proofs.outcomes.outcome_on.Goals as goal
+
+pub returns-then-first-number-clause-steps : goal.returns-then-first-number-clause-steps
+returns-then-first-number-clause-steps g c = none_counted c.args.trees.now.barred.now (option_copied c.args.trees.now.old_tree) c.args.trees.now.tree.now c.args.trees.now.std_tree.now (c.args.platform ∷ []) c.args.steps.now c.args.steps.now refl

@@ -1,0 +1,294 @@
+//! What comes of platforms, also of several at once.
+ghost use Rattle.std.specs.Prelude.{◌≡◌, ◌<◌, ◌≤◌, ◌+◌, ◌++◌, ◌^◌, ◌∷◌, [], true, false, length, IfOk};
+ghost use Rattle.std.specs.Option.{option_copied};
+ghost use Rattle.std.specs.Thread.{IsSend, IsSync};
+ghost use Rattle.api_findings.specs.Checks.{CountsAtMost};
+ghost use Rattle.api_findings.specs.Findings.{IsOldTree};
+ghost use Rattle.api_findings.specs.inner.Outcomes.{AreAppended, AreOutcomes, IsOutcome, has_ended};
+ghost use Rattle.api_findings.specs.inner.Sides.{AreTrees};
+
+use crate::found::{Found, found_on};
+use crate::trees::RunTrees;
+use api_worlds::error::PlatformError;
+use go_base::list::List;
+use go_base::memory::NoMemory;
+use go_base::steps::Steps;
+use go_model::files::platform::Platform;
+use go_model::laws::sendable;
+use go_outside::gate::Gate;
+use std::alloc::Global;
+use std::thread::{Threads, join};
+
+/// What comes of one platform.
+pub(crate) enum Outcome {
+    /// All files are chosen there as on an earlier one.
+    Alike,
+    /// What is found there.
+    Sought(Found),
+    Ended(PlatformError),
+}
+
+impl Drop for Outcome {
+    fn drop(self) {
+        match self {
+            Outcome::Alike => {}
+            Outcome::Sought(_) => {}
+            Outcome::Ended(_) => {}
+        }
+    }
+}
+
+/// What came of some platforms in a thread, and the packages that were counted there.
+pub(crate) struct Counted<L> {
+    pub outcomes: Result<List<Outcome>, NoMemory>,
+    pub steps: Steps<L>,
+}
+
+/// What comes of the platform of this number, where the first one that is alike has that number. So many workers look at the trees.
+pub(crate) fn outcome_on<R: Threads + Sync, G: Gate + Sync, L: Copy + Send>(
+    rt: &R,
+    alloc: Global,
+    workers: u32,
+    trees: &RunTrees<'_>,
+    platform: Platform,
+    first: usize,
+    number: usize,
+    gate: &G,
+    steps: &mut Steps<L>,
+) -> Outcome
+    requires old { IsOldTree trees.now.barred.now (option_copied trees.now.old_tree) }
+    requires trees { AreTrees trees.now.barred.now trees.now.tree.now trees.now.std_tree.now }
+    ensures outcome { IsOutcome trees.now.barred.now (option_copied trees.now.old_tree) trees.now.tree.now trees.now.std_tree.now first number platform result }
+    ensures steps { CountsAtMost trees.now.barred.now (option_copied trees.now.old_tree) trees.now.tree.now trees.now.std_tree.now (platform ∷ []) steps.old steps.new }
+{
+    if first < number {
+        return Outcome::Alike;
+    }
+    match found_on(rt, alloc, workers, trees, platform, gate, steps) {
+        Err(error) => Outcome::Ended(error),
+        Ok(found) => Outcome::Sought(found),
+    }
+}
+
+fn has_ended(outcome: &Outcome) -> bool
+    ensures { result ≡ has_ended outcome.now }
+{
+    match outcome {
+        Outcome::Alike => false,
+        Outcome::Sought(_) => false,
+        Outcome::Ended(_) => true,
+    }
+}
+
+// What comes of the platforms one after another, until an error; the first one has this number.
+fn in_order<R: Threads + Sync, G: Gate + Sync, L: Copy + Send>(
+    rt: &R,
+    alloc: Global,
+    workers: u32,
+    trees: &RunTrees<'_>,
+    platforms: &[Platform],
+    firsts: &[usize],
+    start: usize,
+    gate: &G,
+    steps: &mut Steps<L>,
+) -> Result<List<Outcome>, NoMemory>
+    requires old { IsOldTree trees.now.barred.now (option_copied trees.now.old_tree) }
+    requires trees { AreTrees trees.now.barred.now trees.now.tree.now trees.now.std_tree.now }
+    requires same { length firsts.now ≡ length platforms.now }
+    requires few { start + length platforms.now < 2 ^ 64 }
+    ensures outcomes { IfOk result (AreOutcomes trees.now.barred.now (option_copied trees.now.old_tree) trees.now.tree.now trees.now.std_tree.now start firsts.now platforms.now) }
+    ensures steps { CountsAtMost trees.now.barred.now (option_copied trees.now.old_tree) trees.now.tree.now trees.now.std_tree.now platforms.now steps.old steps.new }
+{
+    let mut all = List::new(alloc);
+    for at in 0..platforms.len() {
+        let outcome = outcome_on(
+            rt,
+            alloc,
+            workers,
+            trees,
+            platforms[at],
+            firsts[at],
+            start + at,
+            gate,
+            steps,
+        );
+        let ended = has_ended(&outcome);
+        all.push(outcome)?;
+        if ended {
+            return Ok(all);
+        }
+    }
+    Ok(all)
+}
+
+// The same, with a counter of its own, which begins at none.
+fn alone<R: Threads + Sync, G: Gate + Sync, L: Copy + Send>(
+    rt: &R,
+    alloc: Global,
+    workers: u32,
+    trees: &RunTrees<'_>,
+    platforms: &[Platform],
+    firsts: &[usize],
+    start: usize,
+    gate: &G,
+    owner: L,
+) -> Counted<L>
+    requires old { IsOldTree trees.now.barred.now (option_copied trees.now.old_tree) }
+    requires trees { AreTrees trees.now.barred.now trees.now.tree.now trees.now.std_tree.now }
+    requires same { length firsts.now ≡ length platforms.now }
+    requires few { start + length platforms.now < 2 ^ 64 }
+    ensures outcomes { IfOk result.outcomes (AreOutcomes trees.now.barred.now (option_copied trees.now.old_tree) trees.now.tree.now trees.now.std_tree.now start firsts.now platforms.now) }
+    ensures steps { CountsAtMost trees.now.barred.now (option_copied trees.now.old_tree) trees.now.tree.now trees.now.std_tree.now platforms.now 0 result.steps }
+{
+    let mut steps = Steps::new(owner);
+    let outcomes = in_order(
+        rt, alloc, workers, trees, platforms, firsts, start, gate, &mut steps,
+    );
+    Counted { outcomes, steps }
+}
+
+fn joined(ours: List<Outcome>, theirs: List<Outcome>) -> Result<List<Outcome>, NoMemory>
+    ensures { IfOk result (λ all. all ≡ ours ++ theirs) }
+{
+    let mut all = ours;
+    for outcome in theirs.into_vec() {
+        all.push(outcome)?;
+    }
+    Ok(all)
+}
+
+// Those of the first platforms, and then those of the others.
+fn appended(
+    ours: Result<List<Outcome>, NoMemory>,
+    theirs: Result<List<Outcome>, NoMemory>,
+) -> Result<List<Outcome>, NoMemory>
+    ensures { AreAppended result ours theirs }
+{
+    match ours {
+        Err(NoMemory) => Err(NoMemory),
+        Ok(ours) => match theirs {
+            Err(NoMemory) => Err(NoMemory),
+            Ok(theirs) => joined(ours, theirs),
+        },
+    }
+}
+
+fn together<L: Copy>(ours: Counted<L>, theirs: Counted<L>) -> Counted<L>
+    ensures outcomes { AreAppended result.outcomes ours.outcomes theirs.outcomes }
+    ensures steps { result.steps ≤ ours.steps + theirs.steps }
+{
+    let Counted {
+        outcomes,
+        mut steps,
+    } = ours;
+    let Counted {
+        outcomes: others,
+        steps: counted,
+    } = theirs;
+    steps.merge(counted);
+    Counted {
+        outcomes: appended(outcomes, others),
+        steps,
+    }
+}
+
+// How many of the platforms aren't alike to an earlier one.
+fn fresh_in(firsts: &[usize], start: usize) -> usize
+    requires { start + length firsts.now < 2 ^ 64 }
+    ensures { result ≤ length firsts.now }
+{
+    let mut fresh = 0;
+    for at in 0..firsts.len() {
+        if firsts[at] >= start + at {
+            fresh += 1;
+        }
+    }
+    fresh
+}
+
+// The end of the platforms among which so many aren't alike to an earlier one.
+fn end_of(firsts: &[usize], start: usize, many: usize) -> usize
+    requires { start + length firsts.now < 2 ^ 64 }
+    ensures { result ≤ length firsts.now }
+{
+    let mut fresh = 0;
+    for at in 0..firsts.len() {
+        if firsts[at] >= start + at {
+            if fresh == many {
+                return at;
+            }
+            fresh += 1;
+        }
+    }
+    firsts.len()
+}
+
+/// What comes of platforms, whose first one has this number, by so many workers: each takes as many platforms, one after another until an error, in a thread
+/// of its own where one can be made. Where there are more workers than platforms, the trees of one are looked at at once.
+#[cycle(share)]
+pub(crate) fn sought<R: Threads + Sync, G: Gate + Sync, L: Copy + Send>(
+    rt: &R,
+    alloc: Global,
+    workers: u32,
+    trees: &RunTrees<'_>,
+    platforms: &[Platform],
+    firsts: &[usize],
+    start: usize,
+    gate: &G,
+    owner: L,
+) -> Counted<L>
+    requires old { IsOldTree trees.now.barred.now (option_copied trees.now.old_tree) }
+    requires trees { AreTrees trees.now.barred.now trees.now.tree.now trees.now.std_tree.now }
+    requires same { length firsts.now ≡ length platforms.now }
+    requires few { start + length platforms.now < 2 ^ 64 }
+    ensures outcomes { IfOk result.outcomes (AreOutcomes trees.now.barred.now (option_copied trees.now.old_tree) trees.now.tree.now trees.now.std_tree.now start firsts.now platforms.now) }
+    ensures steps { CountsAtMost trees.now.barred.now (option_copied trees.now.old_tree) trees.now.tree.now trees.now.std_tree.now platforms.now 0 result.steps }
+{
+    let fresh = fresh_in(firsts, start);
+    if workers < 2 || fresh < 2 {
+        return alone(
+            rt, alloc, workers, trees, platforms, firsts, start, gate, owner,
+        );
+    }
+    sendable();
+    let half = workers / 2;
+    let others = workers - half;
+    let end = end_of(firsts, start, fresh / 2);
+    let next = start + end;
+    let (our_platforms, their_platforms) = platforms.split_at(end);
+    let (our_firsts, their_firsts) = firsts.split_at(end);
+    let front = move || -> Counted<L>
+        requires { IsSync R.row × IsSync G.row × IsSend L.row × IsOldTree trees.now.barred.now (option_copied trees.now.old_tree) × AreTrees trees.now.barred.now trees.now.tree.now trees.now.std_tree.now × (length our_firsts.now ≡ length our_platforms.now) × (start + length our_platforms.now < 2 ^ 64) }
+        ensures { IfOk result.outcomes (AreOutcomes trees.now.barred.now (option_copied trees.now.old_tree) trees.now.tree.now trees.now.std_tree.now start our_firsts.now our_platforms.now) × CountsAtMost trees.now.barred.now (option_copied trees.now.old_tree) trees.now.tree.now trees.now.std_tree.now our_platforms.now 0 result.steps }
+    {
+        sought(
+            rt,
+            alloc,
+            half,
+            trees,
+            our_platforms,
+            our_firsts,
+            start,
+            gate,
+            owner,
+        )
+    };
+    let back = move || -> Counted<L>
+        requires { IsSync R.row × IsSync G.row × IsSend L.row × IsOldTree trees.now.barred.now (option_copied trees.now.old_tree) × AreTrees trees.now.barred.now trees.now.tree.now trees.now.std_tree.now × (length their_firsts.now ≡ length their_platforms.now) × (next + length their_platforms.now < 2 ^ 64) }
+        ensures { IfOk result.outcomes (AreOutcomes trees.now.barred.now (option_copied trees.now.old_tree) trees.now.tree.now trees.now.std_tree.now next their_firsts.now their_platforms.now) × CountsAtMost trees.now.barred.now (option_copied trees.now.old_tree) trees.now.tree.now trees.now.std_tree.now their_platforms.now 0 result.steps }
+    {
+        sought(
+            rt,
+            alloc,
+            others,
+            trees,
+            their_platforms,
+            their_firsts,
+            next,
+            gate,
+            owner,
+        )
+    };
+    let (ours, theirs) = join(rt, front, back);
+    together(ours, theirs)
+}

@@ -1,0 +1,116 @@
+//! What one tree of a run has on a platform, with its features, and what two trees have at once.
+ghost use Rattle.std.specs.Thread.{IsSend, IsSync};
+ghost use Rattle.api_findings.specs.inner.Sides.{AnswersListed, AreTrees};
+ghost use Rattle.api_texts.specs.declared.lines.Side.TheVariants as side;
+ghost use Rattle.api_worlds.specs.PlatformWorlds.{CountsAtMost};
+
+use api_features::features::features;
+use api_lines::line::Line;
+use api_texts::lines::Side;
+use api_worlds::error::PlatformError;
+use api_worlds::platform_world::PlatformWorld;
+use api_worlds::trees::PlatformTrees;
+use api_worlds::world::world_on;
+use go_base::list::List;
+use go_base::memory::NoMemory;
+use go_base::steps::Steps;
+use go_model::laws::sendable;
+use go_outside::gate::Gate;
+use std::alloc::Global;
+use std::thread::{Threads, join};
+
+/// What one tree has on a platform, and the features of it.
+pub(crate) struct ListedWorld {
+    pub world: PlatformWorld,
+    pub lines: List<Line>,
+}
+
+impl Drop for ListedWorld {
+    fn drop(self) {
+        let ListedWorld { world: _, lines: _ } = self;
+    }
+}
+
+impl ListedWorld {
+    ghost use Rattle.std.specs.Prelude.{◌≡◌};
+
+    /// The world and the features, moved out.
+    pub(crate) fn into_parts(self) -> (PlatformWorld, List<Line>)
+        ensures { result ≡ (self.world, self.lines) }
+    {
+        let ListedWorld { world, lines } = self;
+        (world, lines)
+    }
+}
+
+/// What came of one tree in a thread, and the packages that were counted there.
+pub(crate) struct CountedWorld<L> {
+    pub outcome: Result<ListedWorld, PlatformError>,
+    pub steps: Steps<L>,
+}
+
+/// What one tree has on a platform, and its features.
+pub(crate) fn listed_on<G: Gate, L: Copy>(
+    alloc: Global,
+    side: Side,
+    trees: &PlatformTrees<'_>,
+    gate: &G,
+    steps: &mut Steps<L>,
+) -> Result<ListedWorld, PlatformError>
+    requires trees { AreTrees trees.now.barred.now trees.now.tree.now trees.now.std_tree.now }
+    ensures answer { AnswersListed trees.now.barred.now trees.now.tree.now trees.now.std_tree.now side trees.now.platform result }
+    ensures steps { CountsAtMost trees.now.barred.now trees.now.tree.now trees.now.std_tree.now trees.now.platform steps.old steps.new }
+{
+    match world_on(alloc, side, trees, gate, steps) {
+        Err(error) => Err(error),
+        Ok(world) => match features(alloc, &world.world) {
+            Err(NoMemory) => Err(PlatformError::NoMemory),
+            Ok(lines) => Ok(ListedWorld { world, lines }),
+        },
+    }
+}
+
+// The same, with a counter of its own, which begins at none.
+fn counted_on<G: Gate, L: Copy>(
+    alloc: Global,
+    side: Side,
+    trees: &PlatformTrees<'_>,
+    gate: &G,
+    owner: L,
+) -> CountedWorld<L>
+    requires trees { AreTrees trees.now.barred.now trees.now.tree.now trees.now.std_tree.now }
+    ensures answer { AnswersListed trees.now.barred.now trees.now.tree.now trees.now.std_tree.now side trees.now.platform result.outcome }
+    ensures steps { CountsAtMost trees.now.barred.now trees.now.tree.now trees.now.std_tree.now trees.now.platform 0 result.steps }
+{
+    let mut steps = Steps::new(owner);
+    let outcome = listed_on(alloc, side, trees, gate, &mut steps);
+    CountedWorld { outcome, steps }
+}
+
+/// The same of an old and a new tree, each in a thread of its own where one can be made.
+pub(crate) fn both_on<R: Threads + Sync, G: Gate + Sync, L: Copy + Send>(
+    rt: &R,
+    alloc: Global,
+    old: &PlatformTrees<'_>,
+    new: &PlatformTrees<'_>,
+    gate: &G,
+    owner: L,
+) -> (CountedWorld<L>, CountedWorld<L>)
+    requires old { AreTrees old.now.barred.now old.now.tree.now old.now.std_tree.now }
+    requires new { AreTrees new.now.barred.now new.now.tree.now new.now.std_tree.now }
+    ensures old { AnswersListed old.now.barred.now old.now.tree.now old.now.std_tree.now side.Old old.now.platform result.0.outcome }
+    ensures old_steps { CountsAtMost old.now.barred.now old.now.tree.now old.now.std_tree.now old.now.platform 0 result.0.steps }
+    ensures new { AnswersListed new.now.barred.now new.now.tree.now new.now.std_tree.now side.New new.now.platform result.1.outcome }
+    ensures new_steps { CountsAtMost new.now.barred.now new.now.tree.now new.now.std_tree.now new.now.platform 0 result.1.steps }
+{
+    sendable();
+    let before = move || -> CountedWorld<L>
+        requires { IsSync G.row × IsSend L.row × AreTrees old.now.barred.now old.now.tree.now old.now.std_tree.now }
+        ensures { AnswersListed old.now.barred.now old.now.tree.now old.now.std_tree.now side.Old old.now.platform result.outcome × CountsAtMost old.now.barred.now old.now.tree.now old.now.std_tree.now old.now.platform 0 result.steps }
+    { counted_on(alloc, Side::Old, old, gate, owner) };
+    let now = move || -> CountedWorld<L>
+        requires { IsSync G.row × IsSend L.row × AreTrees new.now.barred.now new.now.tree.now new.now.std_tree.now }
+        ensures { AnswersListed new.now.barred.now new.now.tree.now new.now.std_tree.now side.New new.now.platform result.outcome × CountsAtMost new.now.barred.now new.now.tree.now new.now.std_tree.now new.now.platform 0 result.steps }
+    { counted_on(alloc, Side::New, new, gate, owner) };
+    join(rt, before, now)
+}
