@@ -22,6 +22,7 @@ use go_base::text::Text;
 use go_outside::files::Files;
 use go_outside::gate::Gate;
 use std::alloc::Global;
+use std::thread::Threads;
 
 // The module paths of a run.
 fn modules_of(alloc: Global, inputs: &Inputs) -> Result<List<Text>, NoMemory>
@@ -39,7 +40,8 @@ fn modules_of(alloc: Global, inputs: &Inputs) -> Result<List<Text>, NoMemory>
 }
 
 // What is found in the trees of these inputs decides.
-fn on_platforms<G: Gate, L: Copy>(
+fn on_platforms<R: Threads + Sync, G: Gate + Sync, L: Copy + Send>(
+    rt: &R,
     alloc: Global,
     request: &Request,
     inputs: &Inputs,
@@ -57,7 +59,9 @@ fn on_platforms<G: Gate, L: Copy>(
     ensures steps { CountsAtMost (modules_of inputs.now) inputs.now.old_tree inputs.now.tree inputs.now.std_tree request.now.platforms steps.old steps.new }
 {
     match find(
+        rt,
         alloc,
+        request.workers,
         &RunTrees {
             old_tree: inputs.old_tree.as_ref(),
             tree: &inputs.tree,
@@ -74,7 +78,8 @@ fn on_platforms<G: Gate, L: Copy>(
 }
 
 // What these inputs decide.
-fn on_inputs<G: Gate, L: Copy>(
+fn on_inputs<R: Threads + Sync, G: Gate + Sync, L: Copy + Send>(
+    rt: &R,
     alloc: Global,
     request: &Request,
     inputs: &Inputs,
@@ -91,12 +96,13 @@ fn on_inputs<G: Gate, L: Copy>(
 {
     match modules_of(alloc, inputs) {
         Err(NoMemory) => Decision::NoMemory,
-        Ok(modules) => on_platforms(alloc, request, inputs, modules.items(), gate, steps),
+        Ok(modules) => on_platforms(rt, alloc, request, inputs, modules.items(), gate, steps),
     }
 }
 
 /// What a request decides over these files.
-pub(crate) fn on_files<F: Files, G: Gate, L: Copy>(
+pub(crate) fn on_files<R: Threads + Sync, F: Files, G: Gate + Sync, L: Copy + Send>(
+    rt: &R,
     alloc: Global,
     files: &mut F,
     request: &Request,
@@ -111,12 +117,13 @@ pub(crate) fn on_files<F: Files, G: Gate, L: Copy>(
 {
     match read_inputs(alloc, files, request) {
         Err(error) => Decision::unread(error),
-        Ok(inputs) => on_inputs(alloc, request, &inputs, gate, steps),
+        Ok(inputs) => on_inputs(rt, alloc, request, &inputs, gate, steps),
     }
 }
 
 /// What a request decides over the files that the generator makes for it.
-pub(crate) fn on_made<G: Gate, L: Copy>(
+pub(crate) fn on_made<R: Threads + Sync, G: Gate + Sync, L: Copy + Send>(
+    rt: &R,
     alloc: Global,
     made: MadeTrees,
     request: &Request,
@@ -131,6 +138,6 @@ pub(crate) fn on_made<G: Gate, L: Copy>(
 {
     match make(alloc, made.seed, made.size) {
         Err(NoMemory) => Decision::NoMemory,
-        Ok(mut store) => on_files(alloc, &mut store, request, gate, steps),
+        Ok(mut store) => on_files(rt, alloc, &mut store, request, gate, steps),
     }
 }

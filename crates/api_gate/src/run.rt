@@ -22,7 +22,8 @@ use std::alloc::Global;
 use std::thread::Threads;
 
 // What a request decides.
-fn on_request<F: Files, G: Gate, L: Copy>(
+fn on_request<R: Threads + Sync, F: Files, G: Gate + Sync, L: Copy + Send>(
+    rt: &R,
     alloc: Global,
     files: &mut F,
     request: &Request,
@@ -38,13 +39,14 @@ fn on_request<F: Files, G: Gate, L: Copy>(
     ensures steps { (words : List (List ℕ)) → IsRequest words request.now → ChecksAtMost words (F.told files.old) steps.old steps.new }
 {
     match request.made {
-        None => on_files(alloc, files, request, gate, steps),
-        Some(made) => on_made(alloc, made, request, gate, steps),
+        None => on_files(rt, alloc, files, request, gate, steps),
+        Some(made) => on_made(rt, alloc, made, request, gate, steps),
     }
 }
 
 // What a run is to write.
-fn decide<F: Files, G: Gate, L: Copy>(
+fn decide<R: Threads + Sync, F: Files, G: Gate + Sync, L: Copy + Send>(
+    rt: &R,
     alloc: Global,
     words: &[String],
     files: &mut F,
@@ -59,7 +61,7 @@ fn decide<F: Files, G: Gate, L: Copy>(
     match read_words(alloc, words) {
         Err(NoMemory) => Decision::NoMemory,
         Ok(None) => Decision::Words,
-        Ok(Some(request)) => on_request(alloc, files, &request, gate, steps),
+        Ok(Some(request)) => on_request(rt, alloc, files, &request, gate, steps),
     }
 }
 
@@ -77,9 +79,10 @@ fn decide<F: Files, G: Gate, L: Copy>(
 /// release or none can follow it. Else it is `Broken` where `frozen` or `gate` tells a lost line, or `judge` or `gate` what is
 /// broken, and else `Pass`. In place of these may come `ReadFault`, only where the store failed and never in mode `make`,
 /// and `NoMemory`, at any time; and in place of all `WriteFault`, only where a sink failed. The hook hears of each check of a
-/// package before it begins, as of worker 0, and the counter rises by one for each. One worker checks all packages, whatever
-/// number the words give.
-pub fn run<R: Threads + Sync, F: Files, S: Sink, E: Sink, G: Gate + Sync, L: Copy>(
+/// package before it begins, as of worker 0 whichever thread checks it, and the counter rises by one for each. As many workers as the words give look at
+/// platforms at once and, where there are more of them than platforms, at both trees; each checks the packages of its tree one after another. None of these
+/// clauses speaks of their number: a run ends with the same report by any.
+pub fn run<R: Threads + Sync, F: Files, S: Sink, E: Sink, G: Gate + Sync, L: Copy + Send>(
     rt: &R,
     alloc: Global,
     words: &[String],
@@ -118,6 +121,6 @@ pub fn run<R: Threads + Sync, F: Files, S: Sink, E: Sink, G: Gate + Sync, L: Cop
     ensures steps { ChecksAtMost (map string_bytes words.now) (F.told files.old) steps.old steps.new }
 {
     one_outcome();
-    let decision = decide(alloc, words, files, gate, steps);
+    let decision = decide(rt, alloc, words, files, gate, steps);
     deliver(out, err, &decision)
 }
