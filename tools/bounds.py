@@ -17,7 +17,8 @@ def bound(data=NONE):
     may be set; and data ends at DATA, or before addresses do, so that these are left for the stack."""
     signal.signal(signal.SIGXFSZ, signal.SIG_IGN)
     stack, most = resource.getrlimit(resource.RLIMIT_STACK)
-    if least(stack, STACK) != STACK:
+    # a thread has as much as this limit says, and 2 MiB where it says nothing
+    if stack == NONE or least(stack, STACK) != STACK:
         resource.setrlimit(resource.RLIMIT_STACK, (least(STACK, most), most))
     addresses = resource.getrlimit(resource.RLIMIT_AS)[0]
     left = addresses if addresses == NONE else max(0, addresses - KEPT)
