@@ -20,22 +20,13 @@ use std::alloc::Global;
 use std::thread::{Threads, join};
 
 /// What comes of one platform.
+#[derive(Drop)]
 pub(crate) enum Outcome {
     /// All files are chosen there as on an earlier one.
     Alike,
     /// What is found there.
     Sought(Found),
     Ended(PlatformError),
-}
-
-impl Drop for Outcome {
-    fn drop(self) {
-        match self {
-            Outcome::Alike => {}
-            Outcome::Sought(_) => {}
-            Outcome::Ended(_) => {}
-        }
-    }
 }
 
 /// What came of some platforms in a thread, and the packages that were counted there.
