@@ -1,5 +1,5 @@
 -- What a declaration selects from, by its references and the imports of its file.
-use Rattle.std.proofs.Common.{◌≡◌, Bool, List, subst, sym}
+use Rattle.std.proofs.Common.{◌≡◌, Bool, List, subst}
 use Rattle.go_exposed.specs.BeyondProfile.{SelectsMissing}
 use Rattle.go_exposed.specs.ImportUses.{SelectsFrom}
 use Rattle.go_import_uses.specs.Selecting.{OneSelects, OneSelectsNone}

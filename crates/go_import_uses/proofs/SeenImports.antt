@@ -1,5 +1,5 @@
 -- Whether a seen declaration of a file selects from an import, declaration by declaration.
-use Rattle.std.proofs.Common.{◌≡◌, ◌<◌, ◌+◌, ℕ, Bool, true, false, List, arith, get_or, length, refl, sym, ap, ◌∙◌, subst, ◌⊎◌, inl, inr}
+use Rattle.std.proofs.Common.{◌≡◌, ◌<◌, ◌+◌, ℕ, Bool, true, false, List, arith, get_or, length, sym, ap, ◌∙◌, subst, ◌⊎◌, inl, inr}
 use Rattle.std.proofs.lemmas.Option.{slice_get_within}
 use Rattle.go_beyond.proofs.DecidedFlags.{borrowed_at, listed_length}
 use Rattle.go_declarations.specs.Listings.{declaration_of, declarations_of}

@@ -1,5 +1,5 @@
 -- Whether a reference selects from an import, by what its name means.
-use Rattle.std.proofs.Common.{◌≡◌, Bool, true, false, List, Option, None, Some, refl, sym, ap, ◌∙◌, subst}
+use Rattle.std.proofs.Common.{◌≡◌, Bool, true, false, List, None, Some, refl, sym, ap, ◌∙◌}
 use Rattle.std.specs.Prelude.{not}
 use Rattle.go_graphs.proofs.Flagging.{apart}
 use Rattle.go_import_uses.specs.Selecting.{Selects, SelectsNone, import_in}

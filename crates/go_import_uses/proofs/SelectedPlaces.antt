@@ -15,12 +15,11 @@ use Rattle.go_beyond.proofs.DecidedFlags.{borrowed_at, listed_length}
 use Rattle.go_declarations.specs.Listings.{declaration_of, declarations_of}
 use Rattle.go_declarations.specs.declared.listing.Declaration.{Declaration as Borrowed}
 use Rattle.go_exposed.specs.ExposedDeclarations.{IsExposed}
-use Rattle.go_exposed.specs.ImportUses.{SelectsFrom}
 use Rattle.go_exposed.specs.Refusals.{IsSeenIn}
 use Rattle.go_graphs.specs.Flags.{AreFlagsOf, is_flagged}
 use Rattle.go_import_uses.proofs.OneOf.{is_not, is_so}
 use Rattle.go_import_uses.proofs.Selected.{not_selected, nothing_selected}
-use Rattle.go_import_uses.specs.Selecting.{Selects, import_in}
+use Rattle.go_import_uses.specs.Selecting.{import_in}
 use Rattle.go_import_uses.specs.inner.SelectedPlaces.{CountsAt, HoldsBelow, HoldsPlaces, SelectsAt, SelectsFromAt, SomeSelectsAt}
 use Rattle.go_imports.proofs.GrowingSets.{grows_as, grows_nothing}
 use Rattle.go_references.specs.References.{is_selected}

@@ -1,11 +1,11 @@
-use Rattle.std.proofs.Common.{ℕ, List, ◌+◌, arith, length, subst, sym, ap, ◌∙◌}
+use Rattle.std.proofs.Common.{ℕ, List, ◌+◌, arith, length, subst, sym}
 use Rattle.go_beyond.proofs.DecidedFlags.{decided_next, listed_length}
 use Rattle.go_declarations.specs.Listings.{declarations_of}
 use Rattle.go_exposed.specs.BeyondProfile.{SelectsMissing}
 use Rattle.go_graphs.specs.Flags.{AreFlagsOf}
 use Rattle.go_sources.specs.UnitSources.{source_of}
 use Rattle.go_typings.specs.Assignments.{At}
-use Rattle.go_typings.specs.Declarations.{Declaration, declarations}
+use Rattle.go_typings.specs.Declarations.{Declaration}
 use Rattle.go_import_uses.proofs.missing.selecting_missing.Goals as goal
 
 pub loop-number-preserved : goal.loop-number-preserved

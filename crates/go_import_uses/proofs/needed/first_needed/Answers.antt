@@ -1,8 +1,7 @@
-use Rattle.std.proofs.Common.{◌≡◌, ◌<◌, ◌≤◌, ◌+◌, ℕ, List, Option, length, get_or, Some, None, subst, ap, arith}
+use Rattle.std.proofs.Common.{◌≡◌, ◌<◌, ◌≤◌, ◌+◌, ℕ, List, length, get_or, Some, None, subst, ap, arith}
 use Rattle.go_import_uses.specs.inner.FirstNeeded.{NeedsIn}
 use Rattle.go_import_uses.proofs.NeededImports.{file_needed, file_spared, files_past}
 use Rattle.go_sources.specs.UnitSources.{source_of}
-use Rattle.go_syntax.specs.declared.name.Place.{Place}
 use Rattle.go_units.specs.declared.unit.UnitFile.{UnitFile}
 use Rattle.go_units.specs.declared.unit.UsedImport.{UsedImport}
 use Rattle.go_import_uses.proofs.needed.first_needed.Goals as goal

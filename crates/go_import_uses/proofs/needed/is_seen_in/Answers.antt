@@ -1,7 +1,6 @@
-use Rattle.std.proofs.Common.{◌≡◌, Bool, true, arith, subst, sym}
+use Rattle.std.proofs.Common.{◌≡◌, Bool, true, arith, subst}
 use Rattle.go_declarations.specs.Listings.{declaration_of}
 use Rattle.go_exposed.specs.ImportUses.{SelectsFrom}
-use Rattle.go_graphs.specs.Flags.{is_flagged}
 use Rattle.go_import_uses.proofs.SeenImports.{none_more, none_seen, seen_here}
 use Rattle.go_selectors.specs.Answers.{Decides}
 use Rattle.go_sources.specs.UnitSources.{import_of, source_of}

@@ -1,4 +1,4 @@
-use Rattle.std.proofs.Common.{List, map, subst, ◌∙◌}
+use Rattle.std.proofs.Common.{map, ◌∙◌}
 use Rattle.go_declarations.specs.Listings.{declaration_of}
 use Rattle.go_import_uses.proofs.Declarations.{from_told}
 use Rattle.go_sources.specs.UnitSources.{import_of, source_of}

@@ -12,10 +12,10 @@ named is v w e = ap (λ (z : Reference). import_in is z.name.text) e
 pub returns-then-not-is_selected : goal.returns-then-not-is_selected
 returns-then-not-is_selected c = none_placed (map import_of c.args.imports.now) c.args.reference.now _ (sym c.is_selected.ensures ∙ c.if-not-is_selected.true)
 
-pub returns-in-Some : goal.returns-in-Some
-returns-in-Some c =
+pub returns-in_ok-put-in-Some : goal.returns-in_ok-put-in-Some
+returns-in_ok-put-in-Some c =
     one_placed (map import_of c.args.imports.now) c.args.reference.now c.in-Some.found.now _ _ (sym c.is_selected.ensures ∙ c.if-not-is_selected.false)
-    (c.in-Some.ensures ∙ named (map import_of c.args.imports.now) _ c.args.reference.now c.reference.view_is) c.in_ok-put.ensures
+    (c.in-Some.ensures ∙ named (map import_of c.args.imports.now) _ c.args.reference.now c.reference.view_is) c.in_ok-put-in-Some.ensures
 
 pub returns-in-None : goal.returns-in-None
 returns-in-None c = nothing_placed (map import_of c.args.imports.now) c.args.reference.now _ (c.in-None.ensures ∙ named (map import_of c.args.imports.now) _ c.args.reference.now c.reference.view_is)

@@ -1,4 +1,4 @@
-use Rattle.std.proofs.Common.{Bool, List, ℕ, arith, subst}
+use Rattle.std.proofs.Common.{Bool, arith, subst}
 use Rattle.go_base.specs.Growing.{Grows}
 use Rattle.go_declarations.specs.Listings.{declaration_of}
 use Rattle.go_import_uses.proofs.SelectedPlaces.{held_more, held_whole}
