@@ -1,5 +1,5 @@
 -- What is found on a platform is found on one that is alike.
-use Rattle.std.proofs.Common.{◌≡◌, ℕ, Option, Some, List, [], ◌∷◌, ◌++◌, Result, Ok, subst}
+use Rattle.std.proofs.Common.{◌≡◌, ℕ, Option, List, [], ◌∷◌, ◌++◌, Result, Ok, subst}
 use Rattle.api_findings.proofs.Alike.{of_old, of_std, of_tree}
 use Rattle.api_findings.specs.Findings.{Finds, features_alone, with_verdict}
 use Rattle.api_findings.specs.inner.Found.{IsAdded, IsFoundAlike, listed}

@@ -7,3 +7,4 @@ pub mod OneListing
 pub mod PlainPaths
 pub mod PlatformFindings
 pub mod PlatformOutcomes
+pub mod Sendable

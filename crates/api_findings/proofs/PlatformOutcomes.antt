@@ -2,7 +2,7 @@
 use Rattle.std.proofs.Common.{◌≡◌, ◌+◌, ◌<◌, ◌≤◌, ℕ, zero, suc, true, false, Option, List, [], ◌∷◌, ◌++◌, length, get_or, drop, take, Result, Ok, Err, IfOk, refl, sym, ap, ◌∙◌, subst, append_assoc, append-nil, arith, inl, inr}
 use Rattle.std.proofs.lemmas.List.{drop_more}
 use Rattle.api_findings.proofs.PlatformFindings.{Counts, TakenTo, counts_then, many_taken, skip_all}
-use Rattle.api_findings.specs.Checks.{CountsAtMost, CountsPackages, count_more, count_none}
+use Rattle.api_findings.specs.Checks.{CountsAtMost, count_more, count_none}
 use Rattle.api_findings.specs.declared.found.Found.{Found}
 use Rattle.api_findings.specs.declared.outcomes.Outcome.{Outcome}
 use Rattle.api_findings.specs.declared.outcomes.Outcome.TheVariants as outcome
@@ -11,11 +11,10 @@ use Rattle.api_findings.specs.inner.Outcomes.{AreAppended, AreOutcomes, IsOutcom
 use Rattle.api_judge.specs.declared.verdict.Verdict.{Verdict}
 use Rattle.api_lines.specs.declared.line.Line.{Line}
 use Rattle.api_worlds.specs.declared.error.PlatformError.{PlatformError}
-use Rattle.go_base.proofs.Lists.{drop_past}
+use Rattle.go_base.proofs.Lists.{drop_past, length_take}
 use Rattle.go_base.specs.declared.memory.NoMemory.{NoMemory}
 use Rattle.go_imports.proofs.Members.{below_or}
 use Rattle.go_model.specs.declared.files.platform.Platform.{Platform}
-use Rattle.go_model.specs.declared.files.platform.Platform.TheVariants as platform
 use Rattle.go_model.specs.declared.files.tree.Tree.{Tree}
 
 -- both lists, where they are there
@@ -23,6 +22,11 @@ pub appended_is : (r ours theirs : Result (List Outcome) NoMemory) (os us : List
 appended_is (Err e) ours theirs os us a b h = tt
 appended_is (Ok all) ours theirs os us a b h =
     subst (λ r. AreAppended (Ok all) r theirs) (sym a) (subst (AreAppended (Ok all) (Ok os)) (sym b) h)
+
+whole_of : {A : Type 0} (n : ℕ) (xs : List A) → take n xs ++ drop n xs ≡ xs
+whole_of zero xs = refl
+whole_of (suc n) [] = refl
+whole_of (suc n) (x ∷ xs) = ap (λ w. x ∷ w) (whole_of n xs)
 
 module _ (barred : List (List ℕ)) (old : Option Tree) (tree std_tree : Tree) where
   -- ---- one more
@@ -80,6 +84,26 @@ module _ (barred : List (List ℕ)) (old : Option Tree) (tree std_tree : Tree) w
 
   pub merged_count : (ps : List Platform) (k before now : ℕ) → CountsAtMost barred old tree std_tree ps 0 k → now ≤ before + k → CountsAtMost barred old tree std_tree ps before now
   merged_count ps k before now a h = (a.0, a.1, omega (arith, a.2, h))
+
+  -- ---- where platforms are parted
+
+  module _ (start n : ℕ) (ns ms gs : List ℕ) (ps qs rs : List Platform) (front : qs ≡ take n ps) (back : rs ≡ drop n ps) (first_front : ms ≡ take n ns) (first_back : gs ≡ drop n ns) (within : n ≤ length ps) where
+    both : qs ++ rs ≡ ps
+    both = (λ i. front i ++ back i) ∙ whole_of n ps
+
+    firsts_both : ms ++ gs ≡ ns
+    firsts_both = (λ i. first_front i ++ first_back i) ∙ whole_of n ns
+
+    pub split_outcomes : (r ours theirs : Result (List Outcome) NoMemory) → AreAppended r ours theirs → IfOk ours (AreOutcomes barred old tree std_tree start ms qs) → IfOk theirs (AreOutcomes barred old tree std_tree (start + n) gs rs)
+        → IfOk r (AreOutcomes barred old tree std_tree start ns ps)
+    split_outcomes r ours theirs a b c =
+        let many : length qs ≡ n = ap length front ∙ length_take n ps within in
+        subst (λ (w : List ℕ). IfOk r (AreOutcomes barred old tree std_tree start w ps)) firsts_both
+        (subst (λ (w : List Platform). IfOk r (AreOutcomes barred old tree std_tree start (ms ++ gs) w)) both
+        (all_outcomes start ms gs qs rs r ours theirs a b (subst (λ (k : ℕ). IfOk theirs (AreOutcomes barred old tree std_tree (start + k) gs rs)) (sym many) c)))
+
+    pub split_count : (k l total : ℕ) → CountsAtMost barred old tree std_tree qs 0 k → CountsAtMost barred old tree std_tree rs 0 l → total ≤ k + l → CountsAtMost barred old tree std_tree ps 0 total
+    split_count k l total a b h = subst (λ (w : List Platform). CountsAtMost barred old tree std_tree w 0 total) both (all_counted qs rs k l total a b h)
 
   -- ---- what has come so far, of the first platforms
 
@@ -145,7 +169,7 @@ module _ (barred : List (List ℕ)) (old : Option Tree) (tree std_tree : Tree) w
 
   -- ---- what is left of the outcomes
 
-  pub Left : ℕ → List ℕ → List Platform → List Outcome → ℕ → Type 0
+  abbrev pub Left : ℕ → List ℕ → List Platform → List Outcome → ℕ → Type 0
   Left number ns ps os i = AreOutcomes barred old tree std_tree number (drop i ns) (drop i ps) os
 
   no_platform : (number : ℕ) (ns : List ℕ) (o : Outcome) (os : List Outcome) → AreOutcomes barred old tree std_tree number ns [] (o ∷ os) → ⊥
@@ -156,14 +180,6 @@ module _ (barred : List (List ℕ)) (old : Option Tree) (tree std_tree : Tree) w
   some_left number ns ps o os i h = elim (below_or i (length ps)) [
     | inl within ↦ within
     | inr past ↦ absurd (no_platform number (drop i ns) o os (subst (λ (qs : List Platform). AreOutcomes barred old tree std_tree number (drop i ns) qs (o ∷ os)) (drop_past i ps past) h))
-  ]
-
-  pub none_left : (number : ℕ) (ns : List ℕ) (ps : List Platform) (i : ℕ) → length ns ≡ length ps → Left number ns ps [] i → length ps ≤ i
-  none_left number ns ps i same h = elim (below_or i (length ps)) [
-    | inl within ↦ absurd (
-        subst (λ (qs : List Platform). AreOutcomes barred old tree std_tree number (get_or ns i 0 ∷ drop (i + 1) ns) qs []) (drop_more ps i platform.Linux386 within)
-        (subst (λ (ms : List ℕ). AreOutcomes barred old tree std_tree number ms (drop i ps) []) (drop_more ns i 0 (omega (arith, within, same))) h))
-    | inr past ↦ past
   ]
 
   head_of : (first number : ℕ) (p : Platform) (ns : List ℕ) (ps : List Platform) (o : Outcome) (os : List Outcome) → AreOutcomes barred old tree std_tree number (first ∷ ns) (p ∷ ps) (o ∷ os) → IsOutcome barred old tree std_tree first number p o

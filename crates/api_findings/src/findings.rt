@@ -203,13 +203,15 @@ fn gathered(
     ensures left_out { IfOk result (λ found. AreLeftOut trees.now.barred.now trees.now.std_tree.now (option_copied trees.now.old_tree) trees.now.tree.now platforms.now found.left_out) }
 {
     let mut all = Findings::none(alloc);
-    let mut at = 0;
-    for outcome in outcomes.into_vec() {
+    let mut rest = outcomes.into_vec().into_iter();
+    for at in 0..platforms.len() {
+        let Some(outcome) = rest.next() else {
+            return Err(PlatformError::NoMemory);
+        };
         match add_outcome(alloc, &mut all, firsts[at], trees, platforms[at], outcome) {
             Err(error) => return Err(error),
             Ok(()) => {}
         }
-        at += 1;
     }
     Ok(all)
 }

@@ -141,11 +141,10 @@ fn alone<R: Threads + Sync, G: Gate + Sync, L: Copy + Send>(
 fn joined(ours: List<Outcome>, theirs: List<Outcome>) -> Result<List<Outcome>, NoMemory>
     ensures { IfOk result (λ all. all ≡ ours ++ theirs) }
 {
-    let mut all = ours;
-    for outcome in theirs.into_vec() {
-        all.push(outcome)?;
-    }
-    Ok(all)
+    let mut all = ours.into_vec();
+    let mut more = theirs.into_vec();
+    all.append(&mut more)?;
+    Ok(List::from_vec(all))
 }
 
 // Those of the first platforms, and then those of the others.
@@ -250,7 +249,7 @@ pub(crate) fn sought<R: Threads + Sync, G: Gate + Sync, L: Copy + Send>(
     let (our_firsts, their_firsts) = firsts.split_at(end);
     let front = move || -> Counted<L>
         requires { IsSync R.row × IsSync G.row × IsSend L.row × IsOldTree trees.now.barred.now (option_copied trees.now.old_tree) × AreTrees trees.now.barred.now trees.now.tree.now trees.now.std_tree.now × (length our_firsts.now ≡ length our_platforms.now) × (start + length our_platforms.now < 2 ^ 64) }
-        ensures { IfOk result.outcomes (AreOutcomes trees.now.barred.now (option_copied trees.now.old_tree) trees.now.tree.now trees.now.std_tree.now start our_firsts.now our_platforms.now) × CountsAtMost trees.now.barred.now (option_copied trees.now.old_tree) trees.now.tree.now trees.now.std_tree.now our_platforms.now 0 result.steps }
+        ensures { IfOk result.outcomes (AreOutcomes trees.entry.now.barred.now (option_copied trees.entry.now.old_tree) trees.entry.now.tree.now trees.entry.now.std_tree.now start our_firsts.entry.now our_platforms.entry.now) × CountsAtMost trees.entry.now.barred.now (option_copied trees.entry.now.old_tree) trees.entry.now.tree.now trees.entry.now.std_tree.now our_platforms.entry.now 0 result.steps }
     {
         sought(
             rt,
@@ -266,7 +265,7 @@ pub(crate) fn sought<R: Threads + Sync, G: Gate + Sync, L: Copy + Send>(
     };
     let back = move || -> Counted<L>
         requires { IsSync R.row × IsSync G.row × IsSend L.row × IsOldTree trees.now.barred.now (option_copied trees.now.old_tree) × AreTrees trees.now.barred.now trees.now.tree.now trees.now.std_tree.now × (length their_firsts.now ≡ length their_platforms.now) × (next + length their_platforms.now < 2 ^ 64) }
-        ensures { IfOk result.outcomes (AreOutcomes trees.now.barred.now (option_copied trees.now.old_tree) trees.now.tree.now trees.now.std_tree.now next their_firsts.now their_platforms.now) × CountsAtMost trees.now.barred.now (option_copied trees.now.old_tree) trees.now.tree.now trees.now.std_tree.now their_platforms.now 0 result.steps }
+        ensures { IfOk result.outcomes (AreOutcomes trees.entry.now.barred.now (option_copied trees.entry.now.old_tree) trees.entry.now.tree.now trees.entry.now.std_tree.now next their_firsts.entry.now their_platforms.entry.now) × CountsAtMost trees.entry.now.barred.now (option_copied trees.entry.now.old_tree) trees.entry.now.tree.now trees.entry.now.std_tree.now their_platforms.entry.now 0 result.steps }
     {
         sought(
             rt,

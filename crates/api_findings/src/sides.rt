@@ -106,11 +106,11 @@ pub(crate) fn both_on<R: Threads + Sync, G: Gate + Sync, L: Copy + Send>(
     sendable();
     let before = move || -> CountedWorld<L>
         requires { IsSync G.row × IsSend L.row × AreTrees old.now.barred.now old.now.tree.now old.now.std_tree.now }
-        ensures { AnswersListed old.now.barred.now old.now.tree.now old.now.std_tree.now side.Old old.now.platform result.outcome × CountsAtMost old.now.barred.now old.now.tree.now old.now.std_tree.now old.now.platform 0 result.steps }
+        ensures { AnswersListed old.entry.now.barred.now old.entry.now.tree.now old.entry.now.std_tree.now side.Old old.entry.now.platform result.outcome × CountsAtMost old.entry.now.barred.now old.entry.now.tree.now old.entry.now.std_tree.now old.entry.now.platform 0 result.steps }
     { counted_on(alloc, Side::Old, old, gate, owner) };
     let now = move || -> CountedWorld<L>
         requires { IsSync G.row × IsSend L.row × AreTrees new.now.barred.now new.now.tree.now new.now.std_tree.now }
-        ensures { AnswersListed new.now.barred.now new.now.tree.now new.now.std_tree.now side.New new.now.platform result.outcome × CountsAtMost new.now.barred.now new.now.tree.now new.now.std_tree.now new.now.platform 0 result.steps }
+        ensures { AnswersListed new.entry.now.barred.now new.entry.now.tree.now new.entry.now.std_tree.now side.New new.entry.now.platform result.outcome × CountsAtMost new.entry.now.barred.now new.entry.now.tree.now new.entry.now.std_tree.now new.entry.now.platform 0 result.steps }
     { counted_on(alloc, Side::New, new, gate, owner) };
     join(rt, before, now)
 }

@@ -15,10 +15,10 @@ use Rattle.go_model.specs.files.Trees.{IsTree}
 module _ (barred : List (List ℕ)) (tree std_tree : Tree) where
   -- a module's tree over the standard library's, whose path is barred
   pub record AreTrees : Type 0 where
-    pub tree : IsTree tree
-    pub std : IsTree std_tree
-    pub named : tree.module ≢ []
-    pub barred : Has barred tree.module
+    pub is_tree : IsTree tree
+    pub is_std : IsTree std_tree
+    pub is_named : tree.module ≢ []
+    pub is_barred : Has barred tree.module
 
   -- the world on a platform, what is left out of it, and its features
   pub record IsListedOn (p : Platform) (l : ListedWorld) : Type 0 where

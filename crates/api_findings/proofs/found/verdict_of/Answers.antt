@@ -11,37 +11,37 @@ use Rattle.go_units.specs.declared.unit.«Unit».{«Unit» as PackageUnit}
 use Rattle.api_findings.proofs.found.verdict_of.Goals as goal
 
 pub returns-in-Err-clause-answer : goal.returns-in-Err-clause-answer
-returns-in-Err-clause-answer g c =
+returns-in-Err-clause-answer c =
     let ended : IsErrorOn c.args.trees.now.barred.now c.args.trees.now.tree.now c.args.trees.now.std_tree.now side.New c.args.platform c.in-Err.error = subst (AnswersListed c.args.trees.now.barred.now c.args.trees.now.tree.now c.args.trees.now.std_tree.now side.New c.args.platform) c.in-Err.is c.requires.new in
     new_error c.args.trees.now.barred.now c.args.trees.now.tree.now c.args.trees.now.std_tree.now c.args.platform c.args.old_tree.now c.args.old.now.world.world c.requires.old.world c.in-Err.error ended
 
 pub compared-requires-clause-shared : goal.compared-requires-clause-shared
-compared-requires-clause-shared g c =
+compared-requires-clause-shared c =
     let old = c.requires.old.world in
     let listed : IsListedOn c.args.trees.now.barred.now c.args.trees.now.tree.now c.args.trees.now.std_tree.now c.args.platform c.in-Ok.new = subst (AnswersListed c.args.trees.now.barred.now c.args.trees.now.tree.now c.args.trees.now.std_tree.now side.New c.args.platform) c.in-Ok.is c.requires.new in
     let new = listed.world in
-    let two : AreOfTwoModules c.args.platform c.args.trees.now.barred.now c.args.trees.now.std_tree.now c.args.old_tree.now c.args.trees.now.tree.now old.0 new.0 = record { old_barred = c.requires.old_tree.2; new_barred = c.requires.trees.barred; old_units = old.1; new_units = new.1 } in
-    let old_paths : (u : PackageUnit) → Has old.0.packages u → u.path ≢ [] = λ u h. (c.unit_paths.ensures c.args.platform c.args.trees.now.barred.now c.args.old_tree.now c.args.trees.now.std_tree.now old.0 c.requires.old_tree.0 c.requires.trees.std c.requires.old_tree.1 old.1 u h).0 in
-    let new_paths : (u : PackageUnit) → Has new.0.packages u → u.path ≢ [] = λ u h. (c.unit_paths.ensures c.args.platform c.args.trees.now.barred.now c.args.trees.now.tree.now c.args.trees.now.std_tree.now new.0 c.requires.trees.tree c.requires.trees.std c.requires.trees.named new.1 u h).0 in
+    let two : AreOfTwoModules c.args.platform c.args.trees.now.barred.now c.args.trees.now.std_tree.now c.args.old_tree.now c.args.trees.now.tree.now old.0 new.0 = record { old_barred = c.requires.old_tree.2; new_barred = c.requires.trees.is_barred; old_units = old.1; new_units = new.1 } in
+    let old_paths : (u : PackageUnit) → Has old.0.packages u → u.path ≢ [] = λ u h. (c.unit_paths.ensures c.args.platform c.args.trees.now.barred.now c.args.old_tree.now c.args.trees.now.std_tree.now old.0 c.requires.old_tree.0 c.requires.trees.is_std c.requires.old_tree.1 old.1 u h).0 in
+    let new_paths : (u : PackageUnit) → Has new.0.packages u → u.path ≢ [] = λ u h. (c.unit_paths.ensures c.args.platform c.args.trees.now.barred.now c.args.trees.now.tree.now c.args.trees.now.std_tree.now new.0 c.requires.trees.is_tree c.requires.trees.is_std c.requires.trees.is_named new.1 u h).0 in
     record {
       sides = c.same_std_packages.ensures.sides c.args.platform c.args.trees.now.barred.now c.args.trees.now.std_tree.now c.args.old_tree.now c.args.trees.now.tree.now old.0 new.0 (bits_of c.args.platform) c.args.old.now.world.world c.in-Ok.new.world.world two old_paths new_paths old.2 new.2;
       same = c.same_std_packages.ensures.same c.args.platform c.args.trees.now.barred.now c.args.trees.now.std_tree.now c.args.old_tree.now c.args.trees.now.tree.now old.0 new.0 (bits_of c.args.platform) c.args.old.now.world.world c.in-Ok.new.world.world two old_paths new_paths old.2 new.2;
     }
 
 pub compared-requires-clause-old : goal.compared-requires-clause-old
-compared-requires-clause-old g c = c.requires.old.lines
+compared-requires-clause-old c = c.requires.old.lines
 
 pub compared-requires-clause-new : goal.compared-requires-clause-new
-compared-requires-clause-new g c =
+compared-requires-clause-new c =
     let listed : IsListedOn c.args.trees.now.barred.now c.args.trees.now.tree.now c.args.trees.now.std_tree.now c.args.platform c.in-Ok.new = subst (AnswersListed c.args.trees.now.barred.now c.args.trees.now.tree.now c.args.trees.now.std_tree.now side.New c.args.platform) c.in-Ok.is c.requires.new in
     listed.lines
 
 pub returns-in-Ok-compared-clause-answer : goal.returns-in-Ok-compared-clause-answer
-returns-in-Ok-compared-clause-answer g c =
+returns-in-Ok-compared-clause-answer c =
     let listed : IsListedOn c.args.trees.now.barred.now c.args.trees.now.tree.now c.args.trees.now.std_tree.now c.args.platform c.in-Ok.new = subst (AnswersListed c.args.trees.now.barred.now c.args.trees.now.tree.now c.args.trees.now.std_tree.now side.New c.args.platform) c.in-Ok.is c.requires.new in
     both_found c.args.trees.now.barred.now c.args.trees.now.tree.now c.args.trees.now.std_tree.now c.args.platform c.args.old_tree.now c.args.old.now.world.world c.requires.old.world c.in-Ok.new.world.world c.in-Ok-compared.found listed.world c.in-Ok-compared.ensures.found
 
 pub returns-in-Ok-compared-clause-left_out : goal.returns-in-Ok-compared-clause-left_out
-returns-in-Ok-compared-clause-left_out g c =
+returns-in-Ok-compared-clause-left_out c =
     let listed : IsListedOn c.args.trees.now.barred.now c.args.trees.now.tree.now c.args.trees.now.std_tree.now c.args.platform c.in-Ok.new = subst (AnswersListed c.args.trees.now.barred.now c.args.trees.now.tree.now c.args.trees.now.std_tree.now side.New c.args.platform) c.in-Ok.is c.requires.new in
     both_left_out c.args.trees.now.barred.now c.args.trees.now.std_tree.now (Some c.args.old_tree.now) c.args.trees.now.tree.now c.args.old_tree.now c.args.platform c.args.old.now.world.left_out c.in-Ok.new.world.left_out c.in-Ok-compared.found.left_out refl c.requires.old.left_out listed.left_out c.in-Ok-compared.ensures.left_out

@@ -2,4 +2,4 @@ use Rattle.std.proofs.Common.{◌≤◌}
 use Rattle.api_findings.proofs.outcomes.end_of.Given as goal
 
 abbrev pub invariant-loop-at : goal.invariant-loop-at
-invariant-loop-at g l = l.fresh ≤ l.at
+invariant-loop-at l = l.fresh ≤ l.at

@@ -1,3 +1,4 @@
+use Rattle.std.proofs.Common.{sym, ◌∙◌}
 use Rattle.std.specs.Option.{option_copied}
 use Rattle.api_findings.proofs.PlatformOutcomes.{count_all_sought, count_sought, sought_all, sought_last, sought_more, sought_none}
 use Rattle.api_findings.proofs.outcomes.in_order.Goals as goal
@@ -9,7 +10,7 @@ pub loop-at-preserved : goal.loop-at-preserved
 loop-at-preserved g c = sought_more c.args.trees.now.barred.now (option_copied c.args.trees.now.old_tree) c.args.trees.now.tree.now c.args.trees.now.std_tree.now c.args.start c.args.firsts.now c.args.platforms.now c.requires.same c.loop-at.at _ c.loop-at.all c.args.steps.now c.loop-at.steps c.outcome_on-outcome.new.steps c.loop-at-test.true c.loop-at.invariant c.outcome_on-outcome.ensures.steps c.outcome_on-outcome.result c.outcome_on-outcome.ensures.outcome _ c.in_ok-push.ensures.ok
 
 pub returns-then-ended-clause-outcomes : goal.returns-then-ended-clause-outcomes
-returns-then-ended-clause-outcomes g c = sought_last c.args.trees.now.barred.now (option_copied c.args.trees.now.old_tree) c.args.trees.now.tree.now c.args.trees.now.std_tree.now c.args.start c.args.firsts.now c.args.platforms.now c.requires.same c.loop-at.at _ c.loop-at.all c.args.steps.now c.loop-at.steps c.outcome_on-outcome.new.steps c.loop-at-test.true c.loop-at.invariant c.outcome_on-outcome.ensures.steps c.outcome_on-outcome.result c.outcome_on-outcome.ensures.outcome _ c.in_ok-push.ensures.ok _
+returns-then-ended-clause-outcomes g c = sought_last c.args.trees.now.barred.now (option_copied c.args.trees.now.old_tree) c.args.trees.now.tree.now c.args.trees.now.std_tree.now c.args.start c.args.firsts.now c.args.platforms.now c.requires.same c.loop-at.at _ c.loop-at.all c.args.steps.now c.loop-at.steps c.outcome_on-outcome.new.steps c.loop-at-test.true c.loop-at.invariant c.outcome_on-outcome.ensures.steps c.outcome_on-outcome.result c.outcome_on-outcome.ensures.outcome _ c.in_ok-push.ensures.ok (sym c.has_ended-ended.ensures ∙ c.if-ended.true)
 
 pub returns-then-ended-clause-steps : goal.returns-then-ended-clause-steps
 returns-then-ended-clause-steps g c = count_sought c.args.trees.now.barred.now (option_copied c.args.trees.now.old_tree) c.args.trees.now.tree.now c.args.trees.now.std_tree.now c.args.start c.args.firsts.now c.args.platforms.now c.requires.same c.loop-at.at _ c.loop-at.all c.args.steps.now c.loop-at.steps c.outcome_on-outcome.new.steps c.loop-at-test.true c.loop-at.invariant c.outcome_on-outcome.ensures.steps
