@@ -5,10 +5,10 @@ use Rattle.api_gate.proofs.RequestFacts.{named_module, old_tree}
 use Rattle.api_gate.proofs.requests.on_files.Goals as goal
 
 pub on_inputs-requires-clause-old : goal.on_inputs-requires-clause-old
-on_inputs-requires-clause-old g c = old_tree _ _ c.in-Ok.inputs c.in-Ok.ensures.answer.old_tree
+on_inputs-requires-clause-old g c κs within = old_tree _ _ c.in-Ok.inputs c.in-Ok.ensures.answer.old_tree
 
 pub on_inputs-requires-clause-named : goal.on_inputs-requires-clause-named
-on_inputs-requires-clause-named g c = named_module c.in-Ok.inputs.tree.«module» c.in-Ok.ensures.answer.tree.module_path
+on_inputs-requires-clause-named g c κs within = named_module c.in-Ok.inputs.tree.«module» c.in-Ok.ensures.answer.tree.module_path
 
 pub returns-in-Err-clause-decision : goal.returns-in-Err-clause-decision
 returns-in-Err-clause-decision g c = unread_decides _ _ _ c.args.request.now c.in-Err.error c.unread.result c.unread.ensures c.in-Err.ensures.answer

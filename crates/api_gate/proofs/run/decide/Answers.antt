@@ -4,10 +4,10 @@ use Rattle.api_gate.proofs.RequestFacts.{few_made, some_platform}
 use Rattle.api_gate.proofs.run.decide.Goals as goal
 
 pub on_request-requires-clause-platforms : goal.on_request-requires-clause-platforms
-on_request-requires-clause-platforms g c = some_platform _ c.in-Ok-Some.request (rw c.in-Ok-Some.field-0-is at c.in-Ok-Some.ensures)
+on_request-requires-clause-platforms g c κs within = some_platform _ c.in-Ok-Some.request (rw c.in-Ok-Some.field-0-is at c.in-Ok-Some.ensures)
 
 pub on_request-requires-clause-few : goal.on_request-requires-clause-few
-on_request-requires-clause-few g c = few_made _ c.in-Ok-Some.request (rw c.in-Ok-Some.field-0-is at c.in-Ok-Some.ensures)
+on_request-requires-clause-few g c κs within = few_made _ c.in-Ok-Some.request (rw c.in-Ok-Some.field-0-is at c.in-Ok-Some.ensures)
 
 pub returns-in-Err-clause-written : goal.returns-in-Err-clause-written
 returns-in-Err-clause-written g c = no_memory
