@@ -1,0 +1,9 @@
+pub mod BodyEnds
+pub mod Depths
+pub mod Heights
+pub mod Joins
+pub mod Sites
+pub mod StatementLevels
+pub mod StatementSites
+pub mod TreeLevels
+pub mod TreeSites

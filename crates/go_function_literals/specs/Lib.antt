@@ -1,0 +1,4 @@
+pub mod DeclarationPlaces
+pub mod Places
+pub mod Sites
+pub mod StatementPlaces
