@@ -1,3 +1,0 @@
-pub mod Guarding
-pub mod Ranging
-pub mod Tagging

@@ -1,5 +1,0 @@
-//! Bytes that tell types apart.
-#![tactic(auto)]
-
-pub mod codes;
-pub mod laws;

@@ -1,2 +1,0 @@
-pub mod ListedOnce
-pub mod Listing
