@@ -11,6 +11,7 @@
 #include <stdlib.h>
 #include <string.h>
 #include <sys/stat.h>
+#include <sys/syscall.h>
 #include <unistd.h>
 
 enum call { OPEN, OPENAT, LIST, READ, STATX, WRITE, CALLS };
@@ -114,6 +115,14 @@ __attribute__((destructor)) static void finish(void)
     if (!path || (file = opened(path, O_WRONLY | O_CREAT | O_TRUNC, 0600)) < 0)
         return;
     if (written(file, line, at) < 0)
-        _exit(99);
+        syscall(SYS_exit_group, 99);
     close(file);
+}
+
+/* A program that has threads ends by this call, after which no destructor runs. */
+void _exit(int status)
+{
+    finish();
+    syscall(SYS_exit_group, status);
+    __builtin_unreachable();
 }

@@ -13,6 +13,8 @@ MODES = {
     "skipped": "skipped --new new --std std",
     "make": "make --seed 1 --size 3",
     "features by two workers": "features --new new --std std --workers 2",
+    "judge by two workers": "judge --old old --new new --std std --workers 2",
+    "advise on three platforms by four workers": "advise --old old --new new --std std --version v1.2.3 --platforms linux-amd64,linux-386,windows-amd64 --workers 4",
     "make by two workers": "make --seed 1 --size 3 --workers 2",
 }
 

@@ -7,6 +7,7 @@
 #include <fcntl.h>
 #include <stdlib.h>
 #include <string.h>
+#include <sys/syscall.h>
 #include <unistd.h>
 
 static unsigned long refused, count;
@@ -81,6 +82,14 @@ __attribute__((destructor)) static void finish(void)
         digits[--at] = '0' + left % 10;
     while (left /= 10);
     if (write(file, digits + at, sizeof digits - at) < 0)
-        _exit(99);
+        syscall(SYS_exit_group, 99);
     close(file);
+}
+
+/* A program that has threads ends by this call, after which no destructor runs. */
+void _exit(int status)
+{
+    finish();
+    syscall(SYS_exit_group, status);
+    __builtin_unreachable();
 }
