@@ -1,0 +1,8 @@
+//! Conditions, what ranges give and to what, and the clauses of switches.
+#![tactic(auto)]
+
+pub mod conditions;
+pub mod guards;
+pub mod ranges;
+pub mod tags;
+pub mod targets;

@@ -1,0 +1,2 @@
+pub mod ReachedFolders
+pub mod WalkedFiles

@@ -1,0 +1,2 @@
+pub mod ClientWalks
+pub mod inner

@@ -1,0 +1,42 @@
+use Rattle.std.proofs.Common.{List, []}
+use Rattle.go_cursor.specs.Reading.{Next, run, step_of}
+use Rattle.go_descent.proofs.Chains.{handed_next, began, ran_out, found_none, found_one, no_item, bad_item, one_item}
+use Rattle.go_stmt_descent.specs.Statements.{case_item, statements, cases}
+use Rattle.go_stmt_lists.proofs.clauses.Clauses.cases.Goals as goal
+use Rattle.go_syntax.specs.declared.statement.Case.{Case}
+use Rattle.go_syntax.specs.grammar.Terminals.{Terminal, terminals}
+
+pub loop-turn-init : goal.loop-turn-init
+loop-turn-init g c =
+    let item : List Terminal → Next Case = case_item c.args.self.now.level.now.lower.readers.height (statements c.args.self.now.level.now.lower.readers.height).stmt in
+    began (step_of item) [] c.new-cases.result (terminals c.args.tokens.now) c.len-turn-end.result c.len-turn-end.ensures c.new-cases.ensures
+
+pub returns-in_err-case_item : goal.returns-in_err-case_item
+unfolding cases
+returns-in_err-case_item g c =
+    let item : List Terminal → Next Case = case_item c.args.self.now.level.now.lower.readers.height (statements c.args.self.now.level.now.lower.readers.height).stmt in
+    let ts : List Terminal = terminals c.loop-turn.tokens in
+    handed_next (run (step_of item) [] (terminals c.args.tokens.now)) (item ts) ts c.in_err-case_item.field-0.0 c.from_residual.result c.case_item.new.tokens c.case_item.new.tokens c.from_residual.ensures.1 c.in_err-case_item.ensures
+    (λ fail. bad_item (run (step_of item) [] (terminals c.args.tokens.now)) item c.len-turn-end.result c.loop-turn._turn c.loop-turn.cases ts c.loop-turn-test.true c.loop-turn.invariant fail)
+
+pub returns-in-None : goal.returns-in-None
+unfolding cases
+returns-in-None g c =
+    let item : List Terminal → Next Case = case_item c.args.self.now.level.now.lower.readers.height (statements c.args.self.now.level.now.lower.readers.height).stmt in
+    let ts : List Terminal = terminals c.loop-turn.tokens in
+    no_item (run (step_of item) [] (terminals c.args.tokens.now)) item c.len-turn-end.result c.loop-turn._turn c.loop-turn.cases ts c.loop-turn-test.true c.loop-turn.invariant (terminals c.case_item.new.tokens)
+    (found_none (item ts) ts c.in_ok-case_item.field-0 c.case_item.new.tokens c.in_ok-case_item.ensures c.in-None.is)
+
+pub loop-turn-preserved : goal.loop-turn-preserved
+loop-turn-preserved g c =
+    let item : List Terminal → Next Case = case_item c.args.self.now.level.now.lower.readers.height (statements c.args.self.now.level.now.lower.readers.height).stmt in
+    let ts : List Terminal = terminals c.loop-turn.tokens in
+    one_item (run (step_of item) [] (terminals c.args.tokens.now)) item c.len-turn-end.result c.loop-turn._turn c.loop-turn.cases ts c.loop-turn-test.true c.loop-turn.invariant c.in-Some.case (terminals c.case_item.new.tokens)
+    (found_one (item ts) ts c.in_ok-case_item.field-0 c.case_item.new.tokens c.in_ok-case_item.ensures c.in-Some.case c.in-Some.is) c.push.new.self c.in_ok-push-in-Some.ensures.ok
+
+pub returns : goal.returns
+unfolding cases
+returns g c =
+    let item : List Terminal → Next Case = case_item c.args.self.now.level.now.lower.readers.height (statements c.args.self.now.level.now.lower.readers.height).stmt in
+    let ts : List Terminal = terminals c.loop-turn.tokens in
+    ran_out (run (step_of item) [] (terminals c.args.tokens.now)) (step_of item) c.len-turn-end.result c.loop-turn._turn c.loop-turn.cases ts c.loop-turn-test.false c.loop-turn.invariant

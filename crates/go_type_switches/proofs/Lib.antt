@@ -1,0 +1,2 @@
+pub mod ListedOnce
+pub mod Listing

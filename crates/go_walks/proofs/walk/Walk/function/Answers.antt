@@ -1,0 +1,20 @@
+use Rattle.go_judged.specs.Judging.{Judges}
+use Rattle.go_local_scopes.proofs.Standing.{closed_same, kept_opened, opened_some, opened_told}
+use Rattle.go_statement_rules.specs.Scopes.{opened}
+use Rattle.go_walks.specs.Below.{blocks_of}
+use Rattle.go_walks.specs.Entering.{Enters, IsTypedIn}
+use Rattle.go_walks.proofs.walk.Walk.function.Goals as goal
+
+pub entered-judged-requires-clause-opened : goal.entered-judged-requires-clause-opened
+entered-judged-requires-clause-opened g c = opened_some c.args.env.now c.open_scope.new.self c.in_ok-open_scope.ensures.ok
+
+pub close_scope-requires : goal.close_scope-requires
+close_scope-requires g c = kept_opened c.open_scope.new.self c.entered-judged.new.env c.entered-judged.ensures.kept
+
+pub returns-clause-same : goal.returns-clause-same
+returns-clause-same g c = closed_same c.args.env.now c.open_scope.new.self c.entered-judged.new.env c.close_scope.new.self c.in_ok-open_scope.ensures.ok c.entered-judged.ensures.kept c.close_scope.ensures
+
+pub returns-clause-judged : goal.returns-clause-judged
+returns-clause-judged g c =
+    let f = c.args.self.now.frame.now in
+    opened_told c.args.env.now c.open_scope.new.self c.in_ok-open_scope.ensures.ok c.entered-judged.result (λ E s j. Judges E (blocks_of f) (IsTypedIn E (blocks_of f) (opened s) c.args.signature.now c.args.signed.now c.args.start c.args.statements.now) (Enters (opened s) c.args.signature.now c.args.signed.now c.args.start c.args.statements.now) j) c.entered-judged.ensures.judged

@@ -1,0 +1,6 @@
+pub mod Told
+pub mod Inners
+pub mod Below
+pub mod Entering
+pub mod Literals
+pub mod Standing
