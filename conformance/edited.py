@@ -139,8 +139,18 @@ class Crate:
             while lines[at - 1].lstrip().startswith("#[") and at < len(lines):
                 at += 1
             return function_at(file, text, sum(len(it) + 1 for it in lines[:at])) == function
-        # a folder of functions that call one another has a plus before its name
-        return "::%s::" % function in "::" + "::".join(it.removeprefix("+") for it in file[len("proofs/"):].split("/"))
+        # a folder of functions that call one another has a plus before its name, which is that of one of them or of their cycle
+        parts = file[len("proofs/"):].split("/")
+        cycle = next((it[1:] for it in parts if it.startswith("+")), None)
+        if cycle and re.search(r"#\[cycle\(%s\)\]\s*(?:#\[[^\n]*\]\s*)*(?:pub(?:\([a-z]+\))? )?fn %s\b" % (re.escape(cycle), function.rpartition("::")[2]), self.module(function, texts)):
+            return True
+        return "::%s::" % function in "::" + "::".join(it.removeprefix("+") for it in parts)
+
+    def module(self, function, texts):
+        """The source of a function's module, or of the root where that isn't a file."""
+        inside = function.rpartition("::")[0].replace("::", "/")
+        file = next((it for it in ("src/%s.rt" % inside, "src/%s/mod.rt" % inside, "src/lib.rt") if os.path.isfile(os.path.join(self.folder, it))), None)
+        return (texts.get(file) or self.source(file)) if file else ""
 
     def tried(self):
         """What came of each edit."""
