@@ -1,0 +1,2 @@
+pub mod LocalEntities
+pub mod ListedForms
