@@ -1,5 +1,5 @@
 -- In whatever order they are added, packages make the same world, which holds each of them under its path.
-use Rattle.std.proofs.Common.{◌≡◌, ◌⊎◌, ℕ, Bool, true, false, List, [], ◌∷◌, Option, Some, None, slice_get, refl, sym, ap, ◌∙◌, subst, inl, inr}
+use Rattle.std.proofs.Common.{◌≡◌, ◌⊎◌, ℕ, List, [], ◌∷◌, Option, Some, None, slice_get, refl, sym, ap, ◌∙◌, subst, inl, inr}
 use Rattle.std.specs.Prelude.{nat_eq}
 use Rattle.go_base.specs.Lists.{Has, Once}
 use Rattle.go_model.specs.declared.types.package.Package.{Package}
@@ -63,8 +63,8 @@ module _ (bits : ℕ) (us : List PackageSource) (level : ℕ → ℕ) (a : Outco
         let k = by.become n q.0 q.1 in
         let more = added no_packages us b n k.0 q.0 own (paths_left b (n ∷ ns) l) k.1 (l.none n (inl refl)) (paths_known bits us level a by n k.0 q.0 k.1 q.1) in
         all_added ns (with_number us a w n) (with_one n q.0 b)
-            (ap (λ c. with_source w c (a n)) k.1 ∙ ap (λ c. with_source w (Some k.0) c) q.1 ∙ ap (λ z. with_outcome z k.0 q.0) e ∙ sym more)
-            once.1 (left_some b n q.0 ns once q.1 l)
+        (ap (λ c. with_source w c (a n)) k.1 ∙ ap (λ c. with_source w (Some k.0) c) q.1 ∙ ap (λ z. with_outcome z k.0 q.0) e ∙ sym more)
+        once.1 (left_some b n q.0 ns once q.1 l)
         )
     | inr f ↦ all_added ns (with_number us a w n) b (ap (λ c. with_source w (slice_get us n) c) f ∙ nothing w (slice_get us n) ∙ e) once.1 (left_none b n ns f l)
   ]

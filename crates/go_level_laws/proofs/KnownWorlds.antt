@@ -1,18 +1,17 @@
 -- The world of the packages that are typed so far holds each of them under its path, and nothing else.
-use Rattle.std.proofs.Common.{◌≡◌, ◌≢◌, ◌⊎◌, ℕ, zero, suc, Bool, true, false, List, [], ◌∷◌, Option, Some, None, map, length, slice_get, refl, sym, ap, ◌∙◌, subst, inl, inr, if◌then◌else◌}
-use Rattle.std.specs.Prelude.{nat_eq}
+use Rattle.std.proofs.Common.{◌≡◌, ◌≢◌, ◌⊎◌, ℕ, zero, suc, List, [], ◌∷◌, Option, Some, None, map, slice_get, refl, sym, ap, ◌∙◌, subst, inl, inr, if◌then◌else◌}
 use lib.Dec.{eqb-suc-suc, eqb-suc-zero, eqb-zero-suc}
 use Rattle.std.specs.Str.{bytes_eq}
 use Rattle.std.proofs.lemmas.Slice.Eq.{bytes_eq-Decides}
 use Rattle.go_base.specs.Keys.{first_with, placed}
-use Rattle.go_base.specs.Lists.{Has, Once}
+use Rattle.go_base.specs.Lists.{Has}
 use Rattle.go_model.proofs.MoreWorlds.{first_placed}
 use Rattle.go_model.specs.declared.types.package.Package.{Package}
 use Rattle.go_model.specs.worlds.Worlds.{Packages, path_of}
 use Rattle.go_std_worlds.specs.StdSources.{HaveOwnPaths, source_path}
 use Rattle.go_typed_packages.proofs.Lists.{absent, own_placed}
 use Rattle.go_typings.proofs.Cells.{either, none_some, some_once}
-use Rattle.go_typings.specs.PackageWorlds.{Outcome, typed, refused, blocked, no_packages, with_outcome}
+use Rattle.go_typings.specs.PackageWorlds.{Outcome, typed, refused, blocked, with_outcome}
 use Rattle.go_typings.specs.Sources.{PackageSource}
 use Rattle.go_level_laws.specs.ByLevels.{Outcomes, with_known, with_one, world_from}
 use Rattle.go_level_laws.proofs.Places.{HasPath, outcomes_twice, placed_or_before}
@@ -76,9 +75,9 @@ added w [] a n u x o h e f k = none_some (slice_get [] n) u refl e
 added w (v ∷ us) a zero u x o h e f k =
     let is = some_once v u e in
     same_world (with_outcome w v x) us (behind (with_one 0 x a)) (behind a) (first_more x a)
-        ∙ added_late w v x us (behind a) (subst (λ z. HasPath z x) (sym is) k) o.0 (paths_behind v us a h)
-        ∙ ap (λ z. with_outcome (world_from w us (behind a)) z x) is
-        ∙ ap (λ c. with_outcome (world_from (with_known w v c) us (behind a)) u x) (sym f)
+    ∙ added_late w v x us (behind a) (subst (λ z. HasPath z x) (sym is) k) o.0 (paths_behind v us a h)
+    ∙ ap (λ z. with_outcome (world_from w us (behind a)) z x) is
+    ∙ ap (λ c. with_outcome (world_from (with_known w v c) us (behind a)) u x) (sym f)
 added w (v ∷ us) a (suc n) u x o h e f k =
     ap (λ c. world_from (with_known w v c) us (behind (with_one (suc n) x a))) (later_first n x a)
     ∙ same_world (with_known w v (a 0)) us (behind (with_one (suc n) x a)) (with_one n x (behind a)) (later_more n x a)
@@ -115,10 +114,10 @@ held_from w (v ∷ us) a zero u p o h new e f =
     let own : p.path ≡ v.path = h 0 v (typed p) refl f in
     let fresh : Has (map path_of w.packages) p.path → ⊥ = λ i. absent path_of w.packages v.path (new 0 v refl) (subst (Has (map path_of w.packages)) own i) in
     ap (found_in (world_from w (v ∷ us) a)) (ap source_path (sym is))
-        ∙ found_first (with_known w v (a 0)) us (behind a) v.path (paths_behind v us a h) o.0
-        ∙ ap (λ c. found_in (with_known w v c) v.path) f
-        ∙ ap (first_with path_of (placed path_of p w.packages)) (sym own)
-        ∙ own_placed path_of p w.packages fresh
+    ∙ found_first (with_known w v (a 0)) us (behind a) v.path (paths_behind v us a h) o.0
+    ∙ ap (λ c. found_in (with_known w v c) v.path) f
+    ∙ ap (first_with path_of (placed path_of p w.packages)) (sym own)
+    ∙ own_placed path_of p w.packages fresh
 held_from w (v ∷ us) a (suc n) u p o h new e f =
     held_from (with_known w v (a 0)) us (behind a) n u p o.1 (paths_behind v us a h)
     (λ m x g. other_found w v (a 0) x.path (λ y i. h 0 v y refl i) (other_path v us m x o g) ∙ new (suc m) x g) e f

@@ -7,3 +7,4 @@ pub mod Orders
 pub mod NextOutcomes
 pub mod UnitLevels
 pub mod AddedOrders
+pub mod SomeLevels

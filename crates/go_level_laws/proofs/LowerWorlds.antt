@@ -1,13 +1,11 @@
 -- Over two worlds of typed packages that both hold all that a package needs, the same becomes of it.
-use Rattle.std.proofs.Common.{◌≡◌, ◌≢◌, ◌<◌, ℕ, zero, suc, Bool, true, false, ◌&&◌, ◌||◌, List, [], ◌∷◌, Option, Some, None, map, slice_get, refl, sym, ap, ◌∙◌, subst, inl, inr, if◌then◌else◌, arith}
+use Rattle.std.proofs.Common.{◌≡◌, ◌<◌, ℕ, zero, suc, Bool, true, false, ◌&&◌, ◌||◌, List, [], ◌∷◌, Some, None, slice_get, refl, sym, ap, ◌∙◌, subst, inl, inr, if◌then◌else◌, arith}
 use Rattle.std.specs.Prelude.{nat_lt}
 use Rattle.std.specs.Str.{bytes_eq}
 use Rattle.std.proofs.lemmas.Bool.Decides.{nat_tests}
 use Rattle.std.proofs.lemmas.Slice.Eq.{bytes_eq-Decides}
-use Rattle.go_base.specs.Keys.{first_with}
 use Rattle.go_base.specs.Lists.{Has, Passes}
 use Rattle.go_exposed.proofs.SameImports.{offered_same, refused_same}
-use Rattle.go_exposed.specs.OfferedPackages.{IsOfferedAs}
 use Rattle.go_exposed.specs.OfferedWorlds.{Becomes}
 use Rattle.go_exposed.specs.SkippedDeclarations.{Skipped}
 use Rattle.go_exposed.specs.SkippedWorlds.{IsSkippedAs}
@@ -22,7 +20,6 @@ use Rattle.go_std_worlds.specs.StdSources.{HaveOwnPaths, HavePaths}
 use Rattle.go_typings.proofs.Cells.{either, if_false, if_true, maybe, none_some, some_once}
 use Rattle.go_typings.proofs.HeldImports.{path_found, path_missing}
 use Rattle.go_typings.proofs.ReachedRegion.{or_second, weaker}
-use Rattle.go_typings.specs.PackageEnvironments.{had_path}
 use Rattle.go_typings.specs.PackageWorlds.{AreTyped, Outcome, typed, refused, blocked, no_packages, over}
 use Rattle.go_typings.specs.ReachedPackages.{AreReached, HoldImports, ReachesSame, is_reached}
 use Rattle.go_typings.specs.Sources.{Import, PackageSource, imports_of}

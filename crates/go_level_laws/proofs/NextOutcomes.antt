@@ -1,14 +1,16 @@
--- What became of one more package changes no world of lower levels.
-use Rattle.std.proofs.Common.{◌≡◌, ◌<◌, ◌≤◌, ◌⊎◌, ℕ, Bool, true, false, List, Option, Some, None, slice_get, refl, sym, ap, ◌∙◌, subst, inl, inr, if◌then◌else◌, arith}
-use Rattle.std.specs.Prelude.{nat_eq, nat_lt}
+-- What became of one more package changes no world of lower levels, and what is left out of the others.
+use Rattle.std.proofs.Common.{◌≡◌, ◌<◌, ◌≤◌, ◌⊎◌, ℕ, zero, suc, true, false, List, [], ◌∷◌, Some, None, slice_get, refl, sym, ap, ◌∙◌, subst, inl, inr, if◌then◌else◌, arith}
+use Rattle.std.specs.Prelude.{nat_eq, nat_lt, slice_set}
 use Rattle.std.proofs.lemmas.Bool.Decides.{nat_tests}
 use Rattle.go_exposed.specs.OfferedWorlds.{Becomes}
+use Rattle.go_exposed.specs.SkippedDeclarations.{Skipped}
+use Rattle.go_exposed.specs.SkippedWorlds.{IsSkippedAs}
 use Rattle.go_rules.proofs.OneKind.{no_truth}
 use Rattle.go_typings.proofs.Cells.{either, if_false, if_true, maybe, none_some, some_once}
 use Rattle.go_typings.specs.Assignments.{before}
 use Rattle.go_typings.specs.PackageWorlds.{Outcome, no_packages, over}
 use Rattle.go_typings.specs.Sources.{PackageSource}
-use Rattle.go_level_laws.specs.ByLevels.{BecomeByLevels, Outcomes, with_one, world_below, world_of}
+use Rattle.go_level_laws.specs.ByLevels.{AreSkippedByLevels, BecomeByLevels, Outcomes, with_one, world_below, world_of}
 use Rattle.go_level_laws.specs.Levels.{NeedsOther}
 use Rattle.go_level_laws.proofs.KnownWorlds.{same_world}
 use Rattle.go_level_laws.proofs.LowerWorlds.{below_is, is_below}
@@ -91,3 +93,35 @@ module _ (us : List PackageSource) (level : ℕ → ℕ) where
       | inr f ↦ (let q = by.needs m j y f k in one_still n x a j q.0 q.1)
     ];
   }
+
+  -- what is left out of it
+  set_same : (xss : List (List Skipped)) (n : ℕ) (xs ys : List Skipped) → slice_get (slice_set xss n xs) n ≡ Some ys → xs ≡ ys
+  set_same [] n xs ys e = none_some (slice_get [] n) ys refl e
+  set_same (zs ∷ xss) zero xs ys e = some_once xs ys e
+  set_same (zs ∷ xss) (suc n) xs ys e = set_same xss n xs ys e
+
+  set_other : (xss : List (List Skipped)) (n m : ℕ) (xs : List Skipped) → (m ≡ n → ⊥) → slice_get (slice_set xss n xs) m ≡ slice_get xss m
+  set_other [] n m xs d = refl
+  set_other (zs ∷ xss) zero zero xs d = absurd (d refl)
+  set_other (zs ∷ xss) zero (suc m) xs d = refl
+  set_other (zs ∷ xss) (suc n) zero xs d = refl
+  set_other (zs ∷ xss) (suc n) (suc m) xs d = set_other xss n m xs (λ e. d (ap suc e))
+
+  pub next_skipped : (bits : ℕ) (a : Outcomes) (n : ℕ) (u : PackageSource) (x : Outcome) (xss : List (List Skipped)) (xs : List Skipped) → ((m : ℕ) (y : Outcome) → a m ≡ Some y → level m ≤ level n) → slice_get us n ≡ Some u
+      → AreSkippedByLevels bits us level a xss → IsSkippedAs (over bits (world_below us level (level n) a)) u x xs → AreSkippedByLevels bits us level (with_one n x a) (slice_set xss n xs)
+  next_skipped bits a n u x xss xs high is k s m y ys e f = elim (either (nat_eq m n)) [
+    | inl i ↦ (
+        let same = is_same m n i in
+        let outcome = some_once x y (sym (one_at n x a) ∙ ap (with_one n x a) (sym same) ∙ e) in
+        let list = set_same xss n xs ys (ap (slice_get (slice_set xss n xs)) (sym same) ∙ f) in
+        let here = subst (λ w. IsSkippedAs (over bits w) u x xs) (sym (below_kept a n x (level n) (omega arith))) s in
+        let all = subst (λ z. IsSkippedAs (over bits (world_below us level (level n) (with_one n x a))) u z xs) outcome here in
+        let listed = subst (IsSkippedAs (over bits (world_below us level (level n) (with_one n x a))) u y) list all in
+        (u, ap (slice_get us) same ∙ is, subst (λ j. IsSkippedAs (over bits (world_below us level (level j) (with_one n x a))) u y ys) (sym same) listed)
+        )
+    | inr i ↦ (
+        let g = sym (one_else n x a m i) ∙ e in
+        let t = k m y ys g (sym (set_other xss n m xs (λ d. no_truth (sym (same_is n) ∙ ap (λ j. nat_eq j n) (sym d) ∙ i))) ∙ f) in
+        (t.0, t.1, subst (λ w. IsSkippedAs (over bits w) t.0 y ys) (sym (below_kept a n x (level m) (high m y g))) t.2)
+        )
+  ]

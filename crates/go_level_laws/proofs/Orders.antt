@@ -1,6 +1,6 @@
 -- On whatever levels packages stand above those that they need, the same becomes of them.
-use Rattle.std.proofs.Common.{◌≡◌, ◌<◌, ◌≤◌, ◌⊎◌, ℕ, zero, suc, Bool, true, false, ◌&&◌, List, [], ◌∷◌, Option, Some, None, length, slice_get, refl, sym, ap, ◌∙◌, subst, inl, inr, if◌then◌else◌, arith}
-use Rattle.std.specs.Prelude.{is_some, nat_eq, nat_lt}
+use Rattle.std.proofs.Common.{◌≡◌, ◌<◌, ◌≤◌, ◌⊎◌, ℕ, zero, suc, Bool, true, false, ◌&&◌, List, [], ◌∷◌, Option, Some, None, length, slice_get, refl, sym, ap, ◌∙◌, subst, inl, inr, arith}
+use Rattle.std.specs.Prelude.{is_some, nat_lt}
 use Rattle.std.proofs.lemmas.Bool.Decides.{nat_tests}
 use Rattle.std.proofs.lemmas.Option.{slice_get_past, slice_get_within}
 use Rattle.go_base.specs.Lists.{Passes}
@@ -13,14 +13,13 @@ use Rattle.go_model.specs.worlds.Worlds.{Packages}
 use Rattle.go_rules.proofs.OneKind.{no_truth}
 use Rattle.go_std_worlds.specs.StdSources.{HaveOwnPaths, HavePaths}
 use Rattle.go_typings.proofs.Cells.{either, if_false, if_true, maybe, none_some, some_once}
-use Rattle.go_typings.specs.Assignments.{before}
 use Rattle.go_typings.specs.PackageWorlds.{Outcome, typed, refused, is_refused, is_typed, no_packages, over}
 use Rattle.go_typings.specs.Refusals.{Refusal}
 use Rattle.go_typings.specs.Sources.{PackageSource}
-use Rattle.go_level_laws.specs.ByLevels.{AreSkippedByLevels, BecomeByLevels, Outcomes, with_one, world_below, world_of}
+use Rattle.go_level_laws.specs.ByLevels.{AreSkippedByLevels, BecomeByLevels, Outcomes, world_below, world_of}
 use Rattle.go_level_laws.specs.Levels.{NeedsOther, Rises}
-use Rattle.go_level_laws.proofs.KnownWorlds.{HavePathsOf, added, same_world}
-use Rattle.go_level_laws.proofs.LowerWorlds.{HasNeeds, IsClosed, becomes_there, below, below_closed, below_is, is_below, known_source, lower_needs, only, only_had, outcome_path, skips_there}
+use Rattle.go_level_laws.proofs.KnownWorlds.{HavePathsOf, same_world}
+use Rattle.go_level_laws.proofs.LowerWorlds.{HasNeeds, becomes_there, below, below_closed, below_is, is_below, known_source, lower_needs, only, outcome_path, skips_there}
 use Rattle.go_level_laws.proofs.Turns.{InTurn, become_in_turn, number, refused_in_turn, skip_in_turn, turn_of, up_to}
 
 -- ---- lists of outcomes
@@ -147,10 +146,10 @@ module _ (bits : ℕ) (us : List PackageSource) (own : HaveOwnPaths us) (some : 
 
         pub world_of_levels : ((n : ℕ) → n < length us → (p : Package) × (a n ≡ Some (typed p))) → IsWorldOf bits us (world_of us a)
         world_of_levels all = typed_world (λ n l. (typed (all n l).0, (all n l).1)) (λ n x e. (
-          let b = by.become n x e in
-          let p = all n (slice_get_within us n b.0 b.1) in
-          ap is_typed (sym (some_once (typed p.0) x (sym p.1 ∙ e)))
-          ))
+            let b = by.become n x e in
+            let p = all n (slice_get_within us n b.0 b.1) in
+            ap is_typed (sym (some_once (typed p.0) x (sym p.1 ∙ e)))
+            ))
 
         pub refused_by_levels : (n : ℕ) (r : Refusal) → a n ≡ Some (refused r) → ((m : ℕ) → m < n → (x : Outcome) × (a m ≡ Some x) × (is_refused x ≡ false)) → IsFirstRefused bits us n r
         refused_by_levels n r e k = refused_in_turn bits no_packages us a n r turns e k
@@ -221,11 +220,11 @@ module _ (bits : ℕ) (us : List PackageSource) (own : HaveOwnPaths us) (some : 
           let u = h.0 in
           let g = known_source bits us level b other n u y h.1 f in
           let left = becomes_there bits us own some a (paths_of level a one) level rises one (below level (level n)) low
-              (below_closed bits us own some a (paths_of level a one) level rises (level n)) (λ p m z i d needs. shared_closed (level n) p m i needs) u
-              (lower_needs bits us own some a (paths_of level a one) level rises n u h.1) (needs_low u h.1) x h.2 in
+          (below_closed bits us own some a (paths_of level a one) level rises (level n)) (λ p m z i d needs. shared_closed (level n) p m i needs) u
+          (lower_needs bits us own some a (paths_of level a one) level rises n u h.1) (needs_low u h.1) x h.2 in
           let right = becomes_there bits us own some b (paths_of level b other) level rises other (below level (level n)) low
-              (below_closed bits us own some b (paths_of level b other) level rises (level n)) (λ p m z i d needs. shared_closed (level n) p m i needs) u
-              (lower_needs bits us own some b (paths_of level b other) level rises n u h.1) (needs_low u h.1) y g in
+          (below_closed bits us own some b (paths_of level b other) level rises (level n)) (λ p m z i d needs. shared_closed (level n) p m i needs) u
+          (lower_needs bits us own some b (paths_of level b other) level rises n u h.1) (needs_low u h.1) y g in
           one_outcome (over bits (world_of us (only low b))) u x y (subst (λ z. Becomes (over bits z) u x) (same_world no_packages us (only low a) (only low b) same_low) left) right
 
     same_below : (k n : ℕ) (x y : Outcome) → level n < k → a n ≡ Some x → b n ≡ Some y → x ≡ y

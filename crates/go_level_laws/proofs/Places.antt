@@ -50,24 +50,24 @@ module _ {A : Type 0} (key : A → List ℕ) where
     | inl q ↦ (
         let p = before_both (key y) (key z) (key x) b q in
         ap (placed key y) (front z x xs q)
-            ∙ front y z (x ∷ xs) b
-            ∙ ap (λ rest. y ∷ rest) (sym (front z x xs q))
-            ∙ sym (behind z y (x ∷ xs) c)
-            ∙ ap (placed key z) (sym (front y x xs p))
+        ∙ front y z (x ∷ xs) b
+        ∙ ap (λ rest. y ∷ rest) (sym (front z x xs q))
+        ∙ sym (behind z y (x ∷ xs) c)
+        ∙ ap (placed key z) (sym (front y x xs p))
         )
     | inr q ↦ elim (either (comes_before (key y) (key x))) [
       | inl p ↦
           ap (placed key y) (behind z x xs q)
-              ∙ front y x (placed key z xs) p
-              ∙ ap (λ rest. y ∷ rest) (sym (behind z x xs q))
-              ∙ sym (behind z y (x ∷ xs) c)
-              ∙ ap (placed key z) (sym (front y x xs p))
+          ∙ front y x (placed key z xs) p
+          ∙ ap (λ rest. y ∷ rest) (sym (behind z x xs q))
+          ∙ sym (behind z y (x ∷ xs) c)
+          ∙ ap (placed key z) (sym (front y x xs p))
       | inr p ↦
           ap (placed key y) (behind z x xs q)
-              ∙ behind y x (placed key z xs) p
-              ∙ ap (λ rest. x ∷ rest) (both_before y z xs b c)
-              ∙ sym (behind z x (placed key y xs) q)
-              ∙ ap (placed key z) (sym (behind y x xs p))
+          ∙ behind y x (placed key z xs) p
+          ∙ ap (λ rest. x ∷ rest) (both_before y z xs b c)
+          ∙ sym (behind z x (placed key y xs) q)
+          ∙ ap (placed key z) (sym (behind y x xs p))
     ]
   ]
 

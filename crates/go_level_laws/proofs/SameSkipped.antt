@@ -1,5 +1,5 @@
 -- Under settings that are the same in all that a package reaches the same is left out of it, for the same causes.
-use Rattle.std.proofs.Common.{◌≡◌, ◌⊎◌, ℕ, suc, Bool, true, false, List, [], ◌∷◌, inl, inr}
+use Rattle.std.proofs.Common.{ℕ, Bool, List, inl, inr}
 use Rattle.go_exposed.proofs.OneSkipped.{cause_same}
 use Rattle.go_exposed.proofs.SameImports.{beyond_same, kept_same, type_there, value_there}
 use Rattle.go_exposed.specs.BeyondProfile.{HasInexactType, HasInexactValue, HoldsTyped, IsBeyond}

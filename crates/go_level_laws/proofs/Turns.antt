@@ -1,8 +1,7 @@
 -- What becomes of packages over those of lower levels is what becomes of them in turn.
-use Rattle.std.proofs.Common.{◌≡◌, ◌≤◌, ◌<◌, ℕ, zero, suc, Bool, true, false, List, [], ◌∷◌, Option, Some, None, length, slice_get, refl, sym, ap, ◌∙◌, subst, if◌then◌else◌, arith}
+use Rattle.std.proofs.Common.{◌≡◌, ◌<◌, ℕ, zero, suc, false, List, [], ◌∷◌, Some, None, length, slice_get, refl, sym, ap, ◌∙◌, subst, if◌then◌else◌, arith}
 use Rattle.std.specs.Prelude.{nat_lt}
 use lib.Dec.{leb-suc-suc, leb-suc-zero, leb-zero}
-use Rattle.go_base.specs.Lists.{Passes}
 use Rattle.go_exposed.specs.OfferedWorlds.{Become, become_more, become_none, Becomes, IsRefusedAt, refused_here, refused_later}
 use Rattle.go_exposed.specs.SkippedDeclarations.{Skipped}
 use Rattle.go_exposed.specs.SkippedWorlds.{IsSkippedAs, Skip, skip_more, skip_none}

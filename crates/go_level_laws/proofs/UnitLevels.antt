@@ -1,17 +1,15 @@
 -- Packages have one level each, and units in canonical order come after those that they need.
-use Rattle.std.proofs.Common.{◌≡◌, ◌<◌, ◌⊎◌, ℕ, zero, suc, Bool, true, false, List, [], ◌∷◌, ◌++◌, Some, length, map, slice_get, refl, sym, ap, ◌∙◌, subst, inl, inr, arith}
+use Rattle.std.proofs.Common.{◌≡◌, ◌<◌, ◌⊎◌, ℕ, zero, suc, true, false, List, [], ◌∷◌, ◌++◌, Some, length, map, slice_get, refl, sym, ap, ◌∙◌, subst, inl, inr, arith}
 use Rattle.std.specs.Prelude.{nat_lt}
 use Rattle.std.proofs.Math.Logic.{∥∥₁_elim}
 use Rattle.std.proofs.lemmas.Option.{slice_get_within}
 use Rattle.go_base.specs.Lists.{Has}
 use Rattle.go_sources.specs.UnitSources.{file_of, import_of, source_of}
 use Rattle.go_std_worlds.proofs.OwnPaths.{own_paths}
-use Rattle.go_std_worlds.specs.StdSources.{HaveOwnPaths}
 use Rattle.go_std_worlds.specs.TwoModules.{sources_of}
 use Rattle.go_typings.proofs.Cells.{either, none_some, some_once}
-use Rattle.go_typings.specs.Sources.{Import, PackageSource, imports_in, imports_of}
+use Rattle.go_typings.specs.Sources.{Import, PackageSource, imports_in}
 use Rattle.go_units.proofs.NeededPaths.{found_needed}
-use Rattle.go_units.specs.UnitFacts.{needed_by}
 use Rattle.go_units.specs.UnitOrders.{InOrder, none, next}
 use Rattle.go_units.specs.declared.unit.«Unit».{«Unit» as PackageUnit}
 use Rattle.go_units.specs.declared.unit.UnitFile.{UnitFile}

@@ -1,10 +1,10 @@
 //! Laws of packages that are checked level by level.
-ghost use Rattle.std.specs.Prelude.{◌≡◌, ◌≤◌, ◌<◌, ℕ, false, List, None, Some, length, slice_get};
+ghost use Rattle.std.specs.Prelude.{◌≡◌, ◌≤◌, ◌<◌, ℕ, false, List, None, Some, length, slice_get, slice_set};
 ghost use Rattle.go_base.specs.Keys.{first_with};
 ghost use Rattle.go_base.specs.Lists.{Has, Once};
 ghost use Rattle.go_exposed.specs.OfferedWorlds.{Become, Becomes, IsFirstRefused, IsWorldOf};
 ghost use Rattle.go_exposed.specs.SkippedDeclarations.{Skipped};
-ghost use Rattle.go_exposed.specs.SkippedWorlds.{AreSkipped};
+ghost use Rattle.go_exposed.specs.SkippedWorlds.{AreSkipped, IsSkippedAs};
 ghost use Rattle.go_level_laws.specs.ByLevels.{AreSkippedByLevels, BecomeByLevels, Outcomes, added_in, with_one, world_below, world_of};
 ghost use Rattle.go_level_laws.specs.Levels.{AreLevels, ComeInOrder, NeedsOther, Rises};
 ghost use Rattle.go_model.specs.declared.types.package.Package.{Package};
@@ -17,8 +17,9 @@ ghost use Rattle.go_typings.specs.Refusals.{Refusal};
 ghost use Rattle.go_typings.specs.Sources.{PackageSource};
 ghost use Rattle.go_units.specs.declared.unit_list.Units.{Units};
 
-/// Packages have at most one level each, and the units of trees come in order.
+/// Packages that come in order have one level each, and the units of trees come in order.
 pub fn levels()
+    ensures some { (us : List PackageSource) → ComeInOrder us → (level : ℕ → ℕ) × AreLevels us level }
     ensures one { (us : List PackageSource) (f g : ℕ → ℕ) (n : ℕ) → AreLevels us f → AreLevels us g → n < length us → f n ≡ g n }
     ensures order { (units : Units) → HavePaths (sources_of units) → ComeInOrder (sources_of units) }
 {}
@@ -50,6 +51,9 @@ pub fn next_outcome()
         → ((m : ℕ) (y : Outcome) → a m ≡ Some y → level m ≤ level n) → slice_get us n ≡ Some u → ((m : ℕ) → NeedsOther us n m → (y : Outcome) × (a m ≡ Some y))
         → Becomes (over bits (world_below us level (level n) a)) u x → BecomeByLevels bits us level (with_one n x a) }
     ensures kept { (us : List PackageSource) (level : ℕ → ℕ) (a : Outcomes) (n : ℕ) (x : Outcome) (k : ℕ) → k ≤ level n → world_below us level k (with_one n x a) ≡ world_below us level k a }
+    ensures skipped { (bits : ℕ) (us : List PackageSource) (level : ℕ → ℕ) (a : Outcomes) (n : ℕ) (u : PackageSource) (x : Outcome) (xss : List (List Skipped)) (xs : List Skipped)
+        → ((m : ℕ) (y : Outcome) → a m ≡ Some y → level m ≤ level n) → slice_get us n ≡ Some u → AreSkippedByLevels bits us level a xss
+        → IsSkippedAs (over bits (world_below us level (level n) a)) u x xs → AreSkippedByLevels bits us level (with_one n x a) (slice_set xss n xs) }
 {}
 
 /// What becomes of packages in turn, each over those before it, is what becomes of them level by level, and the other way round: typed,

@@ -1,4 +1,3 @@
-use Rattle.std.proofs.Common.{subst, sym, slice_get}
 use Rattle.go_level_laws.proofs.Orders.{levels_of_turns, listed_turns}
 use Rattle.go_level_laws.proofs.laws.same_by_levels.Goals as goal
 
