@@ -38,14 +38,16 @@ world_of us a = world_from no_packages us a
 abbrev pub world_below : List PackageSource → (ℕ → ℕ) → ℕ → Outcomes → Packages
 world_below us level k a = world_of us (before level k a)
 
--- the packages of these numbers are added in this order, each where it is typed so far
+-- the packages, with one more where it is there and is typed so far
 abbrev pub with_source : Packages → Option PackageSource → Option Outcome → Packages
 with_source w None c = w
 with_source w (Some u) c = with_known w u c
 
+-- with the package of a number
 abbrev pub with_number : List PackageSource → Outcomes → Packages → ℕ → Packages
 with_number us a w n = with_source w (slice_get us n) (a n)
 
+-- with the packages of these numbers, which are added in this order
 abbrev pub added_in : List PackageSource → Outcomes → Packages → List ℕ → Packages
 added_in us a w [] = w
 added_in us a w (n ∷ ns) = added_in us a (with_number us a w n) ns
