@@ -1,0 +1,10 @@
+pub mod Places
+pub mod KnownWorlds
+pub mod SameSkipped
+pub mod LowerWorlds
+pub mod Turns
+pub mod Orders
+pub mod NextOutcomes
+pub mod UnitLevels
+pub mod AddedOrders
+pub mod SomeLevels

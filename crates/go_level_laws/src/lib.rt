@@ -1,0 +1,4 @@
+//! Packages that are checked level by level.
+#![tactic(auto)]
+
+pub mod laws;
