@@ -1,5 +1,5 @@
 -- What stands at paths while packages are typed one after another.
-use Rattle.std.proofs.Common.{◌≡◌, ◌⊎◌, ℕ, Bool, true, false, List, [], ◌∷◌, Option, Some, None, map, refl, sym, ap, ◌∙◌, subst, inl, inr}
+use Rattle.std.proofs.Common.{◌≡◌, ◌⊎◌, ℕ, Bool, true, false, List, [], ◌∷◌, Some, None, map, refl, sym, ap, ◌∙◌, subst, inl, inr}
 use Rattle.std.specs.Prelude.{if◌then◌else◌}
 use Rattle.std.specs.Str.{bytes_eq}
 use Rattle.std.proofs.lemmas.Slice.Eq.{bytes_eq-Decides}
@@ -7,12 +7,11 @@ use Rattle.go_base.specs.Keys.{first_with}
 use Rattle.go_base.specs.Lists.{Has, Once}
 use Rattle.go_base.proofs.Ordered.{first_key}
 use Rattle.go_model.proofs.MoreWorlds.{first_placed}
-use Rattle.go_model.specs.declared.types.package.Package.{Package}
 use Rattle.go_model.specs.worlds.Worlds.{Packages, path_of}
 use Rattle.go_typed_packages.proofs.Lists.{absent, own_placed}
 use Rattle.go_typings.proofs.Cells.{either}
 use Rattle.go_typings.proofs.ReachedRegion.{first_has}
-use Rattle.go_typings.specs.PackageWorlds.{Outcome, typed, refused, blocked, is_public, over, with_outcome}
+use Rattle.go_typings.specs.PackageWorlds.{Outcome, typed, refused, blocked, over, with_outcome}
 use Rattle.go_typings.specs.Sources.{PackageSource}
 use Rattle.go_exposed.specs.OfferedWorlds.{Become, become_none, become_more, Becomes}
 use Rattle.go_taken_packages.specs.InOrder.{source_path, typed_package}

@@ -1,5 +1,5 @@
 -- What becomes of a package over those before it becomes of it over all of its list.
-use Rattle.std.proofs.Common.{◌≡◌, ℕ, zero, suc, Bool, true, List, [], ◌∷◌, Option, Some, None, map, refl, sym, ap, ◌∙◌, subst, inl, inr}
+use Rattle.std.proofs.Common.{◌≡◌, ℕ, zero, suc, Bool, true, List, [], ◌∷◌, Some, map, refl, sym, ap, ◌∙◌, subst, inl, inr}
 use Rattle.std.specs.Prelude.{slice_get}
 use Rattle.go_base.specs.Keys.{first_with}
 use Rattle.go_base.specs.Lists.{Has}
@@ -11,7 +11,7 @@ use Rattle.go_exposed.specs.OfferedWorlds.{Become, become_none, become_more, Bec
 use Rattle.go_exposed.specs.SkippedDeclarations.{Skipped}
 use Rattle.go_exposed.specs.SkippedWorlds.{AreSkipped, IsSkippedAs, Skip, skip_none, skip_more}
 use Rattle.go_exposed.proofs.OneWorld.{one_outcome}
-use Rattle.go_taken_packages.proofs.KeptPaths.{mapped, other_kept, own_found, rest_kept}
+use Rattle.go_taken_packages.proofs.KeptPaths.{other_kept, own_found, rest_kept}
 use Rattle.go_taken_packages.proofs.SameReach.{AgreeAt, HasNoEmptyPath, becomes_there, skipped_as_there}
 use Rattle.go_taken_packages.proofs.SoFar.{SoFar, held, held_has, imports_held, so_far_next, so_far_none}
 use Rattle.go_taken_packages.specs.InOrder.{BecomeInOrder, HavePathsOfTheirOwn, source_path, typed_package}

@@ -1,13 +1,13 @@
 -- Where packages agree on paths, what imports of these paths alone reaches the same in both, and becomes the same.
-use Rattle.std.proofs.Common.{◌≡◌, ◌⊎◌, ℕ, Bool, true, false, ◌||◌, List, [], Some, None, map, refl, sym, ap, ◌∙◌, inl, inr}
+use Rattle.std.proofs.Common.{◌≡◌, ℕ, Bool, true, false, ◌||◌, List, [], Some, None, refl, sym, ap, ◌∙◌, inl, inr}
 use Rattle.std.specs.Str.{bytes_eq}
 use Rattle.std.proofs.lemmas.Slice.Eq.{bytes_eq-Decides}
 use Rattle.go_base.specs.Keys.{first_with}
-use Rattle.go_base.specs.Lists.{Has, Passes}
+use Rattle.go_base.specs.Lists.{Passes}
 use Rattle.go_model.specs.declared.types.package.Package.{Package}
 use Rattle.go_model.specs.worlds.PackageTypes.{package_names}
 use Rattle.go_model.specs.worlds.Worlds.{Packages, path_of}
-use Rattle.go_typings.proofs.Cells.{either, none_some}
+use Rattle.go_typings.proofs.Cells.{either}
 use Rattle.go_typings.proofs.HeldImports.{is_empty, path_found, path_missing, with_empty}
 use Rattle.go_typings.specs.PackageWorlds.{AreTyped, Outcome, typed, refused, blocked, over}
 use Rattle.go_typings.specs.ReachedPackages.{AreReached, HoldImports, ReachesSame, is_reached}

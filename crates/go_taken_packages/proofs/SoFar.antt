@@ -1,9 +1,9 @@
 -- The packages that became something so far, of which some have taken paths, and those that come after them.
-use Rattle.std.proofs.Common.{◌≡◌, ◌⊎◌, ℕ, Bool, true, false, ◌&&◌, ◌||◌, List, [], ◌∷◌, Some, None, map, refl, sym, ap, ◌∙◌, subst, inl, inr}
+use Rattle.std.proofs.Common.{◌≡◌, ℕ, Bool, true, false, ◌&&◌, ◌||◌, List, [], ◌∷◌, Some, None, map, refl, sym, ap, ◌∙◌, subst, inl, inr}
 use Rattle.std.specs.Str.{bytes_eq}
 use Rattle.std.proofs.lemmas.Slice.Eq.{bytes_eq-Decides}
 use Rattle.go_base.specs.Keys.{first_with}
-use Rattle.go_base.specs.Lists.{Has, Once, Passes}
+use Rattle.go_base.specs.Lists.{Has, Passes}
 use Rattle.go_model.specs.declared.types.names.TypeName.{TypeName}
 use Rattle.go_model.specs.declared.types.package.Package.{Package}
 use Rattle.go_model.specs.types.Terms.{is_error}
@@ -17,8 +17,8 @@ use Rattle.go_typings.specs.ReachedPackages.{is_reached}
 use Rattle.go_typings.specs.Sources.{PackageSource}
 use Rattle.go_exposed.specs.OfferedPackages.{IsOfferedAs}
 use Rattle.go_exposed.specs.OfferedWorlds.{Become, become_none, become_more, Becomes}
-use Rattle.go_taken_packages.proofs.KeptPaths.{mapped, other_kept, own_found, rest_kept, same_or_other}
-use Rattle.go_taken_packages.proofs.SameReach.{HasNoEmptyPath, IsClosedAt, held_at, nowhere, or_left, or_right, reached_at}
+use Rattle.go_taken_packages.proofs.KeptPaths.{mapped, other_kept, own_found, same_or_other}
+use Rattle.go_taken_packages.proofs.SameReach.{HasNoEmptyPath, IsClosedAt, held_at, or_left, or_right, reached_at}
 use Rattle.go_taken_packages.proofs.TypedNames.{typed_names}
 use Rattle.go_taken_packages.specs.InOrder.{HavePathsOfTheirOwn, source_path, typed_package}
 use Rattle.go_taken_packages.specs.TakenPaths.{ImportsAreOf}

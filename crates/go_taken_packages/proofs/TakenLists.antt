@@ -1,5 +1,5 @@
 -- Paths that are taken between two lists are so the other way round, and from longer lists.
-use Rattle.std.proofs.Common.{◌≡◌, ℕ, Bool, true, List, ap, sym, ◌∙◌, subst}
+use Rattle.std.proofs.Common.{◌≡◌, ℕ, Bool, true, List, ap, ◌∙◌, subst}
 use Rattle.go_base.specs.Lists.{Has}
 use Rattle.go_typings.specs.Sources.{PackageSource}
 use Rattle.go_taken_packages.proofs.KeptPaths.{once_at}

@@ -1,5 +1,5 @@
 -- Where all packages of both lists are typed, those of taken paths are the same, and are typed so while the second world is being made.
-use Rattle.std.proofs.Common.{◌≡◌, ◌⊎◌, ℕ, zero, suc, Bool, true, List, [], ◌∷◌, Some, map, refl, sym, ap, ◌∙◌, subst, inl, inr}
+use Rattle.std.proofs.Common.{◌≡◌, ℕ, zero, suc, Bool, true, List, [], ◌∷◌, Some, refl, sym, ap, ◌∙◌, subst}
 use Rattle.std.specs.Prelude.{slice_get}
 use Rattle.go_base.specs.Keys.{first_with}
 use Rattle.go_base.specs.Lists.{Has, Passes}
@@ -12,11 +12,11 @@ use Rattle.go_typings.specs.Sources.{PackageSource}
 use Rattle.go_exposed.specs.OfferedPackages.{IsOfferedAs}
 use Rattle.go_exposed.specs.OfferedWorlds.{Becomes, IsWorldOf}
 use Rattle.go_exposed.specs.SkippedDeclarations.{Skipped}
-use Rattle.go_exposed.specs.SkippedWorlds.{AreSkipped, IsSkipped, IsSkippedAs}
-use Rattle.go_taken_packages.proofs.OverAll.{StandsAs, has_place, outcome_at, over_all, place_of, skipped_over_all}
+use Rattle.go_exposed.specs.SkippedWorlds.{AreSkipped, IsSkipped}
+use Rattle.go_taken_packages.proofs.OverAll.{StandsAs, outcome_at, over_all, place_of, skipped_over_all}
 use Rattle.go_taken_packages.proofs.TakenWorlds.{agree, becomes, skipped}
 use Rattle.go_taken_packages.proofs.WorldsInOrder.{in_order}
-use Rattle.go_taken_packages.specs.InOrder.{BecomeInOrder, HavePathsOfTheirOwn, typed_package}
+use Rattle.go_taken_packages.specs.InOrder.{HavePathsOfTheirOwn}
 use Rattle.go_taken_packages.specs.TakenPaths.{AreTaken, ImportsAreOf}
 
 passes_at : (xs : List Outcome) → Passes is_typed xs → (n : ℕ) (x : Outcome) → slice_get xs n ≡ Some x → is_typed x ≡ true

@@ -1,10 +1,9 @@
 -- In the worlds of two lists what stands at taken paths is the same.
-use Rattle.std.proofs.Common.{◌≡◌, ℕ, Bool, true, List, [], ◌∷◌, Some, map, refl, sym, ap, ◌∙◌, subst, inl, inr}
+use Rattle.std.proofs.Common.{◌≡◌, ℕ, Bool, true, List, [], ◌∷◌, Some, refl, sym, ap, ◌∙◌, subst, inl, inr}
 use Rattle.std.specs.Prelude.{slice_get}
 use Rattle.go_base.specs.Keys.{first_with}
 use Rattle.go_base.specs.Lists.{Has}
 use Rattle.go_model.specs.worlds.Worlds.{Packages, path_of}
-use Rattle.go_typings.proofs.Cells.{either}
 use Rattle.go_typings.specs.PackageWorlds.{Outcome, no_packages, over, with_outcome}
 use Rattle.go_typings.specs.ReachedPackages.{ReachesSame}
 use Rattle.go_typings.specs.Sources.{PackageSource}
@@ -12,7 +11,6 @@ use Rattle.go_exposed.specs.OfferedWorlds.{Become, become_none, become_more, Bec
 use Rattle.go_exposed.specs.SkippedDeclarations.{Skipped}
 use Rattle.go_exposed.specs.SkippedWorlds.{IsSkipped}
 use Rattle.go_exposed.proofs.OneWorld.{one_outcome}
-use Rattle.go_rules.proofs.OneKind.{no_truth}
 use Rattle.go_taken_packages.proofs.KeptPaths.{once_at, other_kept, own_found, same_or_other}
 use Rattle.go_taken_packages.proofs.OverAll.{StandsAs, has_place, nothing_at_empty, outcome_at, over_all, place_of}
 use Rattle.go_taken_packages.proofs.SameReach.{AgreeAt, HasNoEmptyPath, becomes_there, same_at, skipped_there}

@@ -1,5 +1,5 @@
 -- What is told as taken is taken.
-use Rattle.std.proofs.Common.{◌≡◌, ◌⊎◌, ℕ, zero, suc, Bool, true, false, ◌&&◌, List, [], ◌∷◌, ◌++◌, map, refl, sym, ap, ◌∙◌, subst, inl, inr}
+use Rattle.std.proofs.Common.{◌≡◌, ◌⊎◌, ℕ, zero, suc, Bool, true, false, List, [], ◌∷◌, ◌++◌, map, refl, sym, ap, ◌∙◌, subst, inl, inr}
 use Rattle.std.specs.Prelude.{not, slice_get}
 use Rattle.std.specs.List.{list_all}
 use Rattle.go_base.specs.Lists.{Has}
@@ -8,7 +8,7 @@ use Rattle.go_typings.proofs.ReachedRegion.{or_second}
 use Rattle.go_typings.specs.Sources.{Import, PackageSource, SourceFile, imports_in}
 use Rattle.go_taken_packages.proofs.KeptPaths.{mapped, once_at}
 use Rattle.go_taken_packages.proofs.SoFar.{among, among_has, first_of, second_of}
-use Rattle.go_taken_packages.specs.InOrder.{HavePathsOfTheirOwn, source_path}
+use Rattle.go_taken_packages.specs.InOrder.{HavePathsOfTheirOwn}
 use Rattle.go_taken_packages.specs.TakenPaths.{AreTaken, ImportsAreOf}
 use Rattle.go_taken_packages.specs.ToldPackages.{Told, imports_are_among, is_among, is_missing_or_among, is_taken, taken_paths, told_source, with_taken}
 

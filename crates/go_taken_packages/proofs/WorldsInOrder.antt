@@ -1,12 +1,12 @@
 -- Where all packages of a list are typed, they come after those that they import.
-use Rattle.std.proofs.Common.{◌≡◌, ◌⊎◌, ℕ, Bool, true, List, [], ◌∷◌, Some, None, map, refl, sym, ap, ◌∙◌, inl, inr}
+use Rattle.std.proofs.Common.{◌≡◌, ℕ, List, [], ◌∷◌, Some, None, refl, sym, ◌∙◌, inl, inr}
 use Rattle.go_base.specs.Keys.{first_with}
 use Rattle.go_base.specs.Lists.{Has, Passes}
 use Rattle.go_model.specs.declared.types.package.Package.{Package}
 use Rattle.go_model.specs.worlds.Worlds.{Packages, path_of}
 use Rattle.go_rules.proofs.OneKind.{no_truth}
 use Rattle.go_typings.proofs.Cells.{none_some}
-use Rattle.go_typings.specs.PackageWorlds.{ComeAfterImports, Outcome, typed, refused, blocked, is_typed, no_packages, with_outcome}
+use Rattle.go_typings.specs.PackageWorlds.{ComeAfterImports, Outcome, typed, refused, blocked, is_typed}
 use Rattle.go_typings.specs.Sources.{PackageSource}
 use Rattle.go_exposed.specs.OfferedWorlds.{Become, become_none, become_more, IsWorldOf}
 use Rattle.go_taken_packages.proofs.KeptPaths.{key_finds, other_kept, same_or_other}

@@ -1,6 +1,6 @@
 -- Packages in a list that have paths of their own and come after those that they import, and what becomes of them.
 -- Public source: Go specification, "Import declarations". That no path is empty is own.
-use Rattle.std.specs.Prelude.{◌≡◌, ◌≢◌, ℕ, List, [], map, Option, None, Some}
+use Rattle.std.specs.Prelude.{◌≢◌, ℕ, List, [], map, Option, None, Some}
 use Rattle.go_base.specs.Lists.{Has, Once}
 use Rattle.go_exposed.specs.OfferedWorlds.{Become}
 use Rattle.go_model.specs.declared.types.package.Package.{Package}
