@@ -2,6 +2,7 @@ pub mod KeptPaths
 pub mod OverAll
 pub mod SameReach
 pub mod SameSkipped
+pub mod SharedPackages
 pub mod SoFar
 pub mod TakenLists
 pub mod TakenOver

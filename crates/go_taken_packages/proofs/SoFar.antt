@@ -36,7 +36,7 @@ among_has (p ∷ ps) path e = elim (either (bytes_eq p path)) [
   | inr f ↦ inr (among_has ps path (or_second (bytes_eq p path) (is_among ps path) f e))
 ]
 
-both : (a b : Bool) → a ≡ true → b ≡ true → (a && b) ≡ true
+pub both : (a b : Bool) → a ≡ true → b ≡ true → (a && b) ≡ true
 both a b e f = ap (λ z. z && b) e ∙ f
 
 pub first_of : (a b : Bool) → (a && b) ≡ true → a ≡ true

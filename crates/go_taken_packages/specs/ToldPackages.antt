@@ -1,4 +1,4 @@
--- Which packages of a list are taken from an other one, told in their order, where it is told of each whether the other one has the same.
+-- Which packages of a list are taken from another one, told in their order, where it is told of each whether the other one has the same.
 -- Own.
 use Rattle.std.specs.Prelude.{ℕ, Bool, false, not, ◌&&◌, ◌||◌, if◌then◌else◌, List, [], ◌∷◌}
 use Rattle.std.specs.List.{list_all}
