@@ -1,0 +1,12 @@
+pub mod KeptPaths
+pub mod OverAll
+pub mod SameReach
+pub mod SameSkipped
+pub mod SharedPackages
+pub mod SoFar
+pub mod TakenLists
+pub mod TakenOver
+pub mod TakenWorlds
+pub mod ToldPackages
+pub mod TypedNames
+pub mod WorldsInOrder
