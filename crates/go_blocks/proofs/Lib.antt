@@ -1,0 +1,5 @@
+pub mod EnteredBodies
+pub mod Framed
+pub mod Named
+pub mod Placed
+pub mod Sorted

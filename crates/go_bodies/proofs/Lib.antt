@@ -1,0 +1,10 @@
+pub mod Blocks
+pub mod BraceSteps
+pub mod CompleteBodies
+pub mod Handing
+pub mod Numbers
+pub mod Orders
+pub mod Outcomes
+pub mod RisingBraces
+pub mod SoundBodies
+pub mod Steps

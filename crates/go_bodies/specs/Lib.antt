@@ -1,0 +1,4 @@
+pub mod Bodies
+pub mod Braces
+pub mod Reading
+pub mod Reads

@@ -1,0 +1,5 @@
+pub mod ParsedFiles
+pub mod ClientReadings
+pub mod MadeFiles
+pub mod RootFiles
+pub mod Accepted

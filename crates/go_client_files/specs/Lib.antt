@@ -1,0 +1,2 @@
+pub mod ClientFiles
+pub mod inner

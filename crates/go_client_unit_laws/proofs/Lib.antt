@@ -1,0 +1,9 @@
+pub mod AlikeClients
+pub mod ClientPaths
+pub mod OneCause
+pub mod OneClient
+pub mod OneClientFiles
+pub mod OneReading
+pub mod OneRefusal
+pub mod OneWalk
+pub mod OwnFolders

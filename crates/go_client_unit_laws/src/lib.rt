@@ -1,0 +1,4 @@
+//! Laws of the units of a module with a client: they are one, and the same on platforms that are alike.
+#![tactic(auto)]
+
+pub mod laws;

@@ -1,0 +1,2 @@
+pub mod MoreReadings
+pub mod JoinedClients

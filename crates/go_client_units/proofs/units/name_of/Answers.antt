@@ -1,0 +1,14 @@
+use Rattle.std.proofs.Common.{◌≡◌, ◌∙◌, List, ℕ, sym, ap}
+use Rattle.go_imports.proofs.Files.{has_item}
+use Rattle.go_syntax.specs.declared.declaration.File.{File}
+use Rattle.go_units.proofs.Results.{if_ok_as}
+use Rattle.go_units.specs.UnitFacts.{UnitFilesAreNamed}
+use Rattle.go_units.specs.declared.unit.UnitFile.{UnitFile}
+use Rattle.go_client_units.proofs.units.name_of.Goals as goal
+
+pub returns : goal.returns
+returns c =
+    if_ok_as (λ (text : List ℕ). text ≡ c.bytes.result.now) (UnitFilesAreNamed c.args.files.now)
+    (λ text e f h. c.requires.alike f c.index-files-0.result h (has_item c.args.files.now 0 c.index-files-0.result c.requires.some c.index-files-0.is) ∙ ap (λ (g : UnitFile). g.outline.«package».text) c.index-files-0.is
+    ∙ sym (c.bytes.ensures ∙ ap (λ (o : File). o.«package».text) c.value.ensures) ∙ sym e)
+    c.of.result c.of.ensures

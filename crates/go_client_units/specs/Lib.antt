@@ -1,0 +1,2 @@
+pub mod ClientUnits
+pub mod inner

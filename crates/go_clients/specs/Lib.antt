@@ -1,0 +1,3 @@
+pub mod ProfileClients
+pub mod Vetting
+pub mod inner

@@ -1,0 +1,2 @@
+pub mod FileBodies
+pub mod FileOutcomes

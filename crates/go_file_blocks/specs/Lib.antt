@@ -1,0 +1,2 @@
+pub mod FileBlocks
+pub mod FileReading

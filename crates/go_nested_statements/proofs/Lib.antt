@@ -1,0 +1,5 @@
+pub mod Behind
+pub mod Headed
+pub mod Branched
+pub mod Looped
+pub mod Ranged

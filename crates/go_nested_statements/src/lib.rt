@@ -1,0 +1,8 @@
+//! The typing of statements with a header and blocks: `if` and `for`.
+#![tactic(auto)]
+
+pub mod branches;
+mod conditions;
+mod headers;
+pub mod loops;
+pub mod ranges;

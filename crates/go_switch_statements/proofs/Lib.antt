@@ -1,0 +1,3 @@
+pub mod Switched
+pub mod Guarded
+pub mod Selected

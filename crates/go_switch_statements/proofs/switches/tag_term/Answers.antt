@@ -1,0 +1,6 @@
+use Rattle.go_clauses.specs.Clauses.{IsTagOf}
+use Rattle.go_walks.proofs.Told.{asked_found}
+use Rattle.go_switch_statements.proofs.switches.tag_term.Goals as goal
+
+pub returns : goal.returns
+returns c = asked_found (λ F. IsTagOf F c.args.expr.now) c.new-context.result.env.now c.args.env.now c.new-context.ensures c.tag.result c.found.result c.found.ensures c.tag.ensures

@@ -1,0 +1,3 @@
+pub mod Casing
+pub mod Binding
+pub mod Selecting
