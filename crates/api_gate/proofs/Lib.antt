@@ -1,3 +1,4 @@
+pub mod ClientsKept
 pub mod DecisionEnds
 pub mod OneOutcome
 pub mod OneReport

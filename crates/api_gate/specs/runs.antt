@@ -1,3 +1,4 @@
+pub mod Clients
 pub mod Effects
 pub mod Outcomes
 pub mod Runs

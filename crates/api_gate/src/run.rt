@@ -1,12 +1,13 @@
 //! The top call.
 ghost use Rattle.std.specs.Prelude.{◌≡◌, ◌⊎◌, ◌<◌, [], List, ℕ, length, map, string_bytes};
 ghost use Rattle.api_gate.specs.inner.Decisions.{IsFew, outcome_of};
+ghost use Rattle.api_gate.specs.runs.Clients.{KeepsClients};
 ghost use Rattle.api_gate.specs.runs.Effects.{Failed, NeverFell, Took, change, effects};
 ghost use Rattle.api_gate.specs.runs.Outcomes.{ChecksAtMost};
 ghost use Rattle.api_gate.specs.runs.Runs.{Ends, IsComplete, MayWrite};
 ghost use Rattle.api_words.specs.Words.{AreBad, IsRequest};
 
-use crate::laws::one_outcome;
+use crate::laws::{clients_kept, one_outcome};
 use crate::reports::decision::Decision;
 use crate::reports::deliver::deliver;
 use crate::requests::{on_files, on_made};
@@ -119,7 +120,12 @@ pub fn run<R: Threads + Sync, F: Files, S: Sink, E: Sink, G: Gate + Sync, L: Cop
     ensures output_count { NeverFell (change S.told S.faults out.old out.new) }
     ensures error_count { NeverFell (change E.told E.faults err.old err.new) }
     ensures steps { ChecksAtMost (map string_bytes words.now) (F.told files.old) steps.old steps.new }
+
+    // On each platform whose verdict tells no break, each client of the profile that is typed against the old tree, bodies and all, is typed
+    // against the new one.
+    ensures clients { KeepsClients (map string_bytes words.now) (F.told files.old) }
 {
+    clients_kept();
     one_outcome();
     let decision = decide(rt, alloc, words, files, gate, steps);
     deliver(out, err, &decision)

@@ -18,3 +18,6 @@ returns-clause-read g c = ends_read _ _ _ (_, c.decide-decision.ensures.written,
 
 pub returns-clause-write : goal.returns-clause-write
 returns-clause-write g c = ends_write _ _ _ (_, c.decide-decision.ensures.written, c.deliver.ensures.written)
+
+pub returns-clause-clients : goal.returns-clause-clients
+returns-clause-clients g c = c.clients_kept.ensures _ _
