@@ -18,7 +18,7 @@ sys.path.append(os.path.join(gating.TOP, "tools"))
 import places
 
 # the sources of the Go programs of this repository that are built here
-SOURCES = {"stdcut": ["go.mod", "tools/stdcut", "internal/trees"], "explain": ["go.mod", "tools/explain", "internal/trees", "internal/typed", "internal/reasons"]}
+SOURCES = {"stdcut": ["go.mod", "tools/stdcut", "internal/trees"], "explain": ["go.mod", "tools/explain", "internal/profile", "internal/trees", "internal/typed", "internal/reasons"]}
 # what of Go's settings decides which packages are found
 ASKED = ["GOVERSION", "GOROOT", "GOPATH", "GOMODCACHE", "GOFLAGS", "GO111MODULE", "GOWORK"]
 MOST = 32
@@ -192,6 +192,13 @@ def promised(std, platforms, old):
             places.put(place, found.encode())
             forget(store)
     return found
+
+
+def of_client(room, platforms, old, new, client):
+    """Cuts what a client and both trees need of other packages: the folder, and what the cutter said. Nothing of it is kept."""
+    program, _ = built("stdcut", room, settings_of_go({}))
+    lines = run(program, platforms, room, ["--client", client, *([new] if old == new else [old, new])], {})
+    return os.path.join(room, "std"), lines
 
 
 def cut(room, platforms, old, new, settings=None):

@@ -63,6 +63,12 @@ class Explainer:
         file, _, what = rest.rpartition(": ")
         return list(self.of_file(side, platform, file, what))
 
+    def of_client(self, folder, std, platform, is_outside, place):
+        """Why a client isn't typed at a place of it, or each step by which it is outside of the profile."""
+        where = {"file": place[0], "line": place[1], "column": place[2]} if place else {}
+        told = self.ask("outside" if is_outside else "untyped", **{"new": self.folders["new"], "std": std, "platforms": [platform], "client": folder, **where}) or []
+        return ["%s: %s" % (each["where"], each["cause"]) for each in told]
+
     def of_limit(self, folder, rest):
         path, _, name = rest.rpartition(": limit ")
         if name in LIMITS:

@@ -7,6 +7,7 @@ import sys
 import types
 from xml.etree import ElementTree
 
+import clients
 import gating
 import reports
 
@@ -103,6 +104,10 @@ def text(run, colours, places):
             report += "%s (%s)\n" % (each.text, ", ".join(each.platforms))
             report += "    %s\n" % (where_told(each.place) if each.place else "not found in either tree")
             report += "".join("    %s\n" % way for way in each.ways)
+    if run.judged.clients:
+        report += "\nclients\n"
+        for each in run.judged.clients:
+            report += "%s\n" % each.text + "".join("    %s\n" % note for note in each.notes)
     return report
 
 
@@ -124,6 +129,9 @@ def github(run):
     for rule, message, place, _ in run.findings():
         file, line = run.file(place)
         out += command("error", file, line, "apigate " + rule, message)
+    for each in run.judged.clients:
+        if each.kind != clients.KEPT:
+            out += "::%s title=apigate client::%s\n" % ("error" if each.kind == clients.STOPS else "warning", escaped("\n".join([each.text] + each.notes)))
     if run.judged.is_refused:
         out += command("error", *run.refusal(), "apigate", "\n".join([run.judged.fault] + run.judged.notes))
     elif run.judged.version:
@@ -149,6 +157,8 @@ def in_json(run):
     made = {"module": run.new.module, "old": of_side(run.old), "new": of_side(run.new), "go": run.cut.go, "status": judged.status,
             "refused": judged.fault if judged.is_refused else None, "notes": judged.notes, "platforms": platforms, "breaks": [broken(each) for each in judged.breaks],
             "lost": judged.lost, "new_lines": judged.new, "skipped": [{"tree": side, "platform": name, "declarations": count} for side, name, count in judged.skipped],
+            "clients": [{"client": each.folder, "becomes": each.kind, "place": dict(zip(("file", "line", "column"), each.place)) if each.place else None,
+                         "platforms": each.platforms, "notes": each.notes} for each in judged.clients],
             "class": judged.kind, "version": judged.version}
     return json.dumps(made, indent=2, ensure_ascii=False) + "\n"
 
@@ -172,7 +182,7 @@ def sarif(run):
                   "defaultConfiguration": {"level": "error"}, "properties": {"page": "docs/rules.md#" + rule}} for rule in used]
     results = [{"ruleId": rule, "ruleIndex": used.index(rule), "level": "error", "message": {"text": message}, "locations": location(run, place),
                 "partialFingerprints": {"finding/v1": hashlib.sha256((rule + " " + key).encode()).hexdigest()}} for rule, message, place, key in run.findings()]
-    notes = [{"level": "note", "message": {"text": note}} for note in run.judged.notes + [left_out(*each) for each in run.judged.skipped]]
+    notes = [{"level": "note", "message": {"text": note}} for note in run.judged.notes + [left_out(*each) for each in run.judged.skipped] + ["client " + each.text for each in run.judged.clients]]
     if run.judged.is_refused:
         notes.insert(0, {"level": "error", "message": {"text": run.judged.fault}})
     ended = {"executionSuccessful": not run.judged.is_refused, "exitCode": run.judged.status, "toolExecutionNotifications": notes}
@@ -201,6 +211,8 @@ def junit(run):
         for name in run.judged.verdicts:
             broken = [each for each in run.judged.breaks if name in each.platforms]
             suite(name, [("%s %s" % (each.rule, each.owner), "failure", told_at(run, each)) for each in broken] or [("compatible", "", "")])
+        if run.judged.clients:
+            suite("clients", [("client " + each.text, "failure" if each.kind == clients.STOPS else "", "\n".join([each.text] + each.notes)) for each in run.judged.clients])
         suite("promises", [("promise " + line, "failure", "promise lost: " + line) for line in run.judged.lost] or [("kept", "", "")])
     ElementTree.indent(top)
     return '<?xml version="1.0" encoding="UTF-8"?>\n' + ElementTree.tostring(top, encoding="unicode") + "\n"

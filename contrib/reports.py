@@ -36,6 +36,7 @@ class Judged:
         self.kind, self.version = self.last("class "), self.last("version ")
         self.breaks = self.broken()
         self.places = {}
+        self.clients = []
 
     def last(self, word):
         found = [line[len(word):] for line in self.report.splitlines() if line.startswith(word)]

@@ -22,6 +22,7 @@ def parser(about):
     made.add_argument("--except", default="", metavar="FILE", help="a file of frozen lines that may be lost")
     made.add_argument("--write-api", action="store_true", help="add the new lines to the last file of --api, or write it with all lines where it isn't there")
     made.add_argument("--update-except", action="store_true", help="add the lost lines to the file of --except")
+    made.add_argument("--clients", default="", metavar="DIR,..", help="packages of other modules: tell of each whether it is typed, bodies and all, over the old and over the new tree")
     made.add_argument("--places", action="store_true", help="tell under the report where each broken object is declared, and each way from it to what is broken")
     made.add_argument("--format", default="text", choices=FORMATS, help="the form of the report; text where it isn't given")
     gating.add_limits(made)

@@ -11,6 +11,7 @@ _apigate_options() {
         advise) echo "--old --new --version $common" ;;
         gate) echo "--old --new --api --version --except $common" ;;
         skipped) echo "--new $common" ;;
+        vet) echo "--new --client $common" ;;
         make) echo "--seed --size --workers" ;;
     esac
 }
@@ -30,7 +31,7 @@ _apigate_list() {
 }
 
 _apigate() {
-    local modes="features frozen judge advise gate skipped make"
+    local modes="features frozen judge advise gate skipped vet make"
     local platforms="linux-386 linux-arm windows-386 linux-amd64 linux-arm64 linux-riscv64 linux-s390x android-arm64 darwin-amd64
         darwin-arm64 ios-arm64 freebsd-amd64 illumos-amd64 windows-amd64"
     local current=${COMP_WORDS[COMP_CWORD]} option at left=""
@@ -39,7 +40,7 @@ _apigate() {
         mapfile -t COMPREPLY < <(compgen -W "$modes" -- "$current")
     elif ((COMP_CWORD % 2)); then
         case ${COMP_WORDS[COMP_CWORD - 1]} in
-            --old | --new | --std)
+            --old | --new | --std | --client)
                 compopt -o filenames 2>/dev/null
                 mapfile -t COMPREPLY < <(compgen -d -- "$current")
                 ;;

@@ -4,6 +4,8 @@
 //	explain places     the places of objects and of feature lines, and the ways to what is broken, over an old and a new tree
 //	explain reasons    what of a tree isn't in the profile, on one platform
 //	explain depends    why the declaration at a place of a tree has no typing, itself or by what it depends on
+//	explain untyped    why what stands at a place of a client isn't typed
+//	explain outside    each step by which a client is outside of the profile
 package main
 
 import (
@@ -22,8 +24,9 @@ type request struct {
 	Platforms     []string
 	Breaks        []broken
 	Lines         []string
+	Client        string
 	File          string
-	Line          int
+	Line, Column  int
 }
 
 // A broken is a break as the report has it, once for all platforms.
@@ -36,6 +39,14 @@ type broken struct {
 type dependence struct {
 	Reason *reasons.Reason `json:"reason"`
 	By     []string        `json:"by"`
+}
+
+// listed is a list in JSON, of none too.
+func listed(notes []reasons.Note) []reasons.Note {
+	if notes == nil {
+		return []reasons.Note{}
+	}
+	return notes
 }
 
 func fail(err error) {
@@ -61,7 +72,7 @@ func main() {
 	var asked request
 	fail(json.NewDecoder(os.Stdin).Decode(&asked))
 	if len(os.Args) != 2 || len(asked.Platforms) == 0 {
-		fail(fmt.Errorf("places, reasons or depends, and a platform, are wanted"))
+		fail(fmt.Errorf("places, reasons, depends, untyped or outside, and a platform, are wanted"))
 	}
 	var answer interface{}
 	worlds := map[string]*typed.World{}
@@ -81,6 +92,10 @@ func main() {
 			found.Reason = &reason
 		}
 		answer = found
+	case "untyped":
+		answer = listed(reasons.Untyped(asked.world(worlds, asked.New, asked.Platforms[0]), asked.Client, asked.File, asked.Line, asked.Column))
+	case "outside":
+		answer = listed(reasons.Outside(asked.world(worlds, asked.New, asked.Platforms[0]), asked.Client))
 	default:
 		fail(fmt.Errorf("no question %s", os.Args[1]))
 	}

@@ -56,7 +56,7 @@ import (
 	"strings"
 	"sync"
 
-	"apigate/conformance/internal/profile"
+	"apigate/internal/profile"
 )
 
 var (

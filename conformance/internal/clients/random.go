@@ -7,7 +7,7 @@ import (
 	"math/rand"
 	"strings"
 
-	"apigate/conformance/internal/profile"
+	"apigate/internal/profile"
 )
 
 // A producer is a selector that gives values of a type, or a method that returns one.

@@ -6,7 +6,7 @@ import (
 	"go/types"
 	"strings"
 
-	"apigate/conformance/internal/profile"
+	"apigate/internal/profile"
 )
 
 // A held is a value that is used: its type, and the recipe that gives it.

@@ -7,7 +7,7 @@ import (
 	"go/token"
 	"go/types"
 
-	"apigate/conformance/internal/profile"
+	"apigate/internal/profile"
 )
 
 const (

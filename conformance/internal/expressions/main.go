@@ -19,7 +19,7 @@ import (
 
 	"apigate/conformance/internal/differences"
 	"apigate/conformance/internal/generator"
-	"apigate/conformance/internal/profile"
+	"apigate/internal/profile"
 	"apigate/internal/worlds"
 )
 

@@ -8,7 +8,7 @@ import (
 	"math/rand"
 	"strings"
 
-	"apigate/conformance/internal/profile"
+	"apigate/internal/profile"
 	"apigate/internal/worlds"
 )
 
@@ -41,9 +41,9 @@ type Generator struct {
 	Depth     int
 }
 
-func (g *Generator) one(words ...string) string { return words[g.Intn(len(words))] }
+func (g *Generator) One(words ...string) string { return words[g.Intn(len(words))] }
 
-func (g *Generator) chance(percent int) bool { return g.Intn(100) < percent }
+func (g *Generator) Chance(percent int) bool { return g.Intn(100) < percent }
 
 // Written is the type as a client writes it.
 func Written(t types.Type) string {
@@ -161,13 +161,13 @@ func IsKind(t types.Type, info types.BasicInfo) bool {
 func (g *Generator) literal(t types.Type) made {
 	switch {
 	case IsKind(t, types.IsBoolean):
-		return made{g.one("true", "false", "true", "1 < 2"), 3}
+		return made{g.One("true", "false", "true", "1 < 2"), 3}
 	case IsKind(t, types.IsString):
-		return made{g.one(`"a"`, `""`, "`raw`", `"\x00z"`, `"日"`), 7}
-	case g.spoils && g.chance(10):
-		return made{g.one("1.5", "2i", "1e3", "0x1p4", "170141183460469231731687303715884105728", `'x'`, `-129`, `1 << 64`, "256", "1 << 31", "1 << 63"), 5}
+		return made{g.One(`"a"`, `""`, "`raw`", `"\x00z"`, `"日"`), 7}
+	case g.spoils && g.Chance(10):
+		return made{g.One("1.5", "2i", "1e3", "0x1p4", "170141183460469231731687303715884105728", `'x'`, `-129`, `1 << 64`, "256", "1 << 31", "1 << 63"), 5}
 	}
-	return made{g.one("0", "1", "2", "3", "7", "'a'", "100", "0x7f", "0b11", "1_0"), 7}
+	return made{g.One("0", "1", "2", "3", "7", "'a'", "100", "0x7f", "0b11", "1_0"), 7}
 }
 
 // names are the values that are assignable to the type, or are constants that may be.
@@ -190,26 +190,26 @@ func (g *Generator) names(t types.Type) []Known {
 
 // Least is an expression of the type that has no other below it.
 func (g *Generator) Least(t types.Type) made {
-	if found := g.names(t); len(found) > 0 && g.chance(70) {
+	if found := g.names(t); len(found) > 0 && g.Chance(70) {
 		return made{found[g.Intn(len(found))].Name, 7}
 	}
 	switch u := t.Underlying().(type) {
 	case *types.Basic:
-		if g.chance(60) || u.Kind() == types.UntypedNil {
+		if g.Chance(60) || u.Kind() == types.UntypedNil {
 			return g.literal(t)
 		}
 		return made{operand(t) + "(" + g.literal(t).Text + ")", 7}
 	case *types.Struct, *types.Array, *types.Slice, *types.Map:
-		if _, is := u.(*types.Struct); !is && g.chance(15) {
+		if _, is := u.(*types.Struct); !is && g.Chance(15) {
 			break
 		}
 		return made{operand(t) + "{}", 7}
 	case *types.Signature:
-		if g.chance(50) {
+		if g.Chance(50) {
 			return g.function(t, u)
 		}
 	}
-	return made{g.one("nil", operand(t)+"(nil)", operand(t)+"(nil)", "*new("+Written(t)+")"), 6}
+	return made{g.One("nil", operand(t)+"(nil)", operand(t)+"(nil)", "*new("+Written(t)+")"), 6}
 }
 
 func (g *Generator) function(t types.Type, u *types.Signature) made {
@@ -231,14 +231,14 @@ func (g *Generator) Some(holds func(types.Type) bool) types.Type {
 
 // Any is a type of the pool, more often a number or a text.
 func (g *Generator) Any() types.Type {
-	if g.chance(30) {
+	if g.Chance(30) {
 		return g.Some(func(t types.Type) bool { return IsKind(t, types.IsConstType) })
 	}
 	return g.pool[g.Intn(len(g.pool))]
 }
 
 func (g *Generator) integer() types.Type {
-	if g.chance(50) {
+	if g.Chance(50) {
 		return types.Typ[types.Int]
 	}
 	return g.Some(func(t types.Type) bool { return IsKind(t, types.IsInteger) })
@@ -246,8 +246,8 @@ func (g *Generator) integer() types.Type {
 
 // index is an index, most of them constant and small.
 func (g *Generator) index(depth int) string {
-	if g.chance(50) {
-		return g.one("0", "1", "2", "0", "1", "'\\x01'", "3", "uint8(1)")
+	if g.Chance(50) {
+		return g.One("0", "1", "2", "0", "1", "'\\x01'", "3", "uint8(1)")
 	}
 	return g.Expr(g.integer(), depth).Text
 }
@@ -258,7 +258,7 @@ func (g *Generator) Arguments(call *types.Signature, depth int) string {
 	for i := 0; i < call.Params().Len(); i++ {
 		t := call.Params().At(i).Type()
 		if call.Variadic() && i == call.Params().Len()-1 {
-			if g.chance(35) {
+			if g.Chance(35) {
 				words = append(words, g.Expr(t, depth).Text)
 				dots = "..."
 				break
@@ -270,16 +270,16 @@ func (g *Generator) Arguments(call *types.Signature, depth int) string {
 		}
 		words = append(words, g.Expr(t, depth).Text)
 	}
-	if g.spoils && g.chance(6) && len(words) > 0 {
+	if g.spoils && g.Chance(6) && len(words) > 0 {
 		words = words[1:]
 	}
-	if g.spoils && g.chance(5) {
+	if g.spoils && g.Chance(5) {
 		words = append(words, g.Expr(g.Any(), 0).Text)
 	}
-	if g.spoils && g.chance(4) {
-		dots = g.one("", "...")
+	if g.spoils && g.Chance(4) {
+		dots = g.One("", "...")
 	}
-	if g.chance(4) && dots == "" && len(words) > 0 {
+	if g.Chance(4) && dots == "" && len(words) > 0 {
 		dots = ","
 	}
 	return "(" + strings.Join(words, ", ") + dots + ")"
@@ -314,7 +314,7 @@ func (g *Generator) selected(t types.Type, depth int) (made, bool) {
 	base := g.Expr(one.base, depth-1)
 	text := base.Within(7) + "." + one.selector
 	if one.call != nil {
-		if g.chance(15) {
+		if g.Chance(15) {
 			first := "(" + base.Text
 			rest := g.Arguments(one.call, depth-1)
 			if rest != "()" {
@@ -329,9 +329,9 @@ func (g *Generator) selected(t types.Type, depth int) (made, bool) {
 
 func (g *Generator) struct_(t types.Type, u *types.Struct, depth int) made {
 	var words []string
-	keyed := g.chance(60)
+	keyed := g.Chance(60)
 	for i := 0; i < u.NumFields(); i++ {
-		if keyed && g.chance(35) {
+		if keyed && g.Chance(35) {
 			continue
 		}
 		value := g.element(u.Field(i).Type(), depth-1, false)
@@ -347,14 +347,14 @@ func (g *Generator) struct_(t types.Type, u *types.Struct, depth int) made {
 }
 
 func (g *Generator) joined(words []string) string {
-	if g.spoils && g.chance(5) && len(words) > 0 {
+	if g.spoils && g.Chance(5) && len(words) > 0 {
 		words = append(words, words[g.Intn(len(words))])
 	}
-	if g.spoils && g.chance(5) && len(words) > 0 {
+	if g.spoils && g.Chance(5) && len(words) > 0 {
 		words = words[1:]
 	}
 	text := strings.Join(words, ", ")
-	if g.chance(5) && text != "" {
+	if g.Chance(5) && text != "" {
 		text += ","
 	}
 	return text
@@ -363,7 +363,7 @@ func (g *Generator) joined(words []string) string {
 // element is a value in a composite literal, whose type may be left out.
 func (g *Generator) element(t types.Type, depth int, elided bool) string {
 	value := g.Expr(t, depth).Text
-	if elided && g.chance(60) {
+	if elided && g.Chance(60) {
 		if front := Written(t) + "{"; strings.HasPrefix(value, front) && strings.HasSuffix(value, "}") && strings.Count(value, "{") == 1 {
 			return value[len(front)-1:]
 		}
@@ -386,7 +386,7 @@ func (g *Generator) composite(t types.Type, depth int) (made, bool) {
 		element, most := types.Type(nil), int64(3)
 		if array, is := u.(*types.Array); is {
 			element, most = array.Elem(), array.Len()
-			if _, is := t.(*types.Array); is && g.chance(40) {
+			if _, is := t.(*types.Array); is && g.Chance(40) {
 				front = "[...]" + Written(element)
 			}
 		} else {
@@ -396,13 +396,13 @@ func (g *Generator) composite(t types.Type, depth int) (made, bool) {
 		if most > 0 {
 			count = int64(g.Intn(int(most) + 1))
 		}
-		if g.spoils && g.chance(10) {
+		if g.spoils && g.Chance(10) {
 			count++
 		}
 		for i := int64(0); i < count; i++ {
 			value := g.element(element, depth-1, true)
-			if g.chance(20) {
-				value = g.one("0", "1", "2", fmt.Sprint(i), "'\\x02'") + ": " + value
+			if g.Chance(20) {
+				value = g.One("0", "1", "2", fmt.Sprint(i), "'\\x02'") + ": " + value
 			}
 			words = append(words, value)
 		}
@@ -431,35 +431,35 @@ func (g *Generator) binary(t types.Type, depth int) (made, bool) {
 			return join("&&", 2, side(), side())
 		case 2:
 			t = g.Some(func(t types.Type) bool { return IsKind(t, types.IsOrdered) })
-			return join(g.one("<", "<=", ">", ">=", "==", "!="), 3, g.Expr(t, depth-1), g.Expr(t, depth-1))
+			return join(g.One("<", "<=", ">", ">=", "==", "!="), 3, g.Expr(t, depth-1), g.Expr(t, depth-1))
 		}
 		t := g.Some(types.Comparable)
 		left, right := g.Expr(t, depth-1), g.Expr(t, depth-1)
-		if g.chance(20) {
+		if g.Chance(20) {
 			right = made{"nil", 7}
 		}
-		if g.chance(15) {
+		if g.Chance(15) {
 			right = g.Expr(g.Some(types.IsInterface), depth-1)
 		}
-		if g.chance(20) {
+		if g.Chance(20) {
 			left, right = right, left
 		}
-		return join(g.one("==", "!="), 3, left, right)
+		return join(g.One("==", "!="), 3, left, right)
 	case IsKind(t, types.IsString):
 		return join("+", 4, side(), side())
 	case IsKind(t, types.IsInteger):
 		switch g.Intn(5) {
 		case 0:
-			return join(g.one("<<", ">>"), 5, side(), g.Expr(g.integer(), depth-1))
+			return join(g.One("<<", ">>"), 5, side(), g.Expr(g.integer(), depth-1))
 		case 1, 2:
-			return join(g.one("+", "-", "|", "^"), 4, side(), side())
+			return join(g.One("+", "-", "|", "^"), 4, side(), side())
 		}
-		return join(g.one("*", "/", "%", "&", "&^"), 5, side(), side())
+		return join(g.One("*", "/", "%", "&", "&^"), 5, side(), side())
 	case IsKind(t, types.IsNumeric):
-		if g.chance(50) {
-			return join(g.one("+", "-"), 4, side(), side())
+		if g.Chance(50) {
+			return join(g.One("+", "-"), 4, side(), side())
 		}
-		return join(g.one("*", "/"), 5, side(), side())
+		return join(g.One("*", "/"), 5, side(), side())
 	}
 	return made{}, false
 }
@@ -471,7 +471,7 @@ func (g *Generator) builtin(t types.Type, depth int) (made, bool) {
 		case 0:
 			u := g.Some(func(t types.Type) bool { _, is := t.Underlying().(*types.Slice); return is })
 			from := u
-			if g.chance(20) {
+			if g.Chance(20) {
 				from = types.Typ[types.String]
 			}
 			return made{"copy(" + g.Expr(u, depth-1).Text + ", " + g.Expr(from, depth-1).Text + ")", 7}, true
@@ -488,27 +488,27 @@ func (g *Generator) builtin(t types.Type, depth int) (made, bool) {
 			}
 			return false
 		})
-		return made{g.one("len", "len", "cap") + "(" + g.Expr(u, depth-1).Text + ")", 7}, true
+		return made{g.One("len", "len", "cap") + "(" + g.Expr(u, depth-1).Text + ")", 7}, true
 	}
 	switch u := t.Underlying().(type) {
 	case *types.Slice:
-		if g.chance(40) {
-			return made{"make(" + Written(t) + ", " + g.index(depth-1) + g.one("", ", "+g.index(0)) + ")", 7}, true
+		if g.Chance(40) {
+			return made{"make(" + Written(t) + ", " + g.index(depth-1) + g.One("", ", "+g.index(0)) + ")", 7}, true
 		}
 		rest := ""
 		for n := g.Intn(3); n > 0; n-- {
 			rest += ", " + g.Expr(u.Elem(), depth-1).Text
 		}
-		if g.chance(40) {
+		if g.Chance(40) {
 			from := t
-			if g.chance(30) {
+			if g.Chance(30) {
 				from = types.Typ[types.String]
 			}
 			rest = ", " + g.Expr(from, depth-1).Text + "..."
 		}
 		return made{"append(" + g.Expr(t, depth-1).Text + rest + ")", 7}, true
 	case *types.Map, *types.Chan:
-		return made{"make(" + Written(t) + g.one("", "", ", "+g.index(0)) + ")", 7}, true
+		return made{"make(" + Written(t) + g.One("", "", ", "+g.index(0)) + ")", 7}, true
 	case *types.Pointer:
 		if _, is := t.(*types.Pointer); is {
 			return made{"new(" + Written(u.Elem()) + ")", 7}, true
@@ -574,7 +574,7 @@ func (g *Generator) sliced(t types.Type, depth int) (made, bool) {
 	full := false
 	switch u := t.Underlying().(type) {
 	case *types.Slice:
-		full = g.chance(30)
+		full = g.Chance(30)
 		if _, is := t.(*types.Slice); is {
 			switch g.Intn(3) {
 			case 0:
@@ -587,23 +587,23 @@ func (g *Generator) sliced(t types.Type, depth int) (made, bool) {
 		if u.Info()&types.IsString == 0 {
 			return made{}, false
 		}
-		full = g.spoils && g.chance(5)
+		full = g.spoils && g.Chance(5)
 	default:
 		return made{}, false
 	}
-	bounds := g.one("", g.index(depth-1)) + ":" + g.one("", g.index(depth-1))
+	bounds := g.One("", g.index(depth-1)) + ":" + g.One("", g.index(depth-1))
 	if full {
-		bounds = g.one("", g.index(0)) + ":" + g.index(depth-1) + ":" + g.one("2", "3", g.index(0))
+		bounds = g.One("", g.index(0)) + ":" + g.index(depth-1) + ":" + g.One("2", "3", g.index(0))
 	}
 	return made{g.Expr(base, depth-1).Within(7) + "[" + bounds + "]", 7}, true
 }
 
 // Expr is an expression that should be usable as a value of the type.
 func (g *Generator) Expr(t types.Type, depth int) made {
-	if g.spoils && g.chance(3) {
+	if g.spoils && g.Chance(3) {
 		t = g.Any()
 	}
-	if depth <= 0 || depth < g.Depth && g.chance(12) {
+	if depth <= 0 || depth < g.Depth && g.Chance(12) {
 		return g.Least(t)
 	}
 	for tries := 0; tries < 12; tries++ {
@@ -630,12 +630,12 @@ func (g *Generator) Expr(t types.Type, depth int) made {
 			found, is = g.sliced(t, depth)
 		case 13:
 			if pointer, points := t.(*types.Pointer); points {
-				if value, is := g.composite(pointer.Elem(), depth); is && g.chance(60) {
+				if value, is := g.composite(pointer.Elem(), depth); is && g.Chance(60) {
 					return made{"&" + value.Within(6), 6}
 				}
 				found, is = made{"&" + g.Expr(pointer.Elem(), depth-1).Within(6), 6}, true
 			} else if IsKind(t, types.IsNumeric) {
-				found, is = made{g.one("-", "+", "^") + g.Expr(t, depth-1).Within(6), 6}, true
+				found, is = made{g.One("-", "+", "^") + g.Expr(t, depth-1).Within(6), 6}, true
 			} else if IsKind(t, types.IsBoolean) {
 				found, is = made{"!" + g.Expr(t, depth-1).Within(6), 6}, true
 			} else if types.IsInterface(t) {
@@ -656,34 +656,34 @@ func (g *Generator) Expr(t types.Type, depth int) made {
 func (g *Generator) Constant(depth int) made {
 	if depth <= 0 {
 		for i := 0; i < 40; i++ {
-			if one := g.Known[g.Intn(len(g.Known))]; g.chance(60) {
+			if one := g.Known[g.Intn(len(g.Known))]; g.Chance(60) {
 				if _, is := one.Object.(*types.Const); is {
 					return made{one.Name, 7}
 				}
 			}
 		}
-		return made{g.one("0", "1", "2", "7", "'a'", "64", "1 << 62", "255", `"a"`, `"bc"`, "true", "1 << 100", "-1", "iota", "int8(-128)", "uint(3)", "p.Num(9)"), 4}
+		return made{g.One("0", "1", "2", "7", "'a'", "64", "1 << 62", "255", `"a"`, `"bc"`, "true", "1 << 100", "-1", "iota", "int8(-128)", "uint(3)", "p.Num(9)"), 4}
 	}
 	side := func() made { return g.Constant(depth - 1 - g.Intn(2)) }
 	binds := map[string]int{"||": 1, "&&": 2, "==": 3, "!=": 3, "<": 3, "<=": 3, ">": 3, ">=": 3, "+": 4, "-": 4, "|": 4, "^": 4, "*": 5, "/": 5, "%": 5, "&": 5, "&^": 5, "<<": 5, ">>": 5}
 	switch g.Intn(6) {
 	case 0:
-		return made{g.one("-", "+", "^", "!") + side().Within(6), 6}
+		return made{g.One("-", "+", "^", "!") + side().Within(6), 6}
 	case 1:
 		t := g.Some(func(t types.Type) bool { return IsKind(t, types.IsConstType) })
 		return made{operand(t) + "(" + side().Text + ")", 7}
 	case 2:
-		return made{g.one("len", "") + "(" + side().Text + ")", 7}
+		return made{g.One("len", "") + "(" + side().Text + ")", 7}
 	}
 	op := Operators[g.Intn(len(Operators))]
-	if g.chance(60) {
-		op = g.one("+", "-", "*", "/", "%", "<<", ">>", "==", "<")
+	if g.Chance(60) {
+		op = g.One("+", "-", "*", "/", "%", "<<", ">>", "==", "<")
 	}
 	return made{side().Within(binds[op]) + " " + op + " " + side().Within(binds[op]+1), binds[op]}
 }
 
-// alone is a call that is no value by itself: one of a builtin function, or one with no result or several.
-func (g *Generator) alone(depth int) string {
+// Alone is a call that is no value by itself: one of a builtin function, or one with no result or several.
+func (g *Generator) Alone(depth int) string {
 	is := func(kind func(types.Type) bool) types.Type { return g.Some(kind) }
 	switch g.Intn(6) {
 	case 0:
@@ -694,9 +694,9 @@ func (g *Generator) alone(depth int) string {
 			return "delete(" + g.Expr(t, depth).Text + ", " + g.Expr(u.Key(), depth).Text + ")"
 		}
 	case 2:
-		return g.one("panic", "print", "println") + "(" + g.Expr(g.Any(), depth).Text + ")"
+		return g.One("panic", "print", "println") + "(" + g.Expr(g.Any(), depth).Text + ")"
 	case 3:
-		return g.one("print", "println", "append", "copy", "new", "recover", "make", "cap") + "(" + g.Expr(g.Any(), depth).Text + ", " + g.Expr(g.Any(), depth).Text + ")"
+		return g.One("print", "println", "append", "copy", "new", "recover", "make", "cap") + "(" + g.Expr(g.Any(), depth).Text + ", " + g.Expr(g.Any(), depth).Text + ")"
 	}
 	var calls []Known
 	for _, one := range g.Known {
@@ -706,28 +706,28 @@ func (g *Generator) alone(depth int) string {
 	}
 	one := calls[g.Intn(len(calls))]
 	text := one.Name + g.Arguments(one.Object.Type().(*types.Signature), depth)
-	if g.chance(50) {
-		return g.Known[g.Intn(len(g.Known))].Name + "(" + text + g.one("", "", "...") + ")"
+	if g.Chance(50) {
+		return g.Known[g.Intn(len(g.Known))].Name + "(" + text + g.One("", "", "...") + ")"
 	}
 	return text
 }
 
 // Next is the next expression.
 func (g *Generator) Next(depth int) string {
-	g.spoils, g.Depth = g.chance(40), depth
+	g.spoils, g.Depth = g.Chance(40), depth
 	text := ""
 	switch draw := g.Intn(100); {
 	case draw < 12:
 		text = g.Constant(depth).Text
 	case draw < 18:
-		text = g.alone(depth - 1)
+		text = g.Alone(depth - 1)
 	default:
 		text = g.Expr(g.Any(), depth-g.Intn(3)*g.Intn(2)).Text
 	}
-	if g.spoils && g.chance(60) {
-		text = g.spoiled(text)
+	if g.spoils && g.Chance(60) {
+		text = g.Spoiled(text)
 	}
-	if g.chance(1) {
+	if g.Chance(1) {
 		text = Written(g.Any())
 	}
 	return text

@@ -14,8 +14,8 @@ var others = map[token.Token][]string{
 
 var Operators = []string{"+", "-", "*", "/", "%", "&", "|", "^", "<<", ">>", "&^", "&&", "||", "==", "!=", "<", "<=", ">", ">="}
 
-// spoiled is the text with one token replaced.
-func (g *Generator) spoiled(text string) string {
+// Spoiled is the text with one token replaced.
+func (g *Generator) Spoiled(text string) string {
 	var s scanner.Scanner
 	files := token.NewFileSet()
 	s.Init(files.AddFile("", files.Base(), len(text)), []byte(text), nil, 0)
@@ -44,20 +44,20 @@ func (g *Generator) spoiled(text string) string {
 		switch {
 		case one.kind == token.IDENT:
 			with = g.Known[g.Intn(len(g.Known))].Name
-			if g.chance(40) {
-				with = g.one("nil", "iota", "_", "undefined", "len", "p", "q", "p.hidden", "q.hidden", "int", "string", "error", "uint8", "true", "float64", "new", "any", "p.Undefined")
+			if g.Chance(40) {
+				with = g.One("nil", "iota", "_", "undefined", "len", "p", "q", "p.hidden", "q.hidden", "int", "string", "error", "uint8", "true", "float64", "new", "any", "p.Undefined")
 			}
-			if g.chance(30) {
+			if g.Chance(30) {
 				with = g.selectors[g.Intn(len(g.selectors))]
 			}
 		case others[one.kind] != nil:
-			with = g.one(others[one.kind]...)
+			with = g.One(others[one.kind]...)
 		case one.kind == token.ELLIPSIS:
 			with = ""
 		case one.kind >= token.ADD && one.kind <= token.AND_NOT || one.kind == token.LAND || one.kind == token.LOR || one.kind >= token.EQL && one.kind <= token.GTR || one.kind == token.NEQ || one.kind == token.LEQ || one.kind == token.GEQ:
-			with = g.one(Operators...)
+			with = g.One(Operators...)
 		case one.kind == token.NOT || one.kind == token.ARROW:
-			with = g.one("-", "!", "^", "*", "&", "<-", "+")
+			with = g.One("-", "!", "^", "*", "&", "<-", "+")
 		default:
 			continue
 		}

@@ -12,7 +12,7 @@ import (
 
 	"apigate/conformance/internal/answers"
 	"apigate/conformance/internal/generator"
-	"apigate/conformance/internal/profile"
+	"apigate/internal/profile"
 	"apigate/internal/worlds"
 )
 

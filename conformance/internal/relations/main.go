@@ -15,7 +15,7 @@ import (
 	"os"
 	"strings"
 
-	"apigate/conformance/internal/profile"
+	"apigate/internal/profile"
 	"apigate/internal/worlds"
 )
 

@@ -1,8 +1,8 @@
 -- What decisions are: those of findings, from the parts of their reports; and those of a request, as what a run may write.
-use Rattle.std.proofs.Common.{◌≡◌, ◌≤◌, ◌+◌, ◌-◌, ℕ, Bool, true, false, ◌||◌, List, ◌++◌, Option, Some, None, Ok, Err, refl, sym, subst, ◌⊎◌, inl, inr, arith}
+use Rattle.std.proofs.Common.{◌≡◌, ◌≤◌, ◌+◌, ◌-◌, ℕ, Bool, true, false, ◌||◌, List, ◌++◌, Option, Some, None, Ok, Err, refl, sym, ap, ◌∙◌, subst, ◌⊎◌, inl, inr, arith}
 use Rattle.std.specs.List.{list_any}
 use Rattle.std.specs.Prelude.{Result}
-use Rattle.api_findings.specs.Checks.{CountsAtMost}
+use Rattle.api_clients.specs.ClientAnswers.{Answers}
 use Rattle.api_findings.specs.Findings.{AnswersFindings, AreLeftOut}
 use Rattle.api_findings.specs.declared.findings.Findings.{Findings}
 use Rattle.api_advice.specs.Advice.{IsNext}
@@ -22,6 +22,8 @@ use Rattle.api_inputs.specs.declared.inputs.Inputs.{Inputs}
 use Rattle.api_judge.specs.Verdicts.{class_of, has_break}
 use Rattle.api_judge.specs.declared.verdict.Verdict.{Verdict}
 use Rattle.api_lines.specs.declared.line.Line.{Line}
+use Rattle.api_reports.specs.Clients.{clients_text, has_untyped}
+use Rattle.api_reports.specs.declared.clients.ClientAnswer.{ClientAnswer}
 use Rattle.api_reports.specs.Reports.{counted_class_text, judge_text, skipped_text}
 use Rattle.api_texts.specs.declared.left_out.LeftOut.{LeftOut}
 use Rattle.api_words.specs.Words.{IsRequest}
@@ -34,9 +36,9 @@ use Rattle.api_gate.specs.declared.reports.advice.AdviceFault.{AdviceFault}
 use Rattle.api_gate.specs.declared.reports.advice.AdviceFault.TheVariants as fault
 use Rattle.api_gate.specs.declared.reports.decision.Decision.{Decision}
 use Rattle.api_gate.specs.declared.reports.decision.Decision.TheVariants as decision
-use Rattle.api_gate.specs.inner.Decisions.{AnswersAdvice, ChecksFor, IsFeaturesText, IsGateDecision, IsMakeText, IsOfFindings, IsOfInputs, of_findings, of_platform, no_room, IsOfStore, of_inputs, of_refusal, of_fault, no_space, decision_of, outcome_of, report_of, unadvised, unfound, IsFaultOf}
+use Rattle.api_gate.specs.inner.Decisions.{AnswersAdvice, ChecksFor, ChecksIn, IsClientDecision, IsFeaturesText, IsGateDecision, IsMakeText, IsOfFindings, IsOfInputs, of_answers, of_client, of_findings, of_platform, no_room, IsOfStore, of_inputs, of_refusal, of_fault, no_space, decision_of, outcome_of, report_of, unadvised, unfound, IsFaultOf}
 use Rattle.api_gate.specs.runs.Effects.{Change}
-use Rattle.api_gate.specs.runs.Outcomes.{AreFound, ChecksAtMost, checked, no_check, refused_inputs, refused_platform, refused_advice, reported_findings, IsAdvice, IsAdviceRefusal, no_release, no_version, IsReportOn, features_report, judge_report, advise_report, gate_report, skipped_report, make_report, IsSignedReport, files_of, modules_of}
+use Rattle.api_gate.specs.runs.Outcomes.{AreFound, ChecksAtMost, checked, checked_client, no_check, refused_inputs, refused_platform, refused_advice, refused_client, reported, reported_findings, vetted, IsAdvice, IsAdviceRefusal, no_release, no_version, IsReportOn, features_report, judge_report, advise_report, gate_report, skipped_report, make_report, IsSignedReport, files_of, modules_of}
 use Rattle.api_gate.specs.runs.Runs.{MayWrite, defined, store_failed, no_memory}
 
 -- ---- advice
@@ -105,17 +107,40 @@ module _ (r : Request) (i : Inputs) where
       subst (λ (qs : List Platform). AreLeftOut (modules_of i) i.std_tree i.old_tree i.tree qs ls) p
       (subst (λ (t : Option Tree). AreLeftOut (modules_of i) i.std_tree t i.tree ps ls) o (subst (λ (ms : List (List ℕ)). AreLeftOut ms i.std_tree old i.tree ps ls) b h))
 
-  pub unfound_decides : (barred : List (List ℕ)) (old : Option Tree) (ps : List Platform) (e : PlatformError) (d : Decision) → barred ≡ modules_of i → old ≡ i.old_tree → ps ≡ r.platforms → d ≡ unfound e
+  pub unfound_decides : (barred : List (List ℕ)) (old : Option Tree) (ps : List Platform) (e : PlatformError) (d : Decision) → i.client ≡ None → barred ≡ modules_of i → old ≡ i.old_tree → ps ≡ r.platforms → d ≡ unfound e
       → AnswersFindings barred old i.tree i.std_tree ps (Err e) → IsOfInputs r i d
-  unfound_decides barred old ps e d b o p same h = subst (IsOfInputs r i) (sym same) (by e (answers_as barred old ps (Err e) b o p h))
+  unfound_decides barred old ps e d n b o p same h = subst (IsOfInputs r i) (sym same) (by e (answers_as barred old ps (Err e) b o p h))
     where
       by : (e : PlatformError) → AnswersFindings (modules_of i) i.old_tree i.tree i.std_tree r.platforms (Err e) → IsOfInputs r i (unfound e)
-      by (platform.Refused line) k = of_platform k
+      by (platform.Refused line) k = of_platform n k
       by platform.NoMemory k = no_room
 
-  pub found_decides : (barred : List (List ℕ)) (old : Option Tree) (ps : List Platform) (f : Findings) (d : Decision) → barred ≡ modules_of i → old ≡ i.old_tree → ps ≡ r.platforms
+  pub found_decides : (barred : List (List ℕ)) (old : Option Tree) (ps : List Platform) (f : Findings) (d : Decision) → i.client ≡ None → barred ≡ modules_of i → old ≡ i.old_tree → ps ≡ r.platforms
       → AnswersFindings barred old i.tree i.std_tree ps (Ok f) → AreLeftOut barred i.std_tree old i.tree ps f.left_out → IsOfFindings r i f.features f.verdicts f.left_out d → IsOfInputs r i d
-  found_decides barred old ps f d b o p h l k = of_findings f.features f.verdicts f.left_out (record { findings = answers_as barred old ps (Ok f) b o p h; left_out = left_out_as barred old ps f.left_out b o p l }) k
+  found_decides barred old ps f d n b o p h l k = of_findings f.features f.verdicts f.left_out (record { alone = n; findings = answers_as barred old ps (Ok f) b o p h; left_out = left_out_as barred old ps f.left_out b o p l }) k
+
+  -- ---- of a client
+
+  told_as : (barred : List (List ℕ)) (c : Tree) (ps : List Platform) (answer : Result (List ClientAnswer) PlatformError) → barred ≡ modules_of i → ps ≡ r.platforms
+      → Answers barred i.tree i.std_tree c ps answer → Answers (modules_of i) i.tree i.std_tree c r.platforms answer
+  told_as barred c ps answer b p h =
+      subst (λ (qs : List Platform). Answers (modules_of i) i.tree i.std_tree c qs answer) p (subst (λ (ms : List (List ℕ)). Answers ms i.tree i.std_tree c ps answer) b h)
+
+  pub untold_decides : (barred : List (List ℕ)) (c : Tree) (ps : List Platform) (e : PlatformError) (d : Decision) → i.client ≡ Some c → barred ≡ modules_of i → ps ≡ r.platforms → d ≡ unfound e
+      → Answers barred i.tree i.std_tree c ps (Err e) → IsOfInputs r i d
+  untold_decides barred c ps e d s b p same h = subst (IsOfInputs r i) (sym same) (by e (told_as barred c ps (Err e) b p h))
+    where
+      by : (e : PlatformError) → Answers (modules_of i) i.tree i.std_tree c r.platforms (Err e) → IsOfInputs r i (unfound e)
+      by (platform.Refused line) k = of_client c s k
+      by platform.NoMemory k = no_room
+
+  pub told_decides : (barred : List (List ℕ)) (c : Tree) (ps : List Platform) (items given : List ClientAnswer) (d : Decision) → i.client ≡ Some c → barred ≡ modules_of i → ps ≡ r.platforms → items ≡ given
+      → Answers barred i.tree i.std_tree c ps (Ok given) → IsClientDecision ps items d → IsOfInputs r i d
+  told_decides barred c ps items given d s b p l h k =
+      of_answers c given s (told_as barred c ps (Ok given) b p h) (subst (λ (qs : List Platform). IsClientDecision qs given d) p (subst (λ (xs : List ClientAnswer). IsClientDecision ps xs d) l k))
+
+pub client_decides : (ps : List Platform) (given : List ClientAnswer) (b : Bool) (text : List ℕ) (d : Decision) → b ≡ has_untyped given → text ≡ clients_text ps given → d ≡ report_of b text → IsClientDecision ps given d
+client_decides ps given b text d e f g = inr (g ∙ (λ i. report_of (e i) (f i)))
 
 -- ---- decisions of a store
 
@@ -126,6 +151,10 @@ unread_decides told before now r e d same h = subst (IsOfStore told before now r
     by (input.Refused line) h = of_refusal h
     by input.ReadFault h = of_fault h
     by input.NoMemory h = no_space
+
+report_written : (b : Bool) (text : List ℕ) → outcome_of (report_of b text) ≡ reported b text
+report_written true text = refl
+report_written false text = refl
 
 module _ (words : List (List ℕ)) (store : Change Contents) (r : Request) (is : IsRequest words r) where
   -- what findings decide may be written
@@ -140,7 +169,11 @@ module _ (words : List (List ℕ)) (store : Change Contents) (r : Request) (is :
 
   inputs_write : (i : Inputs) (d : Decision) → AreInputs (files_of store.told_before r.made) r i → IsOfInputs r i d → MayWrite words store (outcome_of d)
   inputs_write i d a (of_findings lists vs ls f h) = findings_write i lists vs ls d a f h
-  inputs_write i d a (of_platform h) = defined (refused_platform r i (record { request = is; inputs = a }) h)
+  inputs_write i d a (of_platform n h) = defined (refused_platform r i (record { request = is; inputs = a }) n h)
+  inputs_write i d a (of_answers c given s t (inl e)) = subst (λ (x : Decision). MayWrite words store (outcome_of x)) (sym e) no_memory
+  inputs_write i d a (of_answers c given s t (inr e)) =
+      subst (MayWrite words store) (sym (ap outcome_of e ∙ report_written (has_untyped given) (clients_text r.platforms given))) (defined (vetted r i c given (record { request = is; inputs = a }) s t))
+  inputs_write i d a (of_client c s h) = defined (refused_client r i c (record { request = is; inputs = a }) s h)
   inputs_write i d a no_room = no_memory
 
   -- and so may what a store decides that tells the files of the request
@@ -165,7 +198,10 @@ module _ (words : List (List ℕ)) (store : Change Contents) (r : Request) (is :
 module _ (words : List (List ℕ)) (told : Option Contents) (r : Request) (is : IsRequest words r) (before now : ℕ) where
   checks_write : ChecksFor (files_of told r.made) r before now → ChecksAtMost words told before now
   checks_write (inl h) = no_check h
-  checks_write (inr h) = checked r h.0 (record { request = is; inputs = h.1 }) h.2
+  checks_write (inr h) = elim h.2 [
+    | inl k ↦ checked r h.0 (record { request = is; inputs = h.1 }) k.0 k.1
+    | inr k ↦ checked_client r h.0 k.0 (record { request = is; inputs = h.1 }) k.1 k.2
+  ]
 
   pub told_checks : r.made ≡ None → ChecksFor told r before now → ChecksAtMost words told before now
   told_checks e h = checks_write (subst (λ (m : Option MadeTrees). ChecksFor (files_of told m) r before now) (sym e) h)
@@ -173,6 +209,6 @@ module _ (words : List (List ℕ)) (told : Option Contents) (r : Request) (is : 
   pub made_checks : (m : MadeTrees) → r.made ≡ Some m → ChecksFor (Some (made_contents m.seed m.size)) r before now → ChecksAtMost words told before now
   made_checks m e h = checks_write (subst (λ (x : Option MadeTrees). ChecksFor (files_of told x) r before now) (sym e) h)
 
-pub inputs_check : (told : Option Contents) (r : Request) (i : Inputs) (before now : ℕ) → AreInputs told r i → (now ≤ before) ⊎ CountsAtMost (modules_of i) i.old_tree i.tree i.std_tree r.platforms before now → ChecksFor told r before now
+pub inputs_check : (told : Option Contents) (r : Request) (i : Inputs) (before now : ℕ) → AreInputs told r i → (now ≤ before) ⊎ ChecksIn r i before now → ChecksFor told r before now
 inputs_check told r i before now a (inl h) = inl h
 inputs_check told r i before now a (inr h) = inr (i, a, h)

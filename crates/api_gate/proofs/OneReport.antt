@@ -113,6 +113,7 @@ module _ (one_next : (r : Release) (c : Class) (a b : Option Release) → IsNext
     ReportIn mode.Gate ls us b x = (lost : Bool) × (lines advice : List ℕ) × IsSignedReport r i ls lost lines × IsAdvice r.version (class_of us) advice
         × (b ≡ lost || list_any has_break us) × (x ≡ lines ++ judge_text r.platforms us os ++ advice)
     ReportIn mode.Skipped ls us b x = (b ≡ false) × (x ≡ skipped_text r.platforms os)
+    ReportIn mode.Vet ls us b x = ⊥
     ReportIn mode.Make ls us b x = (f : List Line) × (first : List ℕ) × AreMerged r ls f × IsMadeText r.made f us first × (b ≡ false) × (x ≡ first ++ class_text (class_of us))
 
     in_mode : (ls : List (List Line)) (us : List Verdict) (b : Bool) (x : List ℕ) → IsReportOn r i ls us os b x → ReportIn r.mode ls us b x
@@ -139,6 +140,7 @@ module _ (one_next : (r : Release) (c : Class) (a b : Option Release) → IsNext
         let judged = judge_by r.platforms vs ws os seen in
         (h.5 ∙ (λ j. lost.0 j || broken j) ∙ sym k.5, h.6 ∙ (λ j. lost.1 j ++ judged j ++ advice j) ∙ sym k.6)
     same_in mode.Skipped a b x y h k = (h.0 ∙ sym k.0, h.1 ∙ sym k.1)
+    same_in mode.Vet a b x y h k = absurd h
     same_in mode.Make a b x y h k =
         let class = class_by vs ws seen in
         let first : h.1 ≡ k.1 = same_made r.made h.0 k.0 h.1 k.1 h.2 k.2 h.3 k.3 in

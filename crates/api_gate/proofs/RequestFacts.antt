@@ -6,17 +6,19 @@ use Rattle.std.specs.List.{slice_split}
 use Rattle.std.proofs.lemmas.List.Splits.{length-slice_split}
 use mathlib.Core.Bool.{true≢false}
 use Rattle.api_findings.specs.Findings.{IsOldTree}
-use Rattle.api_inputs.specs.Inputs.{AreInputs, MayHaveOld}
+use Rattle.api_inputs.specs.Inputs.{AreInputs, MayHaveClient, MayHaveOld}
 use Rattle.api_inputs.specs.Reads.{MayHaveStd, MayLoad, no_tree}
 use Rattle.api_inputs.specs.declared.inputs.Inputs.{Inputs}
 use Rattle.api_words.specs.Options.{needs, permits}
-use Rattle.api_words.specs.Words.{ArePlatforms, IsGiven, IsMade, IsRequest, IsVersion, is_comma}
+use Rattle.api_words.proofs.Searches.{map_has}
+use Rattle.api_words.specs.Words.{ArePlatforms, IsGiven, IsMade, IsRequest, IsVersion, is_comma, option_in}
 use Rattle.api_words.specs.declared.option_name.Mode.{Mode}
 use Rattle.api_words.specs.declared.option_name.Mode.TheVariants as mode
 use Rattle.api_words.specs.declared.option_name.OptionName.{OptionName}
 use Rattle.api_words.specs.declared.option_name.OptionName.TheVariants as option
 use Rattle.api_words.specs.declared.request.AskedVersion.{AskedVersion}
 use Rattle.api_words.specs.declared.request.Request.{Request}
+use Rattle.api_words.specs.declared.settings.Setting.{Setting}
 use Rattle.go_base.specs.Lists.{Has}
 use Rattle.go_load.specs.declared.error.LoadError.{LoadError}
 use Rattle.go_model.specs.declared.files.platform.Platform.{Platform}
@@ -24,7 +26,7 @@ use Rattle.go_model.specs.declared.files.tree.Tree.{Tree}
 use Rattle.go_model.specs.files.Platforms.{name_of}
 use Rattle.go_model.specs.files.Trees.{IsModulePath, IsTree, are_elements, begins_element, is_element}
 use Rattle.go_outside.specs.Stores.{Contents}
-use Rattle.api_gate.specs.inner.Decisions.{IsFew}
+use Rattle.api_gate.specs.inner.Decisions.{IsClientTree, IsFew, IsFinding}
 use Rattle.api_gate.specs.runs.Outcomes.{module_of_old, modules_of}
 
 -- ---- requests
@@ -79,6 +81,15 @@ version_in words r v i e = by i.asked.version.0 i.asked.version.1 i.asked.versio
     by None g h = absurd (let k : ◌≡◌ {A = Option AskedVersion} None (Some v) = sym h ∙ e in cc)
     by (Some value) g h = version_taken r.mode (i.asked.of_mode.own (record { name = option.Version; value = value }) g)
 
+-- a client is given where the mode asks for it
+pub client_given : (words : List (List ℕ)) (r : Request) → IsRequest words r → IsFinding r.mode r.client
+client_given words r i e m =
+    let needed : Has (needs r.mode) option.Client = subst (λ (x : Mode). Has (needs x) option.Client) (sym m) (inr (inl refl)) in
+    let there = map_has option_in i.settings option.Client (i.asked.of_mode.given option.Client needed) in
+    let none : IsGiven i.settings option.Client None = subst (IsGiven i.settings option.Client) e i.asked.client in
+    let same : there.0 ≡ record { name = option.Client; value = there.0.value } = (λ n. record { name = there.2 n; value = there.0.value }) in
+    none there.0.value (subst (Has i.settings) same there.1)
+
 -- ---- inputs
 
 -- the trees of inputs keep what they have to
@@ -106,3 +117,15 @@ old_in told (Some root) path old h = subst (IsOldIn path) (sym h.2) (loaded_old 
 
 pub old_tree : (told : Option Contents) (root : Option (List ℕ)) (i : Inputs) → MayHaveOld told root i.old_tree → IsOldTree (modules_of i) i.old_tree
 old_tree told root i h = old_in told root i.tree.«module» i.old_tree h
+
+-- a client that is read keeps the facts of trees, and there is none only where none is given
+pub client_tree : (told : Option Contents) (root : Option (List ℕ)) (c : Option Tree) → MayHaveClient told root c → IsClientTree c
+client_tree told None c e = subst IsClientTree (sym e) tt
+client_tree told (Some root) c h = subst IsClientTree (sym h.2) h.1.tree
+
+no_client : (told : Option Contents) (root : Option (List ℕ)) (c : Option Tree) → MayHaveClient told root c → c ≡ None → root ≡ None
+no_client told None c e n = refl
+no_client told (Some root) c h n = absurd (let k : ◌≡◌ {A = Option Tree} (Some h.0) None = sym h.2 ∙ n in cc)
+
+pub finding_kept : (told : Option Contents) (m : Mode) (root : Option (List ℕ)) (c : Option Tree) → MayHaveClient told root c → IsFinding m root → IsFinding m c
+finding_kept told m root c h f n = f (no_client told root c h n)

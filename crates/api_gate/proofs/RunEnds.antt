@@ -1,5 +1,6 @@
 -- What follows from how a run ends.
 use Rattle.std.proofs.Common.{◌≡◌, ◌<◌, ℕ, zero, suc, Bool, true, false, List, [], length, take, Option, Some, None, refl, sym, ◌∙◌, subst, ◌⊎◌, inl, inr}
+use Rattle.api_reports.specs.Clients.{clients_text, has_untyped}
 use Rattle.api_words.specs.Words.{AreBad}
 use Rattle.go_outside.specs.Faults.{Told}
 use Rattle.go_outside.specs.Sinks.{Takes}
@@ -7,41 +8,62 @@ use Rattle.go_outside.specs.Stores.{Contents}
 use Rattle.api_gate.specs.declared.status.Status.{Status}
 use Rattle.api_gate.specs.declared.status.Status.TheVariants as status
 use Rattle.api_gate.specs.runs.Effects.{AnyFailed, Change, Effects, Failed, Took, TookSome}
-use Rattle.api_gate.specs.runs.Outcomes.{EndsWith, bad_words, refused_inputs, refused_platform, refused_advice, reported_findings, Outcome}
+use Rattle.api_gate.specs.runs.Outcomes.{EndsWith, bad_words, refused_inputs, refused_platform, refused_advice, refused_client, reported, reported_findings, vetted, Outcome}
 use Rattle.api_gate.specs.runs.Runs.{Delivers, whole, output_failed, line_failed, Ends, IsComplete, MayWrite, defined, store_failed, no_memory, Writes}
+
+-- a report has neither the status of bad words nor that of a fault
+no_words : (b : Bool) (text : List ℕ) → (reported b text).status ≡ status.Words → ⊥
+no_words true text s = cc
+no_words false text s = cc
+
+no_read_fault : (b : Bool) (text : List ℕ) → (reported b text).status ≡ status.ReadFault → ⊥
+no_read_fault true text s = cc
+no_read_fault false text s = cc
+
+no_write_fault : (b : Bool) (text : List ℕ) → (reported b text).status ≡ status.WriteFault → ⊥
+no_write_fault true text s = cc
+no_write_fault false text s = cc
 
 -- the line for bad words comes for them alone, and the statuses of faults never
 words_of : (words : List (List ℕ)) (told : Option Contents) (o : Outcome) → EndsWith words told o → o.status ≡ status.Words → AreBad words
 words_of words told o (bad_words n) s = n
 words_of words told o (refused_inputs r i l) s = absurd (cc)
-words_of words told o (refused_platform r i a l) s = absurd (cc)
+words_of words told o (refused_platform r i a e l) s = absurd (cc)
 words_of words told o (refused_advice r i v ls vs os a f e l) s = absurd (cc)
 words_of words told o (reported_findings true r i ls vs os a f h) s = absurd (cc)
 words_of words told o (reported_findings false r i ls vs os a f h) s = absurd (cc)
+words_of words told o (refused_client r i c a e l) s = absurd (cc)
+words_of words told o (vetted r i c given a e t) s = absurd (no_words (has_untyped given) (clients_text r.platforms given) s)
 
 no_read : (words : List (List ℕ)) (told : Option Contents) (o : Outcome) → EndsWith words told o → o.status ≡ status.ReadFault → ⊥
 no_read words told o (bad_words n) s = cc
 no_read words told o (refused_inputs r i l) s = cc
-no_read words told o (refused_platform r i a l) s = cc
+no_read words told o (refused_platform r i a e l) s = cc
 no_read words told o (refused_advice r i v ls vs os a f e l) s = cc
 no_read words told o (reported_findings true r i ls vs os a f h) s = cc
 no_read words told o (reported_findings false r i ls vs os a f h) s = cc
+no_read words told o (refused_client r i c a e l) s = cc
+no_read words told o (vetted r i c given a e t) s = no_read_fault (has_untyped given) (clients_text r.platforms given) s
 
 no_write : (words : List (List ℕ)) (told : Option Contents) (o : Outcome) → EndsWith words told o → o.status ≡ status.WriteFault → ⊥
 no_write words told o (bad_words n) s = cc
 no_write words told o (refused_inputs r i l) s = cc
-no_write words told o (refused_platform r i a l) s = cc
+no_write words told o (refused_platform r i a e l) s = cc
 no_write words told o (refused_advice r i v ls vs os a f e l) s = cc
 no_write words told o (reported_findings true r i ls vs os a f h) s = cc
 no_write words told o (reported_findings false r i ls vs os a f h) s = cc
+no_write words told o (refused_client r i c a e l) s = cc
+no_write words told o (vetted r i c given a e t) s = no_write_fault (has_untyped given) (clients_text r.platforms given) s
 
 -- bad words end with their line
 bad_end : (words : List (List ℕ)) (told : Option Contents) (o : Outcome) → AreBad words → EndsWith words told o → (o.status ≡ status.Words) × (o.output ≡ [])
 bad_end words told o bad (bad_words n) = (refl, refl)
 bad_end words told o bad (refused_inputs r i l) = absurd (bad r i)
-bad_end words told o bad (refused_platform r i a l) = absurd (bad r a.request)
+bad_end words told o bad (refused_platform r i a e l) = absurd (bad r a.request)
 bad_end words told o bad (refused_advice r i v ls vs os a f e l) = absurd (bad r a.request)
 bad_end words told o bad (reported_findings b r i ls vs os a f h) = absurd (bad r a.request)
+bad_end words told o bad (refused_client r i c a e l) = absurd (bad r a.request)
+bad_end words told o bad (vetted r i c given a e t) = absurd (bad r a.request)
 
 module _ (words : List (List ℕ)) (store : Change Contents) where
   written_words : (o : Outcome) → MayWrite words store o → o.status ≡ status.Words → AreBad words

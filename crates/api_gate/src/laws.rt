@@ -5,6 +5,7 @@ ghost use Rattle.api_gate.specs.runs.Clients.{KeepsClients};
 ghost use Rattle.api_gate.specs.runs.Outcomes.{EndsWith, Outcome};
 
 use api_advice::laws::one_next;
+use api_clients::laws::one_vetting;
 use api_findings::laws::one_finding;
 use api_inputs::laws::one_inputs;
 use api_preservation::laws::preservation;
@@ -17,6 +18,7 @@ pub fn one_outcome()
     one_request();
     one_inputs();
     one_finding();
+    one_vetting();
     one_next();
 }
 

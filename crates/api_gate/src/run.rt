@@ -1,6 +1,6 @@
 //! The top call.
 ghost use Rattle.std.specs.Prelude.{◌≡◌, ◌⊎◌, ◌<◌, [], List, ℕ, length, map, string_bytes};
-ghost use Rattle.api_gate.specs.inner.Decisions.{IsFew, outcome_of};
+ghost use Rattle.api_gate.specs.inner.Decisions.{IsFew, IsFinding, outcome_of};
 ghost use Rattle.api_gate.specs.runs.Clients.{KeepsClients};
 ghost use Rattle.api_gate.specs.runs.Effects.{Failed, NeverFell, Took, change, effects};
 ghost use Rattle.api_gate.specs.runs.Outcomes.{ChecksAtMost};
@@ -33,6 +33,7 @@ fn on_request<R: Threads + Sync, F: Files, G: Gate + Sync, L: Copy + Send>(
 ) -> Decision
     requires platforms { 0 < length request.now.platforms }
     requires few { IsFew request.now.made }
+    requires client { IsFinding request.now.mode request.now.client }
     ensures written { (words : List (List ℕ)) → IsRequest words request.now
         → MayWrite words (change F.told F.faults files.old files.new) (outcome_of result) }
     ensures same { F.told files.new ≡ F.told files.old }
@@ -72,17 +73,18 @@ fn decide<R: Threads + Sync, F: Files, G: Gate + Sync, L: Copy + Send>(
 /// The report of `features` is the feature lines of the new tree; that of `frozen` the lines that it lost and gained
 /// against frozen lines; that of `judge` what is broken on each platform where the new tree takes the place of the old one, how much was
 /// left out of both, and the class of the release; that of `advise` how much was left out, the class and the version that follows the last
-/// one; that of `gate` what `frozen` and `judge` tell, and that version; that of `skipped` what was left out of the new tree. In mode `make` both trees are the generator's, and nothing is asked of the store: the
+/// one; that of `gate` what `frozen` and `judge` tell, and that version; that of `skipped` what was left out of the new tree; that of `vet` whether
+/// a client is typed over the new tree, and in the profile. In mode `make` both trees are the generator's, and nothing is asked of the store: the
 /// report is how many packages and feature lines they have and how much is broken, and the class.
 ///
-/// The status is `Words` exactly where the words aren't good. Else it is `Refused` where the trees, the files of frozen lines
-/// or, platform by platform and the old tree before the new one, the packages are refused, or the last version isn't a
-/// release or none can follow it. Else it is `Broken` where `frozen` or `gate` tells a lost line, or `judge` or `gate` what is
-/// broken, and else `Pass`. In place of these may come `ReadFault`, only where the store failed and never in mode `make`,
+/// The status is `Words` exactly where the words aren't good. Else it is `Refused` where the trees, the folder of a client, the files of frozen lines
+/// or, platform by platform and the old tree before the new one, the packages or a client's files are refused, or the last version isn't a
+/// release or none can follow it. Else it is `Broken` where `frozen` or `gate` tells a lost line, `judge` or `gate` what is
+/// broken, or `vet` a client that is untyped, and else `Pass`. In place of these may come `ReadFault`, only where the store failed and never in mode `make`,
 /// and `NoMemory`, at any time; and in place of all `WriteFault`, only where a sink failed. The hook hears of each check of a
 /// package before it begins, as of worker 0 whichever thread checks it, and the counter rises by one for each. As many workers as the words give look at
-/// platforms at once and, where there are more of them than platforms, at both trees; each checks the packages of its tree one after another. None of these
-/// clauses speaks of their number: a run ends with the same report by any.
+/// platforms at once and, where there are more of them than platforms, at both trees; each checks the packages of its tree one after another. A client is
+/// looked at by one. None of these clauses speaks of their number: a run ends with the same report by any.
 pub fn run<R: Threads + Sync, F: Files, S: Sink, E: Sink, G: Gate + Sync, L: Copy + Send>(
     rt: &R,
     alloc: Global,
@@ -114,7 +116,7 @@ pub fn run<R: Threads + Sync, F: Files, S: Sink, E: Sink, G: Gate + Sync, L: Cop
         ⊎ Failed (change E.told E.faults err.old err.new) }
 
     // What the store tells stays, no count of faults falls, and at most the packages of both trees on all platforms together are
-    // checked.
+    // checked, or those of the module and those that it and a client reach.
     ensures same { F.told files.new ≡ F.told files.old }
     ensures store_count { NeverFell (change F.told F.faults files.old files.new) }
     ensures output_count { NeverFell (change S.told S.faults out.old out.new) }

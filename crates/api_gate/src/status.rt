@@ -5,9 +5,9 @@ ghost use Rattle.api_gate.specs.Statuses.{code_of};
 /// How a run ends. Its number is the exit status of the program.
 #[derive(Clone, Copy, Debug, PartialEq, Eq)]
 pub enum Status {
-    /// The report was written, and it holds no lost line and no break.
+    /// The report was written, and it holds no lost line, no break and no untyped client.
     Pass,
-    /// The report was written, and it holds a lost line or a break.
+    /// The report was written, and it holds one of these.
     Broken,
     /// The words of the command line aren't good.
     Words,

@@ -3,11 +3,11 @@ use Rattle.std.proofs.Common.{◌≡◌, ℕ, Option, List, Ok, Err, sym, subst}
 use Rattle.go_model.specs.declared.files.tree.Tree.{Tree}
 use Rattle.go_outside.specs.Stores.{Contents}
 use Rattle.api_inputs.specs.FrozenInputs.{AreLines}
-use Rattle.api_inputs.specs.Inputs.{AnswersInputs, IsInputRefusal, old_refused, tree_refused, std_refused, api_refused, except_refused, MayHaveOld, optional}
+use Rattle.api_inputs.specs.Inputs.{AnswersInputs, IsInputRefusal, old_refused, tree_refused, std_refused, client_refused, api_refused, except_refused, MayHaveClient, MayHaveOld, optional}
 use Rattle.api_inputs.specs.Reads.{MayHaveStd, MayLoad, NeverFell}
 use Rattle.api_inputs.specs.declared.inputs.InputError.{InputError}
 use Rattle.api_inputs.specs.declared.inputs.InputError.TheVariants as error
-use Rattle.api_inputs.specs.inner.Answers.{AnswersFiles, AnswersFrozen, AnswersNew, AnswersOld, AnswersOthers, AnswersTree, IsFrozenLine, of_api, of_except, IsNewLine, of_tree, of_others, IsOtherLine, of_std, of_frozen}
+use Rattle.api_inputs.specs.inner.Answers.{AnswersClient, AnswersClientInputs, AnswersFiles, AnswersFrozen, AnswersNew, AnswersOld, AnswersOthers, AnswersTree, IsClientLine, of_client, of_frozen, IsFrozenLine, of_api, of_except, IsNewLine, of_tree, of_others, IsOtherLine, of_std, of_client_inputs}
 use Rattle.api_inputs.proofs.FrozenLists.{rose_later}
 use Rattle.api_texts.specs.declared.lines.Side.TheVariants as side
 use Rattle.api_words.specs.declared.request.Request.{Request}
@@ -36,6 +36,24 @@ module _ (told : Option Contents) (r : Request) where
       by error.ReadFault a = rose_later before mid now n a
       by error.NoMemory a = tt
 
+  -- ---- what is read besides the trees
+
+  pub client_error : (root : Option (List ℕ)) (before now : ℕ) (x : InputError) → root ≡ r.client → AnswersClient told root before now (Err x) → AnswersClientInputs told r before now (Err x)
+  client_error root before now x e a = by x (subst (λ (p : Option (List ℕ)). AnswersClient told p before now (Err x)) e a)
+    where
+      by : (x : InputError) → AnswersClient told r.client before now (Err x) → AnswersClientInputs told r before now (Err x)
+      by (error.Refused line) a = subst (IsClientLine told r) (sym a.3) (of_client a.0 a.1 a.2)
+      by error.ReadFault a = a
+      by error.NoMemory a = tt
+
+  pub frozen_error : (then : Option Contents) (c : Option Tree) (before mid now : ℕ) (x : InputError) → then ≡ told → NeverFell before mid → MayHaveClient told r.client c → AnswersFrozen then r mid now (Err x) → AnswersClientInputs told r before now (Err x)
+  frozen_error then c before mid now x same n h a = by x (subst (λ (t : Option Contents). AnswersFrozen t r mid now (Err x)) same a)
+    where
+      by : (x : InputError) → AnswersFrozen told r mid now (Err x) → AnswersClientInputs told r before now (Err x)
+      by (error.Refused line) a = of_frozen c h a
+      by error.ReadFault a = rose_later before mid now n a
+      by error.NoMemory a = tt
+
   -- ---- what is read besides the module's trees
 
   pub std_error : (root : Option (List ℕ)) (before now : ℕ) (x : InputError) → root ≡ r.std → AnswersTree (MayHaveStd told root) side.Std before now (Err x) → AnswersOthers told r before now (Err x)
@@ -46,11 +64,11 @@ module _ (told : Option Contents) (r : Request) where
       by error.ReadFault a = a
       by error.NoMemory a = tt
 
-  pub frozen_error : (then : Option Contents) (s : Tree) (before mid now : ℕ) (x : InputError) → then ≡ told → NeverFell before mid → MayHaveStd told r.std (Ok s) → AnswersFrozen then r mid now (Err x) → AnswersOthers told r before now (Err x)
-  frozen_error then s before mid now x same n h a = by x (subst (λ (t : Option Contents). AnswersFrozen t r mid now (Err x)) same a)
+  pub client_inputs_error : (then : Option Contents) (s : Tree) (before mid now : ℕ) (x : InputError) → then ≡ told → NeverFell before mid → MayHaveStd told r.std (Ok s) → AnswersClientInputs then r mid now (Err x) → AnswersOthers told r before now (Err x)
+  client_inputs_error then s before mid now x same n h a = by x (subst (λ (t : Option Contents). AnswersClientInputs t r mid now (Err x)) same a)
     where
-      by : (x : InputError) → AnswersFrozen told r mid now (Err x) → AnswersOthers told r before now (Err x)
-      by (error.Refused line) a = of_frozen s h a
+      by : (x : InputError) → AnswersClientInputs told r mid now (Err x) → AnswersOthers told r before now (Err x)
+      by (error.Refused line) a = of_client_inputs s h a
       by error.ReadFault a = rose_later before mid now n a
       by error.NoMemory a = tt
 
@@ -83,13 +101,17 @@ module _ (told : Option Contents) (r : Request) where
       by error.NoMemory a = tt
 
   module _ (o : Option Tree) (old : MayHaveOld told r.old o) where
-    frozen_line_of : (t s : Tree) (line : List ℕ) → MayLoad told r.new (Ok t) → MayHaveStd told r.std (Ok s) → IsFrozenLine told r line → IsInputRefusal told r line
-    frozen_line_of t s line h k (of_api path f d) = api_refused o t s path f old h k d
-    frozen_line_of t s line h k (of_except lines path f l d) = except_refused o t s lines path f old h k l d
+    frozen_line_of : (t s : Tree) (c : Option Tree) (line : List ℕ) → MayLoad told r.new (Ok t) → MayHaveStd told r.std (Ok s) → MayHaveClient told r.client c → IsFrozenLine told r line → IsInputRefusal told r line
+    frozen_line_of t s c line h k m (of_api path f d) = api_refused o t s c path f old h k m d
+    frozen_line_of t s c line h k m (of_except lines path f l d) = except_refused o t s c lines path f old h k m l d
+
+    client_line_of : (t s : Tree) (line : List ℕ) → MayLoad told r.new (Ok t) → MayHaveStd told r.std (Ok s) → IsClientLine told r line → IsInputRefusal told r line
+    client_line_of t s line h k (of_client e m n) = client_refused o t s e old h k m n
+    client_line_of t s line h k (of_frozen c m d) = frozen_line_of t s c line h k m d
 
     other_line_of : (t : Tree) (line : List ℕ) → MayLoad told r.new (Ok t) → IsOtherLine told r line → IsInputRefusal told r line
     other_line_of t line h (of_std e k n) = std_refused o t e old h k n
-    other_line_of t line h (of_frozen s k d) = frozen_line_of t s line h k d
+    other_line_of t line h (of_client_inputs s k d) = client_line_of t s line h k d
 
     new_line_of : (line : List ℕ) → IsNewLine told r line → IsInputRefusal told r line
     new_line_of line (of_tree e h n) = tree_refused o e old h n
@@ -105,6 +127,9 @@ module _ (told : Option Contents) (r : Request) where
 
   pub std_as : (root : Option (List ℕ)) (s : Tree) → root ≡ r.std → MayHaveStd told root (Ok s) → MayHaveStd told r.std (Ok s)
   std_as root s e h = subst (λ (p : Option (List ℕ)). MayHaveStd told p (Ok s)) e h
+
+  pub client_as : (root : Option (List ℕ)) (c : Option Tree) → root ≡ r.client → MayHaveClient told root c → MayHaveClient told r.client c
+  client_as root c e h = subst (λ (p : Option (List ℕ)). MayHaveClient told p c) e h
 
   pub tree_as : (root : List ℕ) (t : Tree) → root ≡ r.new → MayLoad told root (Ok t) → MayLoad told r.new (Ok t)
   tree_as root t e h = subst (λ (p : List ℕ). MayLoad told p (Ok t)) e h

@@ -23,6 +23,11 @@ pub record MayLoadStd (told : Option Contents) (root : List ℕ) (answer : Resul
   pub loaded : Told told (λ m. LoadsFiles m kind.Std root answer)
   pub tree : IfOk answer IsTree
 
+-- the load of a client's folder may answer this
+pub record MayLoadClient (told : Option Contents) (root : List ℕ) (answer : Result Tree LoadError) : Type 0 where
+  pub loaded : Told told (λ m. LoadsFiles m kind.Client root answer)
+  pub tree : IfOk answer IsTree
+
 -- a tree without files
 abbrev pub no_tree : Tree
 no_tree = record { «module» = []; files = [] }

@@ -1,12 +1,12 @@
 //! What a run reads for a request.
 ghost use Rattle.std.specs.Prelude.{◌≡◌, ◌≤◌};
 ghost use Rattle.api_inputs.specs.Reads.{NeverFell};
-ghost use Rattle.api_inputs.specs.inner.Answers.{AnswersFiles, AnswersFrozen, AnswersNew, AnswersOthers, inputs_of};
+ghost use Rattle.api_inputs.specs.inner.Answers.{AnswersClientInputs, AnswersFiles, AnswersFrozen, AnswersNew, AnswersOthers, inputs_of};
 ghost use Rattle.api_inputs.specs.Inputs.{AnswersInputs, optional};
 ghost use Rattle.std.specs.Option.{option_copied};
 
 use crate::frozen::{read_files, read_one};
-use crate::trees::{module_tree, old_tree, std_tree};
+use crate::trees::{client_tree, module_tree, old_tree, std_tree};
 use api_texts::lines::Side;
 use api_words::request::Request;
 use go_base::list::List;
@@ -24,6 +24,8 @@ pub struct Inputs {
     pub tree: Tree,
     /// The tree of the standard library, without files where no folder is given.
     pub std_tree: Tree,
+    /// The files in the folder of a client, where one is given.
+    pub client: Option<Tree>,
     /// The lines of all files of frozen lines.
     pub required: List<Text>,
     /// The lines of the file of exceptions.
@@ -71,8 +73,14 @@ impl Drop for FrozenInputs {
 }
 
 impl FrozenInputs {
-    fn with_trees(self, old_tree: Option<Tree>, tree: Tree, std_tree: Tree) -> Inputs
-        ensures { result ≡ record { old_tree = old_tree; tree = tree; std_tree = std_tree; required = self.required; exceptions = self.exceptions } }
+    fn with_trees(
+        self,
+        old_tree: Option<Tree>,
+        tree: Tree,
+        std_tree: Tree,
+        client: Option<Tree>,
+    ) -> Inputs
+        ensures { result ≡ record { old_tree = old_tree; tree = tree; std_tree = std_tree; client = client; required = self.required; exceptions = self.exceptions } }
     {
         let FrozenInputs {
             required,
@@ -82,6 +90,7 @@ impl FrozenInputs {
             old_tree,
             tree,
             std_tree,
+            client,
             required,
             exceptions,
         }
@@ -109,27 +118,69 @@ fn read_frozen<F: Files>(
     }
 }
 
+// What is read besides the trees.
+struct ClientInputs {
+    client: Option<Tree>,
+    frozen: FrozenInputs,
+}
+
+impl Drop for ClientInputs {
+    fn drop(self) {
+        let ClientInputs {
+            client: _,
+            frozen: _,
+        } = self;
+    }
+}
+
+impl ClientInputs {
+    fn with_trees(self, old_tree: Option<Tree>, tree: Tree, std_tree: Tree) -> Inputs
+        ensures { result ≡ record { old_tree = old_tree; tree = tree; std_tree = std_tree; client = self.client; required = self.frozen.required; exceptions = self.frozen.exceptions } }
+    {
+        let ClientInputs { client, frozen } = self;
+        frozen.with_trees(old_tree, tree, std_tree, client)
+    }
+}
+
+fn read_client_inputs<F: Files>(
+    alloc: Global,
+    files: &mut F,
+    request: &Request,
+) -> Result<ClientInputs, InputError>
+    ensures same { F.told files.new ≡ F.told files.old }
+    ensures answer { AnswersClientInputs (F.told files.old) request.now (F.faults files.old) (F.faults files.new) result }
+    ensures count { NeverFell (F.faults files.old) (F.faults files.new) }
+{
+    match client_tree(alloc, files, request.client.as_ref()) {
+        Err(error) => Err(error),
+        Ok(client) => match read_frozen(alloc, files, request) {
+            Err(error) => Err(error),
+            Ok(frozen) => Ok(ClientInputs { client, frozen }),
+        },
+    }
+}
+
 // What is read besides the module's trees.
 struct Others {
     std_tree: Tree,
-    frozen: FrozenInputs,
+    more: ClientInputs,
 }
 
 impl Drop for Others {
     fn drop(self) {
         let Others {
             std_tree: _,
-            frozen: _,
+            more: _,
         } = self;
     }
 }
 
 impl Others {
     fn with_trees(self, old_tree: Option<Tree>, tree: Tree) -> Inputs
-        ensures { result ≡ record { old_tree = old_tree; tree = tree; std_tree = self.std_tree; required = self.frozen.required; exceptions = self.frozen.exceptions } }
+        ensures { result ≡ record { old_tree = old_tree; tree = tree; std_tree = self.std_tree; client = self.more.client; required = self.more.frozen.required; exceptions = self.more.frozen.exceptions } }
     {
-        let Others { std_tree, frozen } = self;
-        frozen.with_trees(old_tree, tree, std_tree)
+        let Others { std_tree, more } = self;
+        more.with_trees(old_tree, tree, std_tree)
     }
 }
 
@@ -144,9 +195,9 @@ fn read_others<F: Files>(
 {
     match std_tree(alloc, files, request.std.as_ref()) {
         Err(error) => Err(error),
-        Ok(std_tree) => match read_frozen(alloc, files, request) {
+        Ok(std_tree) => match read_client_inputs(alloc, files, request) {
             Err(error) => Err(error),
-            Ok(frozen) => Ok(Others { std_tree, frozen }),
+            Ok(more) => Ok(Others { std_tree, more }),
         },
     }
 }
@@ -191,7 +242,7 @@ fn read_new<F: Files>(
 }
 
 /// What a run reads for a request: the old tree of the module where a folder is given for it, its new one and that of the
-/// standard library, and then the files of frozen lines in the order given and the file of exceptions. Else the fault line of the
+/// standard library, the folder of a client where one is given, and then the files of frozen lines in the order given and the file of exceptions. Else the fault line of the
 /// first of them that is refused: a tree that isn't loaded, or a file that isn't there, is larger than 16,777,216 bytes, isn't
 /// UTF-8 or has a line that is neither skipped nor a feature line. In place of these may come `ReadFault`, only where the store
 /// failed, and `NoMemory`, at any time.

@@ -1,7 +1,7 @@
-//! Loading the trees of a run.
+//! Loading the trees of a run, and a client.
 ghost use Rattle.std.specs.Prelude.{◌≡◌, ◌≤◌};
-ghost use Rattle.api_inputs.specs.Reads.{MayHaveStd, MayLoad, MayLoadStd, NeverFell};
-ghost use Rattle.api_inputs.specs.inner.Answers.{AnswersOld, AnswersTree, IsToldAs};
+ghost use Rattle.api_inputs.specs.Reads.{MayHaveStd, MayLoad, MayLoadClient, MayLoadStd, NeverFell};
+ghost use Rattle.api_inputs.specs.inner.Answers.{AnswersClient, AnswersOld, AnswersTree, IsToldAs};
 ghost use Rattle.api_texts.specs.declared.lines.Side.TheVariants as side;
 ghost use Rattle.std.specs.Option.{option_copied};
 
@@ -11,7 +11,7 @@ use go_base::list::List;
 use go_base::memory::NoMemory;
 use go_base::text::Text;
 use go_load::error::LoadError;
-use go_load::load::{load_module, load_std};
+use go_load::load::{load_client, load_module, load_std};
 use go_model::files::tree::Tree;
 use go_outside::files::Files;
 use std::alloc::Global;
@@ -92,5 +92,35 @@ pub(crate) fn std_tree<F: Files>(
             module: Text::from_vec(Vec::new(alloc)),
             files: List::new(alloc),
         }),
+    }
+}
+
+fn loaded_client<F: Files>(alloc: Global, files: &mut F, root: &[u8]) -> Result<Tree, InputError>
+    ensures same { F.told files.new ≡ F.told files.old }
+    ensures answer { AnswersTree (MayLoadClient (F.told files.old) root.now) side.Client (F.faults files.old) (F.faults files.new) result }
+    ensures count { NeverFell (F.faults files.old) (F.faults files.new) }
+{
+    match load_client(alloc, files, root) {
+        Ok(tree) => Ok(tree),
+        Err(error) => Err(told_as(alloc, Side::Client, &error)),
+    }
+}
+
+/// The folder of a client where one is given, or the fault line of its refusal.
+pub(crate) fn client_tree<F: Files>(
+    alloc: Global,
+    files: &mut F,
+    root: Option<&Text>,
+) -> Result<Option<Tree>, InputError>
+    ensures same { F.told files.new ≡ F.told files.old }
+    ensures answer { AnswersClient (F.told files.old) (option_copied root.entry) (F.faults files.old) (F.faults files.new) result }
+    ensures count { NeverFell (F.faults files.old) (F.faults files.new) }
+{
+    match root {
+        None => Ok(None),
+        Some(root) => match loaded_client(alloc, files, root.bytes()) {
+            Err(refusal) => Err(refusal),
+            Ok(tree) => Ok(Some(tree)),
+        },
     }
 }

@@ -6,8 +6,8 @@ use Rattle.api_frozen.specs.FrozenFiles.{HasCause, IsFrozenFile}
 use Rattle.api_frozen.specs.declared.error.FrozenError.{FrozenError}
 use Rattle.api_frozen.specs.declared.error.FrozenError.TheVariants as frozen
 use Rattle.api_inputs.specs.FrozenInputs.{AreLines, GivesLines, HasFault, IsFirstFault, fault_here, fault_later, lines_more, lines_none}
-use Rattle.api_inputs.specs.Inputs.{AreInputs, IsInputRefusal, MayHaveOld, MayRefuseOld, api_refused, except_refused, old_refused, optional, std_refused, tree_refused}
-use Rattle.api_inputs.specs.Reads.{MayHaveStd, MayLoad, MayLoadStd, MayRead, most_frozen, no_tree}
+use Rattle.api_inputs.specs.Inputs.{AreInputs, IsInputRefusal, MayHaveClient, MayHaveOld, MayRefuseClient, MayRefuseOld, api_refused, client_refused, except_refused, old_refused, optional, std_refused, tree_refused}
+use Rattle.api_inputs.specs.Reads.{MayHaveStd, MayLoad, MayLoadClient, MayLoadStd, MayRead, most_frozen, no_tree}
 use Rattle.api_inputs.specs.declared.inputs.Inputs.{Inputs}
 use Rattle.api_line_outcomes.proofs.FrozenFiles.{lines_read}
 use Rattle.api_texts.specs.FaultLines.{frozen_line, load_line}
@@ -58,6 +58,17 @@ module _ (m : Contents) where
   old_loaded None = sure (inl (None, refl))
   old_loaded (Some root) = so (module_loaded root) (λ k. elim k [ inl t ↦ inl (Some t.0, (t.0, t.1, refl)) | inr e ↦ inr (e.0, e.1, e.2) ])
 
+  of_folder : (root : List ℕ) (r : Result Tree LoadError) → LoadsFiles m kind.Client root r → (IsFree r → ⊥) → IfOk r IsTree → Ends (MayLoadClient (Some m) root)
+  of_folder root (Ok t) l free is = inl (t, record { loaded = l; tree = is })
+  of_folder root (Err e) l free is = inr (e, record { loaded = l; tree = tt }, free)
+
+  abbrev ClientEnds : Option (List ℕ) → Type 0
+  ClientEnds o = ((t : Option Tree) × MayHaveClient (Some m) o t) ⊎ ((e : LoadError) × MayRefuseClient (Some m) o e × (IsFree (Err e) → ⊥))
+
+  client_loaded : (o : Option (List ℕ)) → NotNone (ClientEnds o)
+  client_loaded None = sure (inl (None, refl))
+  client_loaded (Some root) = so (files_end m kind.Client root) (λ k. elim (of_folder root k.0 k.1.0 k.1.1 k.1.2) [ inl t ↦ inl (Some t.0, (t.0, t.1, refl)) | inr e ↦ inr (e.0, e.1, e.2) ])
+
   -- ---- files of frozen lines
 
   abbrev FileEnds : List ℕ → Type 0
@@ -101,14 +112,17 @@ module _ (m : Contents) where
       | inr e ↦ sure (inr (load_line side.New e.0, tree_refused old.0 e.0 old.1 e.1 e.2))
       | inl tree ↦ bind (std_loaded r.std) (λ s. elim s [
         | inr e ↦ sure (inr (load_line side.Std e.0, std_refused old.0 tree.0 e.0 old.1 tree.1 e.1 e.2))
-        | inl std ↦ bind (lines_end r.api) (λ a. elim a [
-          | inr f ↦ sure (inr (frozen_line f.0 f.1, api_refused old.0 tree.0 std.0 f.0 f.1 old.1 tree.1 std.1 f.2))
-          | inl api ↦ so (lines_end (optional r.except)) (λ x. elim x [
-            | inr f ↦ inr (frozen_line f.0 f.1, except_refused old.0 tree.0 std.0 api.0 f.0 f.1 old.1 tree.1 std.1 api.1 f.2)
-            | inl except ↦ inl (
-              record { old_tree = old.0; tree = tree.0; std_tree = std.0; required = api.0; exceptions = except.0 },
-              record { old_tree = old.1; tree = tree.1; std_tree = std.1; required = api.1; exceptions = except.1 },
-            )
+        | inl std ↦ bind (client_loaded r.client) (λ c. elim c [
+          | inr e ↦ sure (inr (load_line side.Client e.0, client_refused old.0 tree.0 std.0 e.0 old.1 tree.1 std.1 e.1 e.2))
+          | inl client ↦ bind (lines_end r.api) (λ a. elim a [
+            | inr f ↦ sure (inr (frozen_line f.0 f.1, api_refused old.0 tree.0 std.0 client.0 f.0 f.1 old.1 tree.1 std.1 client.1 f.2))
+            | inl api ↦ so (lines_end (optional r.except)) (λ x. elim x [
+              | inr f ↦ inr (frozen_line f.0 f.1, except_refused old.0 tree.0 std.0 client.0 api.0 f.0 f.1 old.1 tree.1 std.1 client.1 api.1 f.2)
+              | inl except ↦ inl (
+                record { old_tree = old.0; tree = tree.0; std_tree = std.0; client = client.0; required = api.0; exceptions = except.0 },
+                record { old_tree = old.1; tree = tree.1; std_tree = std.1; client = client.1; required = api.1; exceptions = except.1 },
+              )
+            ])
           ])
         ])
       ])

@@ -1,3 +1,4 @@
+pub mod ClientAnswers
 pub mod InputOutcomes
 pub mod WorldsOn
 pub mod FindingOutcomes

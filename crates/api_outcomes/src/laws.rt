@@ -15,8 +15,11 @@ ghost use Rattle.go_model.specs.worlds.Worlds.{Packages};
 ghost use Rattle.go_outside.specs.Stores.{Contents};
 
 use api_break_outcomes::laws::verdict_exists;
+use go_client_outcomes::laws::{client_units_or_refusal, vetted_exists};
+use go_client_unit_laws::laws::client_unit_paths;
 use go_reading::laws::unit_paths;
 use go_unit_outcomes::laws::units_or_refusal;
+use go_unit_worlds::laws::worlds_of_units;
 use go_world_outcomes::laws::{skips_exist, world_or_refusal};
 
 /// A request has inputs over the files that a store tells, or a first refusal.
@@ -44,4 +47,8 @@ pub fn outcome_exists()
     world_or_refusal();
     skips_exist();
     verdict_exists();
+    client_units_or_refusal();
+    client_unit_paths();
+    worlds_of_units();
+    vetted_exists();
 }

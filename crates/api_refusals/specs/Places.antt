@@ -34,3 +34,7 @@ file_path file = under file.folder file.name
 abbrev pub bytes_at : List TreeFile → List ℕ → List ℕ
 bytes_at [] path = []
 bytes_at (f ∷ fs) path = if bytes_eq (file_path f) path then f.bytes else bytes_at fs path
+
+-- `FILE:LINE:COLUMN` of a place in a file of a client, as its report prints it
+abbrev pub client_place : List TreeFile → List ℕ → ℕ → List ℕ
+client_place client path offset = path ++ place_text (bytes_at client path) offset

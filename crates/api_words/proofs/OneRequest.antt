@@ -29,6 +29,7 @@ one_spelling : (n m : OptionName) → spelling n ≡ spelling m → n ≡ m
 one_spelling option.Old option.Old e = refl
 one_spelling option.New option.New e = refl
 one_spelling option.Std option.Std e = refl
+one_spelling option.Client option.Client e = refl
 one_spelling option.Platforms option.Platforms e = refl
 one_spelling option.Workers option.Workers e = refl
 one_spelling option.Api option.Api e = refl
@@ -64,6 +65,7 @@ one_word mode.Judge mode.Judge e = refl
 one_word mode.Advise mode.Advise e = refl
 one_word mode.Gate mode.Gate e = refl
 one_word mode.Skipped mode.Skipped e = refl
+one_word mode.Vet mode.Vet e = refl
 one_word mode.Make mode.Make e = refl
 one_word a b e = absurd (omega (arith, ap (λ (w : List ℕ). get_or w 0 0) e, ap (λ (w : List ℕ). get_or w 1 0) e))
 
@@ -98,6 +100,7 @@ module _ (one_platform : (p q : Platform) → name_of p ≡ name_of q → p ≡ 
   same_old mode.Advise given f g a b = a ∙ sym b
   same_old mode.Gate given f g a b = a ∙ sym b
   same_old mode.Skipped given f g a b = a ∙ sym b
+  same_old mode.Vet given f g a b = a ∙ sym b
   same_old mode.Make given f g a b = a ∙ sym b
 
   same_new : (given : Option (List ℕ)) (f g : List ℕ) → IsNewFolder given f → IsNewFolder given g → f ≡ g
@@ -133,6 +136,7 @@ module _ (one_platform : (p q : Platform) → name_of p ≡ name_of q → p ≡ 
       let old : r.old ≡ s.old = one_meaning settings option.Old (IsOldFolder r.mode) (same_old r.mode) once r.old s.old a.old there in
       let new : r.new ≡ s.new = one_meaning settings option.New IsNewFolder same_new once r.new s.new a.new b.new in
       let std : r.std ≡ s.std = one_given settings option.Std r.std s.std once a.std b.std in
+      let client : r.client ≡ s.client = one_given settings option.Client r.client s.client once a.client b.client in
       let platforms : r.platforms ≡ s.platforms = one_meaning settings option.Platforms ArePlatforms same_platforms once r.platforms s.platforms a.platforms b.platforms in
       let workers : r.workers ≡ s.workers = one_meaning settings option.Workers IsWorkers same_workers once r.workers s.workers a.workers b.workers in
       let api : r.api ≡ s.api = one_meaning settings option.Api AreFileNames same_files once r.api s.api a.api b.api in
@@ -141,7 +145,7 @@ module _ (one_platform : (p q : Platform) → name_of p ≡ name_of q → p ≡ 
       let seed : a.seed ≡ b.seed = one_given settings option.Seed a.seed b.seed once a.seed_given b.seed_given in
       let size : a.size ≡ b.size = one_given settings option.Size a.size b.size once a.size_given b.size_given in
       let made : r.made ≡ s.made = same_made b.seed b.size r.made s.made (subst (λ (z : Option (List ℕ)). IsMade b.seed z r.made) size (subst (λ (z : Option (List ℕ)). IsMade z a.size r.made) seed a.made)) b.made in
-      λ i. record { mode = mode i; old = old i; new = new i; std = std i; platforms = platforms i; workers = workers i; api = api i; except = except i; version = version i; made = made i }
+      λ i. record { mode = mode i; old = old i; new = new i; std = std i; client = client i; platforms = platforms i; workers = workers i; api = api i; except = except i; version = version i; made = made i }
 
   -- ---- requests
 

@@ -14,6 +14,7 @@ word_of mode.Judge = codes "judge"
 word_of mode.Advise = codes "advise"
 word_of mode.Gate = codes "gate"
 word_of mode.Skipped = codes "skipped"
+word_of mode.Vet = codes "vet"
 word_of mode.Make = codes "make"
 
 -- how an option is written
@@ -21,6 +22,7 @@ abbrev pub spelling : OptionName → List ℕ
 spelling option.Old = codes "--old"
 spelling option.New = codes "--new"
 spelling option.Std = codes "--std"
+spelling option.Client = codes "--client"
 spelling option.Platforms = codes "--platforms"
 spelling option.Workers = codes "--workers"
 spelling option.Api = codes "--api"
@@ -41,6 +43,7 @@ needs mode.Judge = option.Old ∷ option.New ∷ []
 needs mode.Advise = option.Old ∷ option.New ∷ option.Version ∷ []
 needs mode.Gate = option.Old ∷ option.New ∷ option.Api ∷ option.Version ∷ []
 needs mode.Skipped = option.New ∷ []
+needs mode.Vet = option.New ∷ option.Client ∷ []
 needs mode.Make = option.Seed ∷ option.Size ∷ []
 
 -- the options that may be given in it besides
@@ -51,4 +54,5 @@ permits mode.Judge = common
 permits mode.Advise = common
 permits mode.Gate = option.Except ∷ common
 permits mode.Skipped = common
+permits mode.Vet = common
 permits mode.Make = option.Workers ∷ []

@@ -128,6 +128,7 @@ pub record AsksFor (settings : List Setting) (r : Request) : Type 0 where
   pub old : Means settings option.Old (IsOldFolder r.mode) r.old
   pub new : Means settings option.New IsNewFolder r.new
   pub std : IsGiven settings option.Std r.std
+  pub client : IsGiven settings option.Client r.client
   pub platforms : Means settings option.Platforms ArePlatforms r.platforms
   pub workers : Means settings option.Workers IsWorkers r.workers
   pub api : Means settings option.Api AreFileNames r.api

@@ -20,6 +20,8 @@ pub enum Mode {
     Gate,
     /// What was left out of a module.
     Skipped,
+    /// Whether a client of a module is typed.
+    Vet,
     /// What the judge finds on trees that the generator makes.
     Make,
 }
@@ -30,6 +32,7 @@ pub enum OptionName {
     Old,
     New,
     Std,
+    Client,
     Platforms,
     Workers,
     Api,
@@ -55,6 +58,7 @@ impl Mode {
                 OptionName::Api,
                 OptionName::Version,
             ],
+            Mode::Vet => &[OptionName::New, OptionName::Client],
             Mode::Make => &[OptionName::Seed, OptionName::Size],
         }
     }
@@ -64,7 +68,7 @@ impl Mode {
         ensures { result.now ≡ permits self }
     {
         match self {
-            Mode::Features | Mode::Judge | Mode::Advise | Mode::Skipped => {
+            Mode::Features | Mode::Judge | Mode::Advise | Mode::Skipped | Mode::Vet => {
                 &[OptionName::Std, OptionName::Platforms, OptionName::Workers]
             }
             Mode::Frozen | Mode::Gate => &[
@@ -100,6 +104,9 @@ pub(crate) fn mode_of(word: &[u8]) -> Option<Mode>
     if word == b"skipped".as_slice() {
         return Some(Mode::Skipped);
     }
+    if word == b"vet".as_slice() {
+        return Some(Mode::Vet);
+    }
     if word == b"make".as_slice() {
         return Some(Mode::Make);
     }
@@ -118,6 +125,9 @@ pub(crate) fn option_of(word: &[u8]) -> Option<OptionName>
     }
     if word == b"--std".as_slice() {
         return Some(OptionName::Std);
+    }
+    if word == b"--client".as_slice() {
+        return Some(OptionName::Client);
     }
     if word == b"--platforms".as_slice() {
         return Some(OptionName::Platforms);

@@ -33,6 +33,8 @@ pub struct Request {
     pub new: Text,
     /// The folder of the standard library's tree, where one is given.
     pub std: Option<Text>,
+    /// The folder of a client, where one is given.
+    pub client: Option<Text>,
     /// The platforms for which files are chosen, in the order given; one or more, none twice.
     pub platforms: List<Platform>,
     /// How many workers may check packages: 1 to 64.

@@ -53,12 +53,14 @@ fn request_of(
     let old = old_folder(alloc, mode, look_up(settings, OptionName::Old))?;
     let new = new_folder(alloc, look_up(settings, OptionName::New))?;
     let std = copied(alloc, look_up(settings, OptionName::Std))?;
+    let client = copied(alloc, look_up(settings, OptionName::Client))?;
     let except = copied(alloc, look_up(settings, OptionName::Except))?;
     Ok(Some(Request {
         mode,
         old,
         new,
         std,
+        client,
         platforms,
         workers,
         api,
@@ -78,6 +80,8 @@ fn request_of(
 /// | `judge` | `--old`, `--new` | `--std`, `--platforms`, `--workers` |
 /// | `advise` | `--old`, `--new`, `--version` | `--std`, `--platforms`, `--workers` |
 /// | `gate` | `--old`, `--new`, `--api`, `--version` | `--except`, `--std`, `--platforms`, `--workers` |
+/// | `skipped` | `--new` | `--std`, `--platforms`, `--workers` |
+/// | `vet` | `--new`, `--client` | `--std`, `--platforms`, `--workers` |
 /// | `make` | `--seed`, `--size` | `--workers` |
 ///
 /// A value isn't empty and doesn't begin with `-`. That of `--platforms` is names of platforms joined by commas, none twice, and

@@ -24,6 +24,7 @@ fn mode_name(mode: Mode) -> &'static str {
         Mode::Advise => "advise",
         Mode::Gate => "gate",
         Mode::Skipped => "skipped",
+        Mode::Vet => "vet",
         Mode::Make => "make",
     }
 }
@@ -116,6 +117,7 @@ fn told(alloc: Global, request: &Request) -> Result<Vec<u8>, Refusal> {
     push_text(alloc, &mut out, " old=", request.old.as_ref())?;
     push_text(alloc, &mut out, " new=", Some(&request.new))?;
     push_text(alloc, &mut out, " std=", request.std.as_ref())?;
+    push_text(alloc, &mut out, " client=", request.client.as_ref())?;
     push_platforms(&mut out, request.platforms.items())?;
     let workers = format!(in alloc; " workers={}", request.workers)?;
     push_str(&mut out, workers.as_str())?;

@@ -3,6 +3,8 @@ use Rattle.std.specs.Prelude.{◌≡◌, ◌≤◌, ◌||◌, ◌⊎◌, ℕ, Bo
 use Rattle.std.specs.List.{list_any}
 use Rattle.api_advice.specs.declared.class.Class.{Class}
 use Rattle.api_advice.specs.declared.release.Release.{Release}
+use Rattle.api_clients.specs.ClientAnswers.{AreAnswers, IsFirstRefusal as IsClientRefusal}
+use Rattle.api_clients.specs.ClientChecks.{CountsAtMost as CountsClientAtMost}
 use Rattle.api_findings.specs.Checks.{CountsAtMost}
 use Rattle.api_findings.specs.Findings.{IsFirstRefusal}
 use Rattle.api_frozen.specs.Comparison.{IsReport}
@@ -14,14 +16,21 @@ use Rattle.api_inputs.specs.declared.inputs.Inputs.{Inputs}
 use Rattle.api_judge.specs.Verdicts.{class_of, has_break}
 use Rattle.api_judge.specs.declared.verdict.Verdict.{Verdict}
 use Rattle.api_lines.specs.declared.line.Line.{Line}
+use Rattle.api_reports.specs.Clients.{clients_text, has_untyped}
+use Rattle.api_reports.specs.declared.clients.ClientAnswer.{ClientAnswer}
 use Rattle.api_reports.specs.Reports.{class_text, features_text, has_loss, judge_text, signed_text, version_text}
 use Rattle.api_texts.specs.FixedLines.{memory_line, read_line, words_line}
 use Rattle.api_texts.specs.declared.left_out.LeftOut.{LeftOut}
+use Rattle.api_words.specs.declared.option_name.Mode.{Mode}
+use Rattle.api_words.specs.declared.option_name.Mode.TheVariants as mode
 use Rattle.api_words.specs.declared.request.AskedVersion.{AskedVersion}
 use Rattle.api_words.specs.declared.request.MadeTrees.{MadeTrees}
 use Rattle.api_words.specs.declared.request.Request.{Request}
 use Rattle.api_worlds.specs.declared.error.PlatformError.{PlatformError}
 use Rattle.api_worlds.specs.declared.error.PlatformError.TheVariants as platform
+use Rattle.go_model.specs.declared.files.platform.Platform.{Platform}
+use Rattle.go_model.specs.declared.files.tree.Tree.{Tree}
+use Rattle.go_model.specs.files.Trees.{IsTree}
 use Rattle.go_outside.specs.Faults.{Rose}
 use Rattle.go_outside.specs.Stores.{Contents}
 use Rattle.api_gate.specs.declared.reports.advice.AdviceFault.{AdviceFault}
@@ -51,7 +60,7 @@ abbrev pub unfound : PlatformError → Decision
 unfound (platform.Refused line) = Refused line
 unfound platform.NoMemory = NoMemory
 
--- the report with this text, which holds a lost line or a break, or doesn't
+-- the report with this text, which holds a lost line, a break or an untyped client, or doesn't
 abbrev pub report_of : Bool → List ℕ → Decision
 report_of true text = Broken text
 report_of false text = Report text
@@ -100,6 +109,10 @@ IsMakeText r lists vs text = (features : List Line) × AreMerged r lists feature
 abbrev pub IsGateDecision : Request → List Verdict → List LeftOut → Bool → List ℕ → List ℕ → Decision → Type 0
 IsGateDecision r vs ls lost lines advice d = (d ≡ NoMemory) ⊎ (d ≡ report_of (lost || list_any has_break vs) (lines ++ judge_text r.platforms vs ls ++ advice))
 
+-- the report of what is told of a client, but for want of memory
+abbrev pub IsClientDecision : List Platform → List ClientAnswer → Decision → Type 0
+IsClientDecision ps given d = (d ≡ NoMemory) ⊎ (d ≡ report_of (has_untyped given) (clients_text ps given))
+
 -- ---- decisions
 
 -- what findings decide: the report of the request, or why no version is advised
@@ -111,10 +124,12 @@ IsOfFindings r i lists vs ls (Refused line) = (v : AskedVersion) × (r.version �
 IsOfFindings r i lists vs ls ReadFault = ⊥
 IsOfFindings r i lists vs ls NoMemory = Unit {0}
 
--- what inputs decide: what is found in them decides so, or a platform refuses them
+-- what inputs decide: what is found in them decides so, or what is told of a client, or a platform refuses them
 pub data IsOfInputs (r : Request) (i : Inputs) : Decision → Type 0 where
   of_findings : {d : Decision} (lists : List (List Line)) (vs : List Verdict) (ls : List LeftOut) → AreFound r i lists vs ls → IsOfFindings r i lists vs ls d → IsOfInputs r i d
-  of_platform : {line : List ℕ} → IsFirstRefusal (modules_of i) i.old_tree i.tree i.std_tree r.platforms line → IsOfInputs r i (Refused line)
+  of_platform : {line : List ℕ} → i.client ≡ None → IsFirstRefusal (modules_of i) i.old_tree i.tree i.std_tree r.platforms line → IsOfInputs r i (Refused line)
+  of_answers : {d : Decision} (c : Tree) (given : List ClientAnswer) → i.client ≡ Some c → AreAnswers (modules_of i) i.tree i.std_tree c r.platforms given → IsClientDecision r.platforms given d → IsOfInputs r i d
+  of_client : {line : List ℕ} (c : Tree) → i.client ≡ Some c → IsClientRefusal (modules_of i) i.tree i.std_tree c r.platforms line → IsOfInputs r i (Refused line)
   no_room : IsOfInputs r i NoMemory
 
 -- what a store decides that told this and counted so many faults before and after: its inputs decide so, or they aren't read
@@ -124,9 +139,25 @@ pub data IsOfStore (told : Option Contents) (before now : ℕ) (r : Request) : D
   of_fault : Rose before now → IsOfStore told before now r ReadFault
   no_space : IsOfStore told before now r NoMemory
 
--- how many packages are checked for a request over files: none, or at most those of its inputs
+-- how many packages are checked for inputs: at most those of the trees, or of the module with a client
+abbrev pub ChecksIn : Request → Inputs → ℕ → ℕ → Type 0
+ChecksIn r i before now = ((i.client ≡ None) × CountsAtMost (modules_of i) i.old_tree i.tree i.std_tree r.platforms before now)
+    ⊎ ((c : Tree) × (i.client ≡ Some c) × CountsClientAtMost (modules_of i) i.tree i.std_tree c r.platforms before now)
+
+-- how many are checked for a request over files: none, or at most those of its inputs
 abbrev pub ChecksFor : Option Contents → Request → ℕ → ℕ → Type 0
-ChecksFor told r before now = (now ≤ before) ⊎ ((i : Inputs) × AreInputs told r i × CountsAtMost (modules_of i) i.old_tree i.tree i.std_tree r.platforms before now)
+ChecksFor told r before now = (now ≤ before) ⊎ ((i : Inputs) × AreInputs told r i × ChecksIn r i before now)
+
+-- ---- what is given
+
+-- a client that is given keeps the facts of trees
+abbrev pub IsClientTree : Option Tree → Type 0
+IsClientTree None = Unit {0}
+IsClientTree (Some client) = IsTree client
+
+-- where no client is given, the mode isn't the one that asks for it
+abbrev pub IsFinding : {A : Type 0} → Mode → Option A → Type 0
+IsFinding m client = client ≡ None → m ≡ mode.Vet → ⊥
 
 -- what the generator is asked for is few enough
 abbrev pub IsFew : Option MadeTrees → Type 0

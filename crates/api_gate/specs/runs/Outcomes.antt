@@ -3,6 +3,8 @@
 use Rattle.std.specs.Prelude.{◌≡◌, ◌≤◌, ◌||◌, ℕ, Bool, false, if◌then◌else◌, Option, Some, None, List, [], ◌∷◌, ◌++◌, length}
 use Rattle.std.specs.List.{list_any}
 use Rattle.api_advice.specs.Advice.{IsNext}
+use Rattle.api_clients.specs.ClientAnswers.{AreAnswers, IsFirstRefusal as IsClientRefusal}
+use Rattle.api_clients.specs.ClientChecks.{CountsAtMost as CountsClientAtMost}
 use Rattle.api_advice.specs.declared.class.Class.{Class}
 use Rattle.api_advice.specs.declared.release.Release.{Release}
 use Rattle.api_findings.specs.Checks.{CountsAtMost}
@@ -17,6 +19,8 @@ use Rattle.api_judge.specs.declared.verdict.Verdict.{Verdict}
 use Rattle.api_lines.specs.Lines.{IsListing}
 use Rattle.api_lines.specs.Merging.{IsMerged}
 use Rattle.api_lines.specs.declared.line.Line.{Line}
+use Rattle.api_reports.specs.Clients.{clients_text, has_untyped}
+use Rattle.api_reports.specs.declared.clients.ClientAnswer.{ClientAnswer}
 use Rattle.api_reports.specs.Reports.{class_text, count_breaks, counted_class_text, features_text, has_loss, judge_text, made_text, signed_text, skipped_text, version_text}
 use Rattle.api_texts.specs.FaultLines.{no_version_line, not_release_line}
 use Rattle.api_texts.specs.FixedLines.{words_line}
@@ -37,7 +41,7 @@ pub record Outcome : Type 0 where
   pub fault_line : List ℕ
   pub status : Status
 
--- a report and no fault line, and whether the report holds a lost line or a break
+-- a report and no fault line, and whether the report holds a lost line, a break or an untyped client
 abbrev pub reported : Bool → List ℕ → Outcome
 reported is_broken text = record { output = text; fault_line = []; status = if is_broken then status.Broken else status.Pass }
 
@@ -100,8 +104,9 @@ pub data IsReportOn (r : Request) (i : Inputs) (lists : List (List Line)) (vs : 
 
 -- ---- outcomes
 
--- this is found in the trees of the inputs, and this is left out
+-- where there is no client, this is found in the trees of the inputs, and this is left out
 pub record AreFound (r : Request) (i : Inputs) (lists : List (List Line)) (vs : List Verdict) (ls : List LeftOut) : Type 0 where
+  pub alone : i.client ≡ None
   pub findings : AreFindings (modules_of i) i.old_tree i.tree i.std_tree r.platforms lists vs
   pub left_out : AreLeftOut (modules_of i) i.std_tree i.old_tree i.tree r.platforms ls
 
@@ -111,18 +116,24 @@ module _ (words : List (List ℕ)) (told : Option Contents) where
     pub request : IsRequest words r
     pub inputs : AreInputs (files_of told r.made) r i
 
-  -- what the words end with, over a store that tells this: the first refusal in this order, or the report
+  -- what the words end with, over a store that tells this: the first refusal in this order, or the report. Where there is a client, the report
+  -- is what is told of it
   pub data EndsWith : Outcome → Type 0 where
     bad_words : AreBad words → EndsWith (fault_alone status.Words words_line)
     refused_inputs : {line : List ℕ} (r : Request) → IsRequest words r → IsInputRefusal (files_of told r.made) r line → EndsWith (fault_alone status.Refused line)
-    refused_platform : {line : List ℕ} (r : Request) (i : Inputs) → Asks r i → IsFirstRefusal (modules_of i) i.old_tree i.tree i.std_tree r.platforms line
+    refused_platform : {line : List ℕ} (r : Request) (i : Inputs) → Asks r i → i.client ≡ None → IsFirstRefusal (modules_of i) i.old_tree i.tree i.std_tree r.platforms line
         → EndsWith (fault_alone status.Refused line)
     refused_advice : {line : List ℕ} (r : Request) (i : Inputs) (v : AskedVersion) (lists : List (List Line)) (vs : List Verdict) (ls : List LeftOut) → Asks r i → AreFound r i lists vs ls
         → r.version ≡ Some v → IsAdviceRefusal v (class_of vs) line → EndsWith (fault_alone status.Refused line)
     reported_findings : {text : List ℕ} (is_broken : Bool) (r : Request) (i : Inputs) (lists : List (List Line)) (vs : List Verdict) (ls : List LeftOut) → Asks r i → AreFound r i lists vs ls
         → IsReportOn r i lists vs ls is_broken text → EndsWith (reported is_broken text)
+    refused_client : {line : List ℕ} (r : Request) (i : Inputs) (c : Tree) → Asks r i → i.client ≡ Some c → IsClientRefusal (modules_of i) i.tree i.std_tree c r.platforms line → EndsWith (fault_alone status.Refused line)
+    vetted : (r : Request) (i : Inputs) (c : Tree) (given : List ClientAnswer) → Asks r i → i.client ≡ Some c → AreAnswers (modules_of i) i.tree i.std_tree c r.platforms given
+        → EndsWith (reported (has_untyped given) (clients_text r.platforms given))
 
-  -- a counter of checks rises by at most the packages of both trees on the request's platforms together, or stays
+  -- a counter of checks rises by at most the packages of both trees on the request's platforms together, or stays; where there is a client, by at
+  -- most those of the module and those that it and the client reach
   pub data ChecksAtMost (before now : ℕ) : Type 0 where
     no_check : now ≤ before → ChecksAtMost before now
-    checked : (r : Request) (i : Inputs) → Asks r i → CountsAtMost (modules_of i) i.old_tree i.tree i.std_tree r.platforms before now → ChecksAtMost before now
+    checked : (r : Request) (i : Inputs) → Asks r i → i.client ≡ None → CountsAtMost (modules_of i) i.old_tree i.tree i.std_tree r.platforms before now → ChecksAtMost before now
+    checked_client : (r : Request) (i : Inputs) (c : Tree) → Asks r i → i.client ≡ Some c → CountsClientAtMost (modules_of i) i.tree i.std_tree c r.platforms before now → ChecksAtMost before now

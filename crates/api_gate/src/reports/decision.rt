@@ -9,9 +9,9 @@ use go_base::text::Text;
 /// What a run is to write.
 #[derive(Debug, Drop)]
 pub enum Decision {
-    /// The whole report, which holds no lost line and no break.
+    /// The whole report, which holds no lost line, no break and no untyped client.
     Report(Text),
-    /// The whole report, which holds a lost line or a break.
+    /// The whole report, which holds one of these.
     Broken(Text),
     /// The words aren't good.
     Words,
@@ -48,7 +48,7 @@ impl Decision {
         }
     }
 
-    /// The report with this text, which holds a lost line or a break, or doesn't.
+    /// The report with this text, which holds a lost line, a break or an untyped client, or doesn't.
     pub(crate) fn report(is_broken: bool, text: Text) -> Decision
         ensures { result ≡ report_of is_broken text }
     {

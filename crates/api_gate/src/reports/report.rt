@@ -30,6 +30,7 @@ fn report_on(
     verdicts: &[Verdict],
     left_out: &[LeftOut],
 ) -> Decision
+    requires finds { request.now.mode ≡ Mode.Vet → ⊥ }
     requires some { 0 < length request.now.platforms }
     requires same { length lists ≡ length request.now.platforms }
     requires plain { Each (Each HasNoContext) lists }
@@ -51,6 +52,7 @@ fn report_on(
             Ok(text) => Decision::Report(text),
             Err(NoMemory) => Decision::NoMemory,
         },
+        Mode::Vet => unreachable!(),
         Mode::Make => match make_report(alloc, request, lists, verdicts) {
             Ok(text) => Decision::Report(text),
             Err(NoMemory) => Decision::NoMemory,
@@ -61,6 +63,7 @@ fn report_on(
 /// The report of a request on its inputs and on what is found there; or that the last version is refused, where the mode advises a
 /// version; or that no memory was left.
 pub fn report(alloc: Global, request: &Request, inputs: &Inputs, mut found: Findings) -> Decision
+    requires finds { request.now.mode ≡ Mode.Vet → ⊥ }
     requires some { 0 < length request.now.platforms }
     requires same { length found.features ≡ length request.now.platforms }
     requires plain { Each (Each HasNoContext) found.features }

@@ -1,12 +1,13 @@
 -- What the functions that read inputs answer.
 use Rattle.std.specs.Prelude.{◌≡◌, ℕ, Option, List, Result, Ok, Err}
 use Rattle.api_inputs.specs.FrozenInputs.{AreLines, GivesLines, HasFault, IsFirstFault}
-use Rattle.api_inputs.specs.Inputs.{MayHaveOld, MayRefuseOld, optional}
+use Rattle.api_inputs.specs.Inputs.{MayHaveClient, MayHaveOld, MayRefuseClient, MayRefuseOld, optional}
 use Rattle.api_inputs.specs.Reads.{MayHaveStd, MayLoad}
 use Rattle.api_inputs.specs.declared.frozen.FileError.{FileError}
 use Rattle.api_inputs.specs.declared.frozen.FileError.TheVariants as file
 use Rattle.api_inputs.specs.declared.inputs.InputError.{InputError}
 use Rattle.api_inputs.specs.declared.inputs.InputError.TheVariants as error
+use Rattle.api_inputs.specs.declared.inputs.ClientInputs.{ClientInputs}
 use Rattle.api_inputs.specs.declared.inputs.FrozenInputs.{FrozenInputs}
 use Rattle.api_inputs.specs.declared.inputs.Inputs.{Inputs}
 use Rattle.api_inputs.specs.declared.inputs.NewInputs.{NewInputs}
@@ -51,6 +52,13 @@ AnswersOld told root before now (Err (error.Refused line)) = (e : LoadError) × 
 AnswersOld told root before now (Err error.ReadFault) = Rose before now
 AnswersOld told root before now (Err error.NoMemory) = Unit {0}
 
+-- a client where a folder is given, by what its load may answer
+abbrev pub AnswersClient : Option Contents → Option (List ℕ) → ℕ → ℕ → Result (Option Tree) InputError → Type 0
+AnswersClient told root before now (Ok t) = MayHaveClient told root t
+AnswersClient told root before now (Err (error.Refused line)) = (e : LoadError) × MayRefuseClient told root e × (IsFree (Err e) → ⊥) × (line ≡ load_line side.Client e)
+AnswersClient told root before now (Err error.ReadFault) = Rose before now
+AnswersClient told root before now (Err error.NoMemory) = Unit {0}
+
 -- what the error of a load is told as
 abbrev pub IsToldAs : Side → LoadError → InputError → Type 0
 IsToldAs s e (error.Refused line) = (IsFree (Err e) → ⊥) × (line ≡ load_line s e)
@@ -69,14 +77,26 @@ AnswersFrozen told r before now (Err (error.Refused line)) = IsFrozenLine told r
 AnswersFrozen told r before now (Err error.ReadFault) = Rose before now
 AnswersFrozen told r before now (Err error.NoMemory) = Unit {0}
 
+-- the fault line of the first refusal besides those of trees
+pub data IsClientLine (told : Option Contents) (r : Request) : List ℕ → Type 0 where
+  of_client : (e : LoadError) → MayRefuseClient told r.client e → (IsFree (Err e) → ⊥) → IsClientLine told r (load_line side.Client e)
+  of_frozen : {line : List ℕ} (c : Option Tree) → MayHaveClient told r.client c → IsFrozenLine told r line → IsClientLine told r line
+
+-- what is read besides the trees, or that fault line
+abbrev pub AnswersClientInputs : Option Contents → Request → ℕ → ℕ → Result ClientInputs InputError → Type 0
+AnswersClientInputs told r before now (Ok i) = MayHaveClient told r.client i.client × AreLines told r.api i.frozen.required × AreLines told (optional r.except) i.frozen.exceptions
+AnswersClientInputs told r before now (Err (error.Refused line)) = IsClientLine told r line
+AnswersClientInputs told r before now (Err error.ReadFault) = Rose before now
+AnswersClientInputs told r before now (Err error.NoMemory) = Unit {0}
+
 -- the fault line of the first refusal besides those of the module's trees
 pub data IsOtherLine (told : Option Contents) (r : Request) : List ℕ → Type 0 where
   of_std : (e : LoadError) → MayHaveStd told r.std (Err e) → (IsFree (Err e) → ⊥) → IsOtherLine told r (load_line side.Std e)
-  of_frozen : {line : List ℕ} (s : Tree) → MayHaveStd told r.std (Ok s) → IsFrozenLine told r line → IsOtherLine told r line
+  of_client_inputs : {line : List ℕ} (s : Tree) → MayHaveStd told r.std (Ok s) → IsClientLine told r line → IsOtherLine told r line
 
 -- what is read besides the module's trees, or that fault line
 abbrev pub AnswersOthers : Option Contents → Request → ℕ → ℕ → Result Others InputError → Type 0
-AnswersOthers told r before now (Ok o) = MayHaveStd told r.std (Ok o.std_tree) × AreLines told r.api o.frozen.required × AreLines told (optional r.except) o.frozen.exceptions
+AnswersOthers told r before now (Ok o) = MayHaveStd told r.std (Ok o.std_tree) × AnswersClientInputs told r before now (Ok o.more)
 AnswersOthers told r before now (Err (error.Refused line)) = IsOtherLine told r line
 AnswersOthers told r before now (Err error.ReadFault) = Rose before now
 AnswersOthers told r before now (Err error.NoMemory) = Unit {0}
@@ -94,4 +114,4 @@ AnswersNew told r before now (Err error.ReadFault) = Rose before now
 AnswersNew told r before now (Err error.NoMemory) = Unit {0}
 
 abbrev pub inputs_of : Option Tree → NewInputs → Inputs
-inputs_of o n = record { old_tree = o; tree = n.tree; std_tree = n.others.std_tree; required = n.others.frozen.required; exceptions = n.others.frozen.exceptions }
+inputs_of o n = record { old_tree = o; tree = n.tree; std_tree = n.others.std_tree; client = n.others.more.client; required = n.others.more.frozen.required; exceptions = n.others.more.frozen.exceptions }

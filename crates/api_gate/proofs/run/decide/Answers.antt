@@ -1,6 +1,6 @@
 use Rattle.api_gate.specs.runs.Outcomes.{bad_words}
 use Rattle.api_gate.specs.runs.Runs.{defined, no_memory}
-use Rattle.api_gate.proofs.RequestFacts.{few_made, some_platform}
+use Rattle.api_gate.proofs.RequestFacts.{client_given, few_made, some_platform}
 use Rattle.api_gate.proofs.run.decide.Goals as goal
 
 pub on_request-requires-clause-platforms : goal.on_request-requires-clause-platforms
@@ -20,3 +20,6 @@ returns-in-Ok-Some-clause-written g c = c.on_request.ensures.written _ (rw c.in-
 
 pub returns-in-Ok-Some-clause-steps : goal.returns-in-Ok-Some-clause-steps
 returns-in-Ok-Some-clause-steps g c = c.on_request.ensures.steps _ (rw c.in-Ok-Some.field-0-is at c.in-Ok-Some.ensures)
+
+pub on_request-requires-clause-client : goal.on_request-requires-clause-client
+on_request-requires-clause-client g c κs within = client_given _ c.in-Ok-Some.request (rw c.in-Ok-Some.field-0-is at c.in-Ok-Some.ensures)

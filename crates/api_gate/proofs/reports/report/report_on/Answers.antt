@@ -21,3 +21,6 @@ returns-in-Ok-make_report c = make_decides c.args.request.now c.args.inputs.now 
 
 pub returns-in-Ok-skipped_text : goal.returns-in-Ok-skipped_text
 returns-in-Ok-skipped_text c = skipped_decides c.args.request.now c.args.inputs.now c.args.lists c.args.verdicts.now c.args.left_out.now c.in-Ok-skipped_text.text c.in-Skipped.is (rw c.items.ensures at c.in-Ok-skipped_text.ensures)
+
+pub unreachable-requires : goal.unreachable-requires
+unreachable-requires c = c.requires.finds c.in-Vet.is

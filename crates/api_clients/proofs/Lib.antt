@@ -1,0 +1,4 @@
+pub mod AlikeAnswers
+pub mod OnePlatform
+pub mod OneVetting
+pub mod PlatformAnswers

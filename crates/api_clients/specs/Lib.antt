@@ -1,0 +1,3 @@
+pub mod ClientAnswers
+pub mod ClientChecks
+pub mod inner

@@ -1,0 +1,86 @@
+//! What is told of a client on one platform.
+ghost use Rattle.std.specs.Prelude.{◌≡◌, ◌≢◌, ◌≤◌, ◌+◌, ◌∷◌, [], length};
+ghost use Rattle.api_clients.specs.ClientChecks.{CountsAtMost};
+ghost use Rattle.api_clients.specs.inner.ClientSteps.{AnswersOfUnits, AnswersOn};
+ghost use Rattle.go_base.specs.Lists.{Has};
+ghost use Rattle.go_clients.specs.Vetting.{IsClientPath};
+ghost use Rattle.go_model.specs.files.Trees.{IsTree};
+ghost use Rattle.go_work.specs.Paths.{AreOfPackages};
+
+use crate::refused::{refused_package, refused_units};
+use crate::told::told;
+use crate::trees::ClientTrees;
+use api_reports::clients::ClientAnswer;
+use api_worlds::error::PlatformError;
+use go_base::memory::NoMemory;
+use go_base::steps::Steps;
+use go_client_unit_laws::laws::client_unit_paths;
+use go_client_units::units::{ClientUnits, client_units};
+use go_model::files::platform::Platform;
+use go_outside::gate::Gate;
+use go_work::error::WorkError;
+use go_work::world::world;
+use std::alloc::Global;
+
+fn answer_of<G: Gate, L: Copy>(
+    alloc: Global,
+    trees: &ClientTrees<'_>,
+    platform: Platform,
+    units: ClientUnits,
+    gate: &G,
+    steps: &mut Steps<L>,
+) -> Result<ClientAnswer, PlatformError>
+    requires packages { AreOfPackages units.packages.packages }
+    requires path { IsClientPath units.client }
+    ensures answer { AnswersOfUnits trees.now.tree.now trees.now.std_tree.now trees.now.client.now platform units result }
+    ensures steps { steps.new ≤ steps.old + length units.packages.packages }
+{
+    let ClientUnits { packages, client } = units;
+    let bits = platform.int_bits();
+    match world(alloc, packages, bits, gate, steps) {
+        Ok(checked) => match told(
+            alloc,
+            trees.client.files.items(),
+            &checked.world,
+            client.as_ref(),
+            bits,
+        ) {
+            Ok(answer) => Ok(answer),
+            Err(NoMemory) => Err(PlatformError::NoMemory),
+        },
+        Err(WorkError::NoMemory) => Err(PlatformError::NoMemory),
+        Err(WorkError::Refused(_, unit, error)) => Err(refused_package(
+            alloc, trees, platform, &unit, error,
+        )),
+    }
+}
+
+/// What is told of a client on a platform: what `vet_on_platforms` says, on it alone.
+pub(crate) fn answer_on<G: Gate, L: Copy>(
+    alloc: Global,
+    trees: &ClientTrees<'_>,
+    platform: Platform,
+    gate: &G,
+    steps: &mut Steps<L>,
+) -> Result<ClientAnswer, PlatformError>
+    requires tree { IsTree trees.now.tree.now }
+    requires std { IsTree trees.now.std_tree.now }
+    requires client { IsTree trees.now.client.now }
+    requires named { trees.now.tree.now.module ≢ [] }
+    requires barred { Has trees.now.barred.now trees.now.tree.now.module }
+    ensures answer { AnswersOn trees.now.barred.now trees.now.tree.now trees.now.std_tree.now trees.now.client.now platform result }
+    ensures steps { CountsAtMost trees.now.barred.now trees.now.tree.now trees.now.std_tree.now trees.now.client.now (platform ∷ []) steps.old steps.new }
+{
+    client_unit_paths();
+    match client_units(
+        alloc,
+        trees.tree,
+        trees.std_tree,
+        trees.client,
+        trees.barred,
+        platform,
+    ) {
+        Err(error) => Err(refused_units(alloc, trees, platform, &error)),
+        Ok(units) => answer_of(alloc, trees, platform, units, gate, steps),
+    }
+}

@@ -1,0 +1,162 @@
+//! What a run tells of a client on platforms.
+ghost use Rattle.std.specs.Prelude.{◌≡◌, ◌≢◌, ◌<◌, ◌++◌, ◌∷◌, [], Some, IfOk, OnOk, length, slice_get};
+ghost use Rattle.api_clients.specs.ClientAnswers.{Answers};
+ghost use Rattle.api_clients.specs.ClientChecks.{CountsAtMost};
+ghost use Rattle.api_clients.specs.inner.ClientSteps.{AnswersNext, IsAnsweredAlike, listed};
+ghost use Rattle.go_base.specs.Lists.{Has};
+ghost use Rattle.go_file_choices.specs.AlikePlatforms.{AreFirsts, files_of};
+ghost use Rattle.go_model.specs.files.Trees.{IsTree};
+
+use crate::answers::answer_on;
+use crate::trees::ClientTrees;
+use api_reports::clients::ClientAnswer;
+use api_worlds::error::PlatformError;
+use go_base::list::List;
+use go_base::memory::NoMemory;
+use go_base::steps::Steps;
+use go_client_unit_laws::laws::alike_client_units;
+use go_file_choices::alike::first_alike;
+use go_model::files::platform::Platform;
+use go_outside::gate::Gate;
+use std::alloc::Global;
+
+// The same answer as that of this number, where there is one.
+fn answer_at(
+    alloc: Global,
+    answers: &[ClientAnswer],
+    number: usize,
+) -> Result<Option<ClientAnswer>, NoMemory>
+    ensures { IfOk result (λ answer. answer ≡ slice_get answers.now number) }
+{
+    match answers.get(number) {
+        None => Ok(None),
+        Some(answer) => Ok(Some(answer.copy(alloc)?)),
+    }
+}
+
+fn push(answers: &mut List<ClientAnswer>, answer: Option<ClientAnswer>) -> Result<(), NoMemory>
+    ensures { OnOk result (answers.new ≡ answers.old ++ listed answer) }
+{
+    match answer {
+        None => Ok(()),
+        Some(answer) => {
+            answers.push(answer)?;
+            Ok(())
+        }
+    }
+}
+
+// Adds the answer of this number once more.
+fn push_again(
+    alloc: Global,
+    answers: &mut List<ClientAnswer>,
+    number: usize,
+) -> Result<(), NoMemory>
+    ensures { OnOk result (answers.new ≡ answers.old ++ listed (slice_get answers.old number)) }
+{
+    let answer = answer_at(alloc, answers.items(), number)?;
+    push(answers, answer)
+}
+
+// Adds what is told on a platform, where the first one that is alike has this number: what was told there already, or what is told
+// now.
+fn add_next<G: Gate, L: Copy>(
+    alloc: Global,
+    answers: &mut List<ClientAnswer>,
+    first: usize,
+    trees: &ClientTrees<'_>,
+    platform: Platform,
+    gate: &G,
+    steps: &mut Steps<L>,
+) -> Result<(), PlatformError>
+    requires alike { first < length answers.old → IsAnsweredAlike trees.now.barred.now trees.now.tree.now trees.now.std_tree.now trees.now.client.now platform (slice_get answers.old first) }
+    requires tree { IsTree trees.now.tree.now }
+    requires std { IsTree trees.now.std_tree.now }
+    requires client { IsTree trees.now.client.now }
+    requires named { trees.now.tree.now.module ≢ [] }
+    requires barred { Has trees.now.barred.now trees.now.tree.now.module }
+    ensures answer { AnswersNext trees.now.barred.now trees.now.tree.now trees.now.std_tree.now trees.now.client.now platform answers.old answers.new result }
+    ensures steps { CountsAtMost trees.now.barred.now trees.now.tree.now trees.now.std_tree.now trees.now.client.now (platform ∷ []) steps.old steps.new }
+{
+    alike_client_units();
+    if first < answers.items().len() {
+        return match push_again(alloc, answers, first) {
+            Ok(()) => Ok(()),
+            Err(NoMemory) => Err(PlatformError::NoMemory),
+        };
+    }
+    match answer_on(alloc, trees, platform, gate, steps) {
+        Err(error) => Err(error),
+        Ok(answer) => match answers.push(answer) {
+            Ok(()) => Ok(()),
+            Err(NoMemory) => Err(PlatformError::NoMemory),
+        },
+    }
+}
+
+// What `vet_on_platforms` says, by the numbers of the first platforms that are alike.
+fn vet_by<G: Gate, L: Copy>(
+    alloc: Global,
+    firsts: &[usize],
+    trees: &ClientTrees<'_>,
+    platforms: &[Platform],
+    gate: &G,
+    steps: &mut Steps<L>,
+) -> Result<List<ClientAnswer>, PlatformError>
+    requires firsts { AreFirsts (files_of (Some trees.now.client.now) trees.now.tree.now trees.now.std_tree.now) platforms.now firsts.now }
+    requires tree { IsTree trees.now.tree.now }
+    requires std { IsTree trees.now.std_tree.now }
+    requires client { IsTree trees.now.client.now }
+    requires named { trees.now.tree.now.module ≢ [] }
+    requires barred { Has trees.now.barred.now trees.now.tree.now.module }
+    ensures answer { Answers trees.now.barred.now trees.now.tree.now trees.now.std_tree.now trees.now.client.now platforms.now result }
+    ensures steps { CountsAtMost trees.now.barred.now trees.now.tree.now trees.now.std_tree.now trees.now.client.now platforms.now steps.old steps.new }
+{
+    let mut answers = List::new(alloc);
+    for at in 0..platforms.len() {
+        match add_next(
+            alloc,
+            &mut answers,
+            firsts[at],
+            trees,
+            platforms[at],
+            gate,
+            steps,
+        ) {
+            Err(error) => return Err(error),
+            Ok(()) => {}
+        }
+    }
+    Ok(answers)
+}
+
+/// What is told of a client on each of these platforms, over the packages of the module and those of the standard library that it and
+/// the client reach; or `Refused` with the fault line of the first platform on which a package or the client's files are refused; or
+/// `NoMemory`. The counter rises by at most the number of these packages on all platforms together.
+pub fn vet_on_platforms<G: Gate, L: Copy>(
+    alloc: Global,
+    trees: &ClientTrees<'_>,
+    platforms: &[Platform],
+    gate: &G,
+    steps: &mut Steps<L>,
+) -> Result<List<ClientAnswer>, PlatformError>
+    requires tree { IsTree trees.now.tree.now }
+    requires std { IsTree trees.now.std_tree.now }
+    requires client { IsTree trees.now.client.now }
+    requires named { trees.now.tree.now.module ≢ [] }
+    requires barred { Has trees.now.barred.now trees.now.tree.now.module }
+    ensures answer { Answers trees.now.barred.now trees.now.tree.now trees.now.std_tree.now trees.now.client.now platforms.now result }
+    ensures steps { CountsAtMost trees.now.barred.now trees.now.tree.now trees.now.std_tree.now trees.now.client.now platforms.now steps.old steps.new }
+{
+    // The client's files stand in the place of those of an old tree.
+    match first_alike(
+        alloc,
+        Some(trees.client),
+        trees.tree,
+        trees.std_tree,
+        platforms,
+    ) {
+        Err(NoMemory) => Err(PlatformError::NoMemory),
+        Ok(firsts) => vet_by(alloc, firsts.items(), trees, platforms, gate, steps),
+    }
+}

@@ -1,0 +1,9 @@
+//! What a run tells of a client, platform by platform.
+#![tactic(auto)]
+
+mod answers;
+pub mod clients;
+pub mod laws;
+mod refused;
+mod told;
+pub mod trees;
