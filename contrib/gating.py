@@ -23,6 +23,9 @@ found = ""
 Limits = collections.namedtuple("Limits", "seconds megabytes")
 limits = Limits(600, 4096)
 MOST = 1_000_000
+# how many threads the program may use: those of the processors that are at hand, as far as that gains something
+MOST_WORKERS = 64
+workers = min(len(os.sched_getaffinity(0)), 8) if hasattr(os, "sched_getaffinity") else 1
 # what stands behind the name of a program that was built or unpacked
 BUILT = re.compile("-([0-9a-f]{16}|linux-amd64)$")
 
@@ -64,6 +67,7 @@ def add_limits(parser):
     whole = dict(type=count, metavar="N")
     parser.add_argument("--seconds", default=limits.seconds, help="how long each program that reads the module may take; %d where it isn't given" % limits.seconds, **whole)
     parser.add_argument("--megabytes", default=limits.megabytes, help="how much data it may hold; %d where it isn't given" % limits.megabytes, **whole)
+    parser.add_argument("--workers", default=workers, type=threads, metavar="N", help="how many threads apigate uses, from 1 to %d; as many as there are processors, and at most 8, where it isn't given. What is printed doesn't depend on it" % MOST_WORKERS)
 
 
 def count(text):
@@ -73,10 +77,17 @@ def count(text):
     return int(text)
 
 
-def limit(seconds, megabytes):
-    """Sets the limits, that of data also for this script, which reads files of the module too."""
-    global limits
-    limits = Limits(seconds, megabytes)
+def threads(text):
+    """A number of threads; what else stands there is a ValueError."""
+    if not 1 <= int(text) <= MOST_WORKERS:
+        raise ValueError(text)
+    return int(text)
+
+
+def limit(seconds, megabytes, many):
+    """Sets the limits, that of data also for this script, which reads files of the module too, and the number of threads."""
+    global limits, workers
+    limits, workers = Limits(seconds, megabytes), many
     most = resource.getrlimit(resource.RLIMIT_DATA)[1]
     resource.setrlimit(resource.RLIMIT_DATA, (bounds.least(megabytes << 20, most), most))
 
@@ -160,7 +171,7 @@ def told(words):
 
 def common(std, platforms):
     """The words of each mode that reads trees."""
-    return ["--std", std, "--platforms", platforms]
+    return ["--std", std, "--platforms", platforms, "--workers", str(workers)]
 
 
 def promised(std, platforms, old):

@@ -68,7 +68,7 @@ def of_file(folder):
 def asked(about, words=None):
     """The words, then the file, then what stands for neither."""
     found = vars(parser(about).parse_args(words))
-    gating.limit(found["seconds"], found["megabytes"])
+    gating.limit(found["seconds"], found["megabytes"], found["workers"])
     said = of_file(found["module"])
     for name in ("platforms", "api", "except"):
         found[name] = found[name] or said.get(name, "")

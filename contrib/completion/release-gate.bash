@@ -18,11 +18,11 @@ _release_gate() {
             compopt -o filenames 2>/dev/null
             mapfile -t COMPREPLY < <(compgen -d -- "$current")
             ;;
-        --platforms | --seconds | --megabytes) ;;
+        --platforms | --seconds | --megabytes | --workers) ;;
         --format) mapfile -t COMPREPLY < <(compgen -W "text github json sarif junit" -- "$current") ;;
         *)
             if [[ $current == -* ]]; then
-                mapfile -t COMPREPLY < <(compgen -W "--old --new --version --release --platforms --api --except --write-api --update-except --clients --places --format --seconds --megabytes --help" -- "$current")
+                mapfile -t COMPREPLY < <(compgen -W "--old --new --version --release --platforms --api --except --write-api --update-except --clients --places --format --seconds --megabytes --workers --help" -- "$current")
             else
                 compopt -o filenames 2>/dev/null
                 mapfile -t COMPREPLY < <(compgen -d -- "$current")
