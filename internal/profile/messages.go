@@ -7,6 +7,7 @@ import "strings"
 var leftOut = []string{
 	"missing return", "duplicate case", "multiple defaults", "duplicate key", "duplicate index", "label ", "invalid break", "invalid continue", "fallthrough ",
 	"cannot fallthrough", "missing function body", "result parameter ", "initialization cycle", "break ", "continue ", "goto ", "cannot switch on ",
+	"cannot import package as init",
 }
 
 // LeftOut says whether Go's checker says it by a rule that apigate leaves out, as that a variable isn't used, or goes on with what it said before.

@@ -100,11 +100,11 @@ func (w *World) chosen(folder string) (found []string) {
 	return found
 }
 
-// Import finds a package of the module, or one of the declarations.
+// Import finds a package of the module, or one of the declarations. No program is found, and none in a folder that isn't looked into.
 func (w *World) Import(path string) (*types.Package, error) {
 	if trees.IsUnder(path, w.Tree.Module) {
 		one := w.byPath[path]
-		if one == nil || one.typing {
+		if one == nil || one.typing || one.Files[0].Tree.Name.Name == "main" {
 			return nil, fmt.Errorf("not found")
 		}
 		w.check(one)
@@ -117,13 +117,18 @@ func (w *World) Import(path string) (*types.Package, error) {
 		return found, nil
 	}
 	w.others[path] = nil
+	for _, element := range strings.Split(path, "/") {
+		if !trees.IsWalked(element) {
+			return nil, fmt.Errorf("not found")
+		}
+	}
 	var files []*ast.File
 	for _, name := range w.chosen(filepath.Join(w.std, filepath.FromSlash(path))) {
 		if file, err := parser.ParseFile(w.Set, name, nil, parser.SkipObjectResolution); err == nil {
 			files = append(files, file)
 		}
 	}
-	if len(files) == 0 {
+	if len(files) == 0 || files[0].Name.Name == "main" {
 		return nil, fmt.Errorf("not found")
 	}
 	settings := types.Config{Importer: w, Sizes: w.Platform.Sizes(), IgnoreFuncBodies: true, Error: func(error) {}}

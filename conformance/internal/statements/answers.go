@@ -41,6 +41,11 @@ func answered(set *token.FileSet, platform string, files []*ast.File, info *type
 		switch {
 		case strings.HasPrefix(each.Msg, "could not import"):
 			imports = least(imports, each.Pos)
+		case strings.Contains(each.Msg, "already declared through import of "):
+			name, _, _ := strings.Cut(each.Msg, " ")
+			twice = least(twice, behindImport(files, info, name, each.Pos))
+		case strings.Contains(each.Msg, "redeclared") && importAt(files, each.Pos) != nil:
+			twice = least(twice, importAt(files, each.Pos).Path.Pos())
 		case strings.Contains(each.Msg, "redeclared") && isTop(files, each.Pos):
 			twice = least(twice, each.Pos)
 		case strings.HasPrefix(each.Msg, "cannot declare in post statement"):
@@ -108,6 +113,36 @@ func isTop(files []*ast.File, at token.Pos) bool {
 		}
 	}
 	return false
+}
+
+// importAt is the import that begins at a place.
+func importAt(files []*ast.File, at token.Pos) *ast.ImportSpec {
+	for _, file := range files {
+		for _, spec := range file.Imports {
+			if spec.Pos() == at {
+				return spec
+			}
+		}
+	}
+	return nil
+}
+
+// behindImport is the second of two places of a name: that of its declaration, and the path of the first import that has it.
+func behindImport(files []*ast.File, info *types.Info, name string, declared token.Pos) token.Pos {
+	for _, file := range files {
+		for _, spec := range file.Imports {
+			object := info.Implicits[spec]
+			if spec.Name != nil {
+				object = info.Defs[spec.Name]
+			}
+			if object != nil && object.Name() == name && spec.Path.Pos() > declared {
+				return spec.Path.Pos()
+			} else if object != nil && object.Name() == name {
+				return declared
+			}
+		}
+	}
+	return declared
 }
 
 func names(spec ast.Spec) []*ast.Ident {
@@ -241,6 +276,16 @@ func classesOf(files []*ast.File, info *types.Info, said []string) (found []stri
 // ofStatement is the class of a statement over which Go and the profile differ on purpose.
 func ofStatement(node ast.Node, info *types.Info) string {
 	switch node := node.(type) {
+	case *ast.FuncLit:
+		var iota bool
+		ast.Inspect(node, func(below ast.Node) bool {
+			name, is := below.(*ast.Ident)
+			iota = iota || is && info.Uses[name] == types.Universe.Lookup("iota")
+			return true
+		})
+		if iota {
+			return "iota in a function literal"
+		}
 	case *ast.RangeStmt:
 		if over := info.TypeOf(node.X); over != nil {
 			if pointer, is := over.Underlying().(*types.Pointer); is {
