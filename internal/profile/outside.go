@@ -79,6 +79,16 @@ func (w *walker) several(values []ast.Expr, to []types.Type) {
 	}
 }
 
+// HasIota says whether the predeclared iota stands in a tree.
+func HasIota(tree ast.Node, info *types.Info) (has bool) {
+	ast.Inspect(tree, func(node ast.Node) bool {
+		name, is := node.(*ast.Ident)
+		has = has || is && info.Uses[name] == types.Universe.Lookup("iota")
+		return !has
+	})
+	return has
+}
+
 // isOwn says whether a type may be embedded in a client's: one that the client defines, or a predeclared one.
 func isOwn(t types.Type) bool {
 	if pointer, is := t.(*types.Pointer); is {

@@ -57,8 +57,8 @@ func Untyped(world *typed.World, folder, file string, line, column int) (notes [
 			continue
 		}
 		at := world.Set.File(one.Tree.Package).LineStart(line) + token.Pos(column-1)
-		if path := importAt(one.Tree, at); path != "" {
-			return []Note{c.note(at, "the import of %s isn't found", path)}
+		if spec := importAt(one.Tree, at); spec != nil {
+			return []Note{c.note(at, "%s", c.ofImport(spec))}
 		}
 		node := nodeAt(one.Tree, at)
 		if node == nil {
@@ -147,15 +147,28 @@ func (c *client) grammar(node ast.Node) string {
 	return ""
 }
 
-// importAt is the path that is imported at a place.
-func importAt(file *ast.File, at token.Pos) string {
+// importAt is the import whose path stands at a place.
+func importAt(file *ast.File, at token.Pos) *ast.ImportSpec {
 	for _, spec := range file.Imports {
 		if spec.Pos() == at || spec.Path.Pos() == at {
-			path, _ := strconv.Unquote(spec.Path.Value)
-			return path
+			return spec
 		}
 	}
-	return ""
+	return nil
+}
+
+// ofImport is what is wrong with an import: its name, which Go's checker finds declared twice, or else that it isn't found.
+func (c *client) ofImport(spec *ast.ImportSpec) string {
+	for _, fault := range c.pack.Faults {
+		if fault.Pos == spec.Pos() && strings.Contains(fault.Message, "redeclared in this block") {
+			return "go/types: " + fault.Message
+		}
+		if other := strings.TrimPrefix(fault.Message, "\tother declaration of "); fault.Pos == spec.Pos() && other != fault.Message {
+			return "go/types: " + other + " is declared in the package too"
+		}
+	}
+	path, _ := strconv.Unquote(spec.Path.Value)
+	return "the import of " + path + " isn't found"
 }
 
 // nodeAt is the innermost statement that begins at a place, or else the declaration of the name there.
@@ -205,6 +218,10 @@ func (c *client) beyond(node ast.Node) (found *Note) {
 	}
 	ast.Inspect(node, func(below ast.Node) bool {
 		switch below := below.(type) {
+		case *ast.FuncLit:
+			if profile.HasIota(below, c.pack.Info) {
+				tell(below, "`iota` in a function literal")
+			}
 		case *ast.BasicLit:
 			switch below.Kind {
 			case token.FLOAT:

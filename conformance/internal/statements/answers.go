@@ -277,13 +277,7 @@ func classesOf(files []*ast.File, info *types.Info, said []string) (found []stri
 func ofStatement(node ast.Node, info *types.Info) string {
 	switch node := node.(type) {
 	case *ast.FuncLit:
-		var iota bool
-		ast.Inspect(node, func(below ast.Node) bool {
-			name, is := below.(*ast.Ident)
-			iota = iota || is && info.Uses[name] == types.Universe.Lookup("iota")
-			return true
-		})
-		if iota {
+		if profile.HasIota(node, info) {
 			return "iota in a function literal"
 		}
 	case *ast.RangeStmt:
