@@ -39,6 +39,8 @@ def of_one(folder, old, new, room, platforms, explainer):
         path = os.path.join(folder, name)
         if name.endswith(".go") and not os.path.isfile(path):
             raise gating.Stop("%s is no file; nothing was judged" % gating.shown(path))
+        if name.endswith(".go") and gating.shown(name) != name:
+            raise gating.Stop("%s has a name that doesn't print, and its line could be another one's; nothing was judged" % gating.shown(path))
     if not os.path.isdir(folder):
         raise gating.Stop("%s isn't there: --clients names folders of packages" % gating.shown(folder))
     made = tempfile.mkdtemp(dir=room, prefix="client-")
