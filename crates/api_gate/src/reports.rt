@@ -9,4 +9,4 @@ mod judging;
 mod listing;
 mod making;
 pub mod report;
-mod vetting;
+pub mod vetting;
