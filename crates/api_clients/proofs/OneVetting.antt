@@ -72,7 +72,7 @@ module _ (tree std_tree : Tree) (files : List TreeFile) where
 pub record Below : Type 0 where
   pub units : (p : Platform) (barred : List (List ℕ)) (tree std_tree client : Tree) (a b : ClientUnits) → AreClientUnits p barred tree std_tree client (Ok a) → AreClientUnits p barred tree std_tree client (Ok b)
       → (map written a.packages.packages ≡ map written b.packages.packages) × AreWrittenAlike a.client b.client
-  pub error : (p : Platform) (barred : List (List ℕ)) (tree std_tree client : Tree) (d e : UnitError) → d ≢ error.NoMemory → e ≢ error.NoMemory → AreClientUnits p barred tree std_tree client (Err d) → AreClientUnits p barred tree std_tree client (Err e)
+  pub units_refusal : (p : Platform) (barred : List (List ℕ)) (tree std_tree client : Tree) (d e : UnitError) → d ≢ error.NoMemory → e ≢ error.NoMemory → AreClientUnits p barred tree std_tree client (Err d) → AreClientUnits p barred tree std_tree client (Err e)
       → d ≡ e
   pub apart : (p : Platform) (barred : List (List ℕ)) (tree std_tree client : Tree) (a : ClientUnits) (e : UnitError) → e ≢ error.NoMemory → AreClientUnits p barred tree std_tree client (Ok a) → AreClientUnits p barred tree std_tree client (Err e) → ⊥
   pub vetted : (world : Packages) (bits : ℕ) (u : PackageSource) (blocks : Blocks) (v w : Vetted) → IsVetted world bits u blocks v → IsVetted world bits u blocks w → v ≡ w
@@ -108,7 +108,7 @@ module _ (below : Below) (barred : List (List ℕ)) (tree std_tree client : Tree
         s.answer ∙ same_told client.files s.units.client t.units.client same.1 s.vetted ∙ ap (told_as client.files t.units.client) vetted ∙ sym t.answer
 
     one_refusal : (x y : List ℕ) → IsRefusedOn barred tree std_tree client p x → IsRefusedOn barred tree std_tree client p y → x ≡ y
-    one_refusal x y (packages_refused d n a) (packages_refused e m b) = ap (λ (f : UnitError). refusal_line side.New p (unit_text tree std_tree client.files f)) (below.error p barred tree std_tree client d e n m a b)
+    one_refusal x y (packages_refused d n a) (packages_refused e m b) = ap (λ (f : UnitError). refusal_line side.New p (unit_text tree std_tree client.files f)) (below.units_refusal p barred tree std_tree client d e n m a b)
     one_refusal x y (packages_refused d n a) (package_refused units k r b f) = absurd (below.apart p barred tree std_tree client units d n b a)
     one_refusal x y (package_refused units k r a f) (packages_refused e m b) = absurd (below.apart p barred tree std_tree client units e m a b)
     one_refusal x y (package_refused units k r a f) (package_refused others l q b g) =

@@ -5,7 +5,7 @@ pub returns-clause-answers : goal.returns-clause-answers
 returns-clause-answers c =
     let below : Below = record {
       units = c.one_client_answer.ensures.units;
-      error = c.one_client_answer.ensures.refusal;
+      units_refusal = c.one_client_answer.ensures.refusal;
       apart = c.one_client_answer.ensures.apart;
       vetted = c.one_answer.ensures;
       world = c.one_world.ensures.world;
@@ -18,7 +18,7 @@ pub returns-clause-refusal : goal.returns-clause-refusal
 returns-clause-refusal c =
     let below : Below = record {
       units = c.one_client_answer.ensures.units;
-      error = c.one_client_answer.ensures.refusal;
+      units_refusal = c.one_client_answer.ensures.refusal;
       apart = c.one_client_answer.ensures.apart;
       vetted = c.one_answer.ensures;
       world = c.one_world.ensures.world;
@@ -31,7 +31,7 @@ pub returns-clause-apart : goal.returns-clause-apart
 returns-clause-apart c =
     let below : Below = record {
       units = c.one_client_answer.ensures.units;
-      error = c.one_client_answer.ensures.refusal;
+      units_refusal = c.one_client_answer.ensures.refusal;
       apart = c.one_client_answer.ensures.apart;
       vetted = c.one_answer.ensures;
       world = c.one_world.ensures.world;
