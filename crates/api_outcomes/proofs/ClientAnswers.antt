@@ -1,5 +1,5 @@
 -- Something is told of a client on platforms, or there is a first refusal.
-use Rattle.std.proofs.Common.{◌≡◌, ◌≢◌, ◌⊎◌, ℕ, List, [], ◌∷◌, map, Option, Some, None, Result, Ok, Err, refl, sym, ap, subst, inl, inr}
+use Rattle.std.proofs.Common.{◌≡◌, ◌≢◌, ◌⊎◌, ℕ, List, [], ◌∷◌, map, Option, Some, None, Result, Ok, Err, refl, ap, subst, inl, inr}
 use Rattle.api_clients.specs.ClientAnswers.{AreAnswers, IsAnsweredOn, IsFirstRefusal, IsRefusedOn, package_refused, packages_refused, refused_here, refused_later, told_as}
 use Rattle.api_outcomes.proofs.WorldsOn.{IsRead}
 use Rattle.api_refusals.specs.Refusals.{package_text, refusal_line, unit_text}
@@ -50,7 +50,7 @@ pub record ClientsBelow : Type 0 where
 
 mapped : {A B : Type 0} (f : A → B) (xs : List A) (y : B) → Has (map f xs) y → (x : A) × Has xs x × (f x ≡ y)
 mapped f [] y h = absurd h
-mapped f (x ∷ xs) y (inl e) = (x, inl refl, sym e)
+mapped f (x ∷ xs) y (inl e) = (x, inl refl, e)
 mapped f (x ∷ xs) y (inr h) = let k = mapped f xs y h in (k.0, inr k.1, k.2)
 
 pathed : (files : List UnitFile) (blocks : List (List LiteralBlock)) (c : Option ClientUnit) → IsClientOf files blocks c → IsClientPath c
