@@ -63,6 +63,10 @@ func InCall(call *ast.CallExpr, info *types.Info) bool {
 // InLiteral says so of the elements of a composite literal; those of an imported struct aren't given without keys.
 func InLiteral(literal *ast.CompositeLit, info *types.Info) bool {
 	of := info.Types[literal].Type
+	if of == nil {
+		// what has no type is told by the checker
+		return false
+	}
 	if pointer, is := of.Underlying().(*types.Pointer); is && literal.Type == nil {
 		of = pointer.Elem()
 	}

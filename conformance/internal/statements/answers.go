@@ -36,6 +36,10 @@ func answered(set *token.FileSet, platform string, files []*ast.File, info *type
 		if profile.LeftOut(each.Msg) {
 			continue
 		}
+		if strings.HasPrefix(each.Msg, "select case must be") {
+			// the form of a communication is of the grammar here
+			return answer{Line: "refused", Said: []string{placed(set, each.Pos) + ": " + each.Msg}}
+		}
 		found.Said = append(found.Said, placed(set, each.Pos)+": "+strings.Join(strings.Fields(each.Msg), " "))
 		found.At = append(found.At, set.Position(each.Pos))
 		switch {
