@@ -1,12 +1,15 @@
 -- What is told of a client on a platform, by what is answered of the packages.
-use Rattle.std.proofs.Common.{◌≡◌, ◌+◌, ◌≤◌, ℕ, Option, Some, None, List, [], ◌∷◌, length, Result, Ok, Err, sym, subst, arith}
+use Rattle.std.proofs.Common.{◌≡◌, ◌+◌, ◌≤◌, ℕ, Option, Some, None, List, [], ◌∷◌, length, Result, Ok, Err, ap, ◌∙◌, sym, subst, arith}
 use Rattle.std.specs.Option.{option_copied}
 use denote.Ref.{Bor}
 use Rattle.api_clients.specs.ClientAnswers.{AreUnitsOn, IsRefusedOn, packages_refused, package_refused}
 use Rattle.api_clients.specs.ClientChecks.{CountsAtMost, all_packages, count_more, count_none, no_package}
-use Rattle.api_clients.specs.inner.ClientSteps.{AnswersOfUnits, AnswersOn, IsErrorOn, IsTold, IsToldOf, IsUnitRefusal}
+use Rattle.api_clients.specs.inner.ClientSteps.{AnswersOfUnits, AnswersOn, IsErrorOn, IsTold, IsToldOf}
+use Rattle.api_refusals.specs.Refusals.{refusal_line, unit_text}
 use Rattle.api_reports.specs.declared.clients.ClientAnswer.{ClientAnswer}
+use Rattle.api_texts.specs.declared.lines.Side.TheVariants as side
 use Rattle.api_worlds.specs.PlatformWorlds.{sources_of}
+use Rattle.api_worlds.specs.Refused.{IsUnitRefusal}
 use Rattle.api_worlds.specs.declared.error.PlatformError.{PlatformError}
 use Rattle.api_worlds.specs.declared.error.PlatformError.TheVariants as error
 use Rattle.go_client_units.specs.ClientUnits.{AreClientUnits, IsClientOf}
@@ -45,9 +48,10 @@ module _ (barred : List (List ℕ)) (tree std_tree client : Tree) (p : Platform)
   pub client_pathed : (units : ClientUnits) → AreUnitsOn barred tree std_tree client p units → IsClientPath units.client
   client_pathed units a = let w = a.2.2 in pathed w.files a.2.0.blocks units.client w.client
 
-  pub units_error : (e : UnitError) (x : PlatformError) → AreClientUnits p barred tree std_tree client (Err e) → IsUnitRefusal tree std_tree client p e x → IsErrorOn barred tree std_tree client p x
-  units_error e (error.Refused line) a h = subst (IsRefusedOn barred tree std_tree client p) (sym h.1) (packages_refused e h.0 a)
-  units_error e error.NoMemory a h = tt
+  pub units_error : (files : List TreeFile) (e : UnitError) (x : PlatformError) → files ≡ client.files → AreClientUnits p barred tree std_tree client (Err e) → IsUnitRefusal tree std_tree files side.New p e x → IsErrorOn barred tree std_tree client p x
+  units_error files e (error.Refused line) f a h =
+      subst (IsRefusedOn barred tree std_tree client p) (sym (h.1 ∙ ap (λ (fs : List TreeFile). refusal_line side.New p (unit_text tree std_tree fs e)) f)) (packages_refused e h.0 a)
+  units_error files e error.NoMemory f a h = tt
 
   pub units_answer : (units : ClientUnits) (r : Result ClientAnswer PlatformError) → AreUnitsOn barred tree std_tree client p units → AnswersOfUnits tree std_tree client p units r → AnswersOn barred tree std_tree client p r
   units_answer units (Ok a) k h = record { units = units; are = k; world = h.world; is = h.is; vetted = h.told.vetted; told = h.told.told; answer = h.told.answer }

@@ -7,11 +7,13 @@ ghost use Rattle.go_clients.specs.Vetting.{IsClientPath};
 ghost use Rattle.go_model.specs.files.Trees.{IsTree};
 ghost use Rattle.go_work.specs.Paths.{AreOfPackages};
 
-use crate::refused::{refused_package, refused_units};
 use crate::told::told;
 use crate::trees::ClientTrees;
 use api_reports::clients::ClientAnswer;
+use api_texts::lines::Side;
 use api_worlds::error::PlatformError;
+use api_worlds::refused::{refused_package, refused_units};
+use api_worlds::trees::PlatformTrees;
 use go_base::memory::NoMemory;
 use go_base::steps::Steps;
 use go_client_unit_laws::laws::client_unit_paths;
@@ -50,7 +52,17 @@ fn answer_of<G: Gate, L: Copy>(
         },
         Err(WorkError::NoMemory) => Err(PlatformError::NoMemory),
         Err(WorkError::Refused(_, unit, error)) => Err(refused_package(
-            alloc, trees, platform, &unit, error,
+            alloc,
+            Side::New,
+            &PlatformTrees {
+                tree: trees.tree,
+                std_tree: trees.std_tree,
+                barred: trees.barred,
+                platform,
+            },
+            trees.client.files.items(),
+            &unit,
+            error,
         )),
     }
 }
@@ -80,7 +92,18 @@ pub(crate) fn answer_on<G: Gate, L: Copy>(
         trees.barred,
         platform,
     ) {
-        Err(error) => Err(refused_units(alloc, trees, platform, &error)),
+        Err(error) => Err(refused_units(
+            alloc,
+            Side::New,
+            &PlatformTrees {
+                tree: trees.tree,
+                std_tree: trees.std_tree,
+                barred: trees.barred,
+                platform,
+            },
+            trees.client.files.items(),
+            &error,
+        )),
         Ok(units) => answer_of(alloc, trees, platform, units, gate, steps),
     }
 }

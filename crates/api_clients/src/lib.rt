@@ -4,6 +4,5 @@
 mod answers;
 pub mod clients;
 pub mod laws;
-mod refused;
 mod told;
 pub mod trees;

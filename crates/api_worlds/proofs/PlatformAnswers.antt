@@ -1,13 +1,14 @@
 -- The world of a platform, or its first refusal, by what is answered of its packages.
-use Rattle.std.proofs.Common.{◌≡◌, ◌+◌, ◌≤◌, ℕ, List, length, Ok, Err, IfOk, sym, subst, arith}
+use Rattle.std.proofs.Common.{◌≡◌, ◌+◌, ◌≤◌, ℕ, List, [], length, Ok, Err, IfOk, sym, subst, arith}
 use Rattle.std.specs.Prelude.{Result}
 use Rattle.api_texts.specs.declared.lines.Side.{Side}
 use Rattle.api_worlds.specs.PlatformWorlds.{AnswersWorld, AreUnitsOn, CountsAtMost, no_package, all_packages, IsErrorOn, IsRefusedOn, packages_refused, package_refused, sources_of}
 use Rattle.api_worlds.specs.LeftOut.{AreLeftOutOn}
+use Rattle.api_worlds.specs.Refused.{IsUnitRefusal}
 use Rattle.api_worlds.specs.declared.platform_world.PlatformWorld.{PlatformWorld}
 use Rattle.api_worlds.specs.declared.error.PlatformError.{PlatformError}
 use Rattle.api_worlds.specs.declared.error.PlatformError.TheVariants as error
-use Rattle.api_worlds.specs.inner.PlatformSteps.{AnswersOfUnits, AreLinesOf, IsUnitRefusal}
+use Rattle.api_worlds.specs.inner.PlatformSteps.{AnswersOfUnits, AreLinesOf}
 use Rattle.go_exposed.specs.OfferedWorlds.{IsWorldOf}
 use Rattle.go_model.specs.declared.files.platform.Platform.{Platform}
 use Rattle.go_model.specs.declared.files.tree.Tree.{Tree}
@@ -22,7 +23,7 @@ pub world_kept : (p : Platform) (units : Units) (bits : ℕ) (w v : Packages) �
 world_kept p units bits w v b e i = subst (λ (n : ℕ). IsWorldOf n (sources_of units) v) b (subst (IsWorldOf bits (sources_of units)) (sym e) i)
 
 module _ (barred : List (List ℕ)) (tree std_tree : Tree) (s : Side) (p : Platform) where
-  pub units_error : (e : UnitError) (x : PlatformError) → AreUnitsOfTrees p barred tree std_tree (Err e) → IsUnitRefusal tree std_tree s p e x → IsErrorOn barred tree std_tree s p x
+  pub units_error : (e : UnitError) (x : PlatformError) → AreUnitsOfTrees p barred tree std_tree (Err e) → IsUnitRefusal tree std_tree [] s p e x → IsErrorOn barred tree std_tree s p x
   units_error e (error.Refused line) a h = subst (IsRefusedOn barred tree std_tree s p) (sym h.1) (packages_refused e h.0 a)
   units_error e error.NoMemory a h = tt
 

@@ -1,3 +1,4 @@
 pub mod PlatformWorlds
 pub mod LeftOut
+pub mod Refused
 pub mod inner

@@ -5,5 +5,6 @@ pub mod error;
 pub mod laws;
 pub mod left_out;
 pub mod platform_world;
+pub mod refused;
 pub mod trees;
 pub mod world;

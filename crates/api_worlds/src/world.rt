@@ -6,90 +6,24 @@ ghost use Rattle.go_work.specs.Paths.{AreOfPackages};
 ghost use Rattle.api_worlds.specs.LeftOut.{AreLeftOutOn, all_lines};
 ghost use Rattle.api_worlds.specs.PlatformWorlds.{AnswersWorld, CountsAtMost};
 ghost use Rattle.api_worlds.specs.inner.KeptLines.{kept_lines};
-ghost use Rattle.api_worlds.specs.inner.PlatformSteps.{AnswersOfUnits, AreLinesOf, IsPackageRefusal, IsUnitRefusal, TellsFault};
+ghost use Rattle.api_worlds.specs.inner.PlatformSteps.{AnswersOfUnits, AreLinesOf};
 
 use crate::error::PlatformError;
 use crate::left_out::left_out;
 use crate::platform_world::PlatformWorld;
+use crate::refused::{refused_package, refused_units};
 use crate::trees::PlatformTrees;
-use api_refusals::refusals::{PackageFault, package_line, unit_line};
 use api_texts::lines::Side;
 use go_base::memory::NoMemory;
 use go_base::steps::Steps;
-use go_check::error::CheckError;
 use go_outside::gate::Gate;
 use go_reading::laws::unit_paths;
 use go_reading::units::units;
-use go_units::unit::Unit;
-use go_units::unit_error::UnitError;
 use go_units::unit_list::Units;
 use go_work::checked::CheckedWorld;
 use go_work::error::WorkError;
 use go_work::world::world;
 use std::alloc::Global;
-
-fn refused_units(
-    alloc: Global,
-    side: Side,
-    trees: &PlatformTrees<'_>,
-    error: &UnitError,
-) -> PlatformError
-    ensures { IsUnitRefusal trees.now.tree.now trees.now.std_tree.now side trees.now.platform error.now result }
-{
-    match error {
-        UnitError::NoMemory => PlatformError::NoMemory,
-        _ => match unit_line(
-            alloc,
-            side,
-            trees.platform,
-            trees.tree,
-            trees.std_tree,
-            &[],
-            error,
-        ) {
-            Ok(line) => PlatformError::Refused(line),
-            Err(NoMemory) => PlatformError::NoMemory,
-        },
-    }
-}
-
-fn fault_of(error: CheckError) -> Option<PackageFault>
-    ensures { TellsFault error result }
-{
-    match error {
-        CheckError::Redeclared(place) => Some(PackageFault::Redeclared(place)),
-        CheckError::MissingImport(place) => Some(PackageFault::MissingImport(place)),
-        CheckError::Unsound(place) => Some(PackageFault::Unsound(place)),
-        CheckError::NoMemory => None,
-    }
-}
-
-fn refused_package(
-    alloc: Global,
-    side: Side,
-    trees: &PlatformTrees<'_>,
-    unit: &Unit,
-    error: CheckError,
-) -> PlatformError
-    ensures { IsPackageRefusal trees.now.tree.now trees.now.std_tree.now side trees.now.platform unit.now error result }
-{
-    match fault_of(error) {
-        None => PlatformError::NoMemory,
-        Some(fault) => match package_line(
-            alloc,
-            side,
-            trees.platform,
-            trees.tree,
-            trees.std_tree,
-            &[],
-            unit,
-            fault,
-        ) {
-            Ok(line) => PlatformError::Refused(line),
-            Err(NoMemory) => PlatformError::NoMemory,
-        },
-    }
-}
 
 // The world of packages, and the lines of what is left out of them.
 fn with_left_out(
@@ -126,7 +60,12 @@ fn world_of<G: Gate, L: Copy>(
         },
         Err(WorkError::NoMemory) => Err(PlatformError::NoMemory),
         Err(WorkError::Refused(_, unit, error)) => Err(refused_package(
-            alloc, side, trees, &unit, error,
+            alloc,
+            side,
+            trees,
+            &[],
+            &unit,
+            error,
         )),
     }
 }
@@ -156,7 +95,7 @@ pub fn world_on<G: Gate, L: Copy>(
         trees.barred,
         trees.platform,
     ) {
-        Err(error) => Err(refused_units(alloc, side, trees, &error)),
+        Err(error) => Err(refused_units(alloc, side, trees, &[], &error)),
         Ok(units) => world_of(alloc, side, trees, units, gate, steps),
     }
 }

@@ -31,10 +31,15 @@ use go_units::unit_list::Units;
 use std::alloc::Global;
 
 /// A client's package, with the blocks of the functions and function literals of each of its files.
-#[derive(Drop)]
 pub struct ClientUnit {
     pub unit: Unit,
     pub blocks: List<List<LiteralBlock>>,
+}
+
+impl Drop for ClientUnit {
+    fn drop(self) {
+        let ClientUnit { unit: _, blocks: _ } = self;
+    }
 }
 
 /// The packages that a module and a client reach, in canonical order, and the client, where a file of it remains.

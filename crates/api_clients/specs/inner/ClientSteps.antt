@@ -1,16 +1,12 @@
 -- What the steps to the answer of a platform answer.
-use Rattle.std.specs.Prelude.{◌≡◌, ◌≢◌, ◌+◌, ℕ, Option, Some, None, List, [], ◌∷◌, ◌++◌, Result, Ok, Err, option_map}
+use Rattle.std.specs.Prelude.{◌≡◌, ◌+◌, ℕ, Option, Some, None, List, [], ◌∷◌, ◌++◌, Result, Ok, Err}
 use Rattle.api_clients.specs.ClientAnswers.{IsAnsweredOn, IsRefusedOn, told_as}
-use Rattle.api_refusals.specs.PackageFaults.{refusal_of}
-use Rattle.api_refusals.specs.Refusals.{package_text, refusal_line, refused_text, unit_text}
-use Rattle.api_refusals.specs.declared.refusals.PackageFault.{PackageFault}
+use Rattle.api_refusals.specs.Refusals.{package_text, refusal_line}
 use Rattle.api_reports.specs.declared.clients.ClientAnswer.{ClientAnswer}
 use Rattle.api_texts.specs.declared.lines.Side.TheVariants as side
 use Rattle.api_worlds.specs.PlatformWorlds.{sources_of}
 use Rattle.api_worlds.specs.declared.error.PlatformError.{PlatformError}
 use Rattle.api_worlds.specs.declared.error.PlatformError.TheVariants as error
-use Rattle.go_check.specs.Answers.{refusal_of as told_by}
-use Rattle.go_check.specs.declared.error.CheckError.{CheckError}
 use Rattle.go_client_typings.specs.declared.vetted.Vetted.{Vetted}
 use Rattle.go_client_units.specs.declared.units.ClientUnit.{ClientUnit}
 use Rattle.go_client_units.specs.declared.units.ClientUnits.{ClientUnits}
@@ -23,13 +19,6 @@ use Rattle.go_model.specs.declared.files.tree.TreeFile.{TreeFile}
 use Rattle.go_model.specs.files.Platforms.{bits_of}
 use Rattle.go_model.specs.worlds.Worlds.{Packages}
 use Rattle.go_typings.specs.Refusals.{Refusal}
-use Rattle.go_units.specs.declared.unit.«Unit».{«Unit» as PackageUnit}
-use Rattle.go_units.specs.declared.unit_error.UnitError.{UnitError}
-use Rattle.go_units.specs.declared.unit_error.UnitError.TheVariants as unit
-
--- the refusal that a fault line tells, of an error of a check
-abbrev pub TellsFault : CheckError → Option PackageFault → Type 0
-TellsFault e fault = option_map refusal_of fault ≡ told_by e
 
 -- this is told of the client over the world
 pub record IsTold (files : List TreeFile) (world : Packages) (bits : ℕ) (c : Option ClientUnit) (a : ClientAnswer) : Type 0 where
@@ -38,16 +27,6 @@ pub record IsTold (files : List TreeFile) (world : Packages) (bits : ℕ) (c : O
   pub answer : a ≡ told_as files c vetted
 
 module _ (tree std_tree client : Tree) (p : Platform) where
-  -- the packages aren't taken for this error
-  abbrev pub IsUnitRefusal : UnitError → PlatformError → Type 0
-  IsUnitRefusal e (error.Refused line) = (e ≢ unit.NoMemory) × (line ≡ refusal_line side.New p (unit_text tree std_tree client.files e))
-  IsUnitRefusal e error.NoMemory = Unit {0}
-
-  -- the package is refused for this error
-  abbrev pub IsPackageRefusal : PackageUnit → CheckError → PlatformError → Type 0
-  IsPackageRefusal u e (error.Refused line) = (r : Refusal) × (told_by e ≡ Some r) × (line ≡ refusal_line side.New p (refused_text tree std_tree client.files u r))
-  IsPackageRefusal u e error.NoMemory = Unit {0}
-
   -- what is told over the world of these units
   pub record IsToldOf (units : ClientUnits) (a : ClientAnswer) : Type 0 where
     pub world : Packages

@@ -10,7 +10,7 @@ pub answer_of-requires-clause-path : goal.answer_of-requires-clause-path
 answer_of-requires-clause-path g c = client_pathed c.args.trees.now.barred.now c.args.trees.now.tree.now c.args.trees.now.std_tree.now c.args.trees.now.client.now c.args.platform c.in-Ok.units c.in-Ok.ensures
 
 pub returns-in-Err-clause-answer : goal.returns-in-Err-clause-answer
-returns-in-Err-clause-answer g c = units_error c.args.trees.now.barred.now c.args.trees.now.tree.now c.args.trees.now.std_tree.now c.args.trees.now.client.now c.args.platform c.in-Err.error c.refused_units.result c.in-Err.ensures c.refused_units.ensures
+returns-in-Err-clause-answer g c = units_error c.args.trees.now.barred.now c.args.trees.now.tree.now c.args.trees.now.std_tree.now c.args.trees.now.client.now c.args.platform c.items.result.now c.in-Err.error c.refused_units.result c.items.ensures c.in-Err.ensures c.refused_units.ensures
 
 pub returns-in-Err-clause-steps : goal.returns-in-Err-clause-steps
 returns-in-Err-clause-steps g c = no_count c.args.trees.now.barred.now c.args.trees.now.tree.now c.args.trees.now.std_tree.now c.args.trees.now.client.now c.args.platform c.args.steps.now

@@ -1,36 +1,37 @@
 //! What is refused on a platform.
 ghost use Rattle.std.specs.Prelude.{◌≡◌};
-ghost use Rattle.api_clients.specs.inner.ClientSteps.{IsPackageRefusal, IsUnitRefusal, TellsFault};
+ghost use Rattle.api_worlds.specs.Refused.{IsPackageRefusal, IsUnitRefusal, TellsFault};
 
-use crate::trees::ClientTrees;
+use crate::error::PlatformError;
+use crate::trees::PlatformTrees;
 use api_refusals::refusals::{PackageFault, package_line, unit_line};
 use api_texts::lines::Side;
-use api_worlds::error::PlatformError;
 use go_base::memory::NoMemory;
 use go_check::error::CheckError;
-use go_model::files::platform::Platform;
+use go_model::files::tree::TreeFile;
 use go_units::unit::Unit;
 use go_units::unit_error::UnitError;
 use std::alloc::Global;
 
-/// That the packages of the trees, or the client's files, aren't taken.
-pub(crate) fn refused_units(
+/// That the packages of trees, or the files of a client over them, aren't taken. Where there is no client it has no files.
+pub fn refused_units(
     alloc: Global,
-    trees: &ClientTrees<'_>,
-    platform: Platform,
+    side: Side,
+    trees: &PlatformTrees<'_>,
+    client: &[TreeFile],
     error: &UnitError,
 ) -> PlatformError
-    ensures { IsUnitRefusal trees.now.tree.now trees.now.std_tree.now trees.now.client.now platform error.now result }
+    ensures { IsUnitRefusal trees.now.tree.now trees.now.std_tree.now client.now side trees.now.platform error.now result }
 {
     match error {
         UnitError::NoMemory => PlatformError::NoMemory,
         _ => match unit_line(
             alloc,
-            Side::New,
-            platform,
+            side,
+            trees.platform,
             trees.tree,
             trees.std_tree,
-            trees.client.files.items(),
+            client,
             error,
         ) {
             Ok(line) => PlatformError::Refused(line),
@@ -50,25 +51,26 @@ fn fault_of(error: CheckError) -> Option<PackageFault>
     }
 }
 
-/// That a package isn't typed.
-pub(crate) fn refused_package(
+/// That a package of trees, or of trees with a client over them, isn't typed. Where there is no client it has no files.
+pub fn refused_package(
     alloc: Global,
-    trees: &ClientTrees<'_>,
-    platform: Platform,
+    side: Side,
+    trees: &PlatformTrees<'_>,
+    client: &[TreeFile],
     unit: &Unit,
     error: CheckError,
 ) -> PlatformError
-    ensures { IsPackageRefusal trees.now.tree.now trees.now.std_tree.now trees.now.client.now platform unit.now error result }
+    ensures { IsPackageRefusal trees.now.tree.now trees.now.std_tree.now client.now side trees.now.platform unit.now error result }
 {
     match fault_of(error) {
         None => PlatformError::NoMemory,
         Some(fault) => match package_line(
             alloc,
-            Side::New,
-            platform,
+            side,
+            trees.platform,
             trees.tree,
             trees.std_tree,
-            trees.client.files.items(),
+            client,
             unit,
             fault,
         ) {
