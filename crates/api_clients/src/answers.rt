@@ -23,9 +23,12 @@ use go_outside::gate::Gate;
 use go_work::error::WorkError;
 use go_work::world::world;
 use std::alloc::Global;
+use std::thread::Threads;
 
-fn answer_of<G: Gate, L: Copy>(
+fn answer_of<R: Threads + Sync, G: Gate + Sync, L: Copy + Send>(
+    rt: &R,
     alloc: Global,
+    workers: u32,
     trees: &ClientTrees<'_>,
     platform: Platform,
     units: ClientUnits,
@@ -39,7 +42,7 @@ fn answer_of<G: Gate, L: Copy>(
 {
     let ClientUnits { packages, client } = units;
     let bits = platform.int_bits();
-    match world(alloc, packages, bits, gate, steps) {
+    match world(rt, alloc, packages, bits, workers, gate, steps) {
         Ok(checked) => match told(
             alloc,
             trees.client.files.items(),
@@ -68,8 +71,10 @@ fn answer_of<G: Gate, L: Copy>(
 }
 
 /// What is told of a client on a platform: what `vet_on_platforms` says, on it alone.
-pub(crate) fn answer_on<G: Gate, L: Copy>(
+pub(crate) fn answer_on<R: Threads + Sync, G: Gate + Sync, L: Copy + Send>(
+    rt: &R,
     alloc: Global,
+    workers: u32,
     trees: &ClientTrees<'_>,
     platform: Platform,
     gate: &G,
@@ -104,6 +109,6 @@ pub(crate) fn answer_on<G: Gate, L: Copy>(
             trees.client.files.items(),
             &error,
         )),
-        Ok(units) => answer_of(alloc, trees, platform, units, gate, steps),
+        Ok(units) => answer_of(rt, alloc, workers, trees, platform, units, gate, steps),
     }
 }

@@ -19,6 +19,7 @@ use go_file_choices::alike::first_alike;
 use go_model::files::platform::Platform;
 use go_outside::gate::Gate;
 use std::alloc::Global;
+use std::thread::Threads;
 
 // The same answer as that of this number, where there is one.
 fn answer_at(
@@ -60,8 +61,10 @@ fn push_again(
 
 // Adds what is told on a platform, where the first one that is alike has this number: what was told there already, or what is told
 // now.
-fn add_next<G: Gate, L: Copy>(
+fn add_next<R: Threads + Sync, G: Gate + Sync, L: Copy + Send>(
+    rt: &R,
     alloc: Global,
+    workers: u32,
     answers: &mut List<ClientAnswer>,
     first: usize,
     trees: &ClientTrees<'_>,
@@ -85,7 +88,7 @@ fn add_next<G: Gate, L: Copy>(
             Err(NoMemory) => Err(PlatformError::NoMemory),
         };
     }
-    match answer_on(alloc, trees, platform, gate, steps) {
+    match answer_on(rt, alloc, workers, trees, platform, gate, steps) {
         Err(error) => Err(error),
         Ok(answer) => match answers.push(answer) {
             Ok(()) => Ok(()),
@@ -95,8 +98,10 @@ fn add_next<G: Gate, L: Copy>(
 }
 
 // What `vet_on_platforms` says, by the numbers of the first platforms that are alike.
-fn vet_by<G: Gate, L: Copy>(
+fn vet_by<R: Threads + Sync, G: Gate + Sync, L: Copy + Send>(
+    rt: &R,
     alloc: Global,
+    workers: u32,
     firsts: &[usize],
     trees: &ClientTrees<'_>,
     platforms: &[Platform],
@@ -115,7 +120,9 @@ fn vet_by<G: Gate, L: Copy>(
     let mut answers = List::new(alloc);
     for at in 0..platforms.len() {
         match add_next(
+            rt,
             alloc,
+            workers,
             &mut answers,
             firsts[at],
             trees,
@@ -133,8 +140,10 @@ fn vet_by<G: Gate, L: Copy>(
 /// What is told of a client on each of these platforms, over the packages of the module and those of the standard library that it and
 /// the client reach; or `Refused` with the fault line of the first platform on which a package or the client's files are refused; or
 /// `NoMemory`. The counter rises by at most the number of these packages on all platforms together.
-pub fn vet_on_platforms<G: Gate, L: Copy>(
+pub fn vet_on_platforms<R: Threads + Sync, G: Gate + Sync, L: Copy + Send>(
+    rt: &R,
     alloc: Global,
+    workers: u32,
     trees: &ClientTrees<'_>,
     platforms: &[Platform],
     gate: &G,
@@ -157,6 +166,9 @@ pub fn vet_on_platforms<G: Gate, L: Copy>(
         platforms,
     ) {
         Err(NoMemory) => Err(PlatformError::NoMemory),
-        Ok(firsts) => vet_by(alloc, firsts.items(), trees, platforms, gate, steps),
+        Ok(firsts) => {
+            let firsts = firsts.items();
+            vet_by(rt, alloc, workers, firsts, trees, platforms, gate, steps)
+        }
     }
 }

@@ -108,8 +108,10 @@ fn compared(alloc: Global, old: &ListedWorld, new: ListedWorld) -> Result<Found,
 }
 
 // What is found on a platform where there is no old tree.
-fn features_on<G: Gate, L: Copy>(
+fn features_on<R: Threads + Sync, G: Gate + Sync, L: Copy + Send>(
+    rt: &R,
     alloc: Global,
+    workers: u32,
     trees: &RunTrees<'_>,
     platform: Platform,
     gate: &G,
@@ -121,8 +123,10 @@ fn features_on<G: Gate, L: Copy>(
     ensures steps { CountsAtMost trees.now.barred.now None trees.now.tree.now trees.now.std_tree.now (platform ∷ []) steps.old steps.new }
 {
     match listed_on(
+        rt,
         alloc,
         Side::New,
+        workers,
         &PlatformTrees {
             tree: trees.tree,
             std_tree: trees.std_tree,
@@ -164,8 +168,9 @@ fn verdict_of(
     }
 }
 
-// What is found on a platform where there is an old tree: the one tree is looked at after the other.
-fn verdict_in_order<G: Gate, L: Copy>(
+// What is found on a platform where there is an old tree: the one tree is looked at after the other, by one worker.
+fn verdict_in_order<R: Threads + Sync, G: Gate + Sync, L: Copy + Send>(
+    rt: &R,
     alloc: Global,
     old_tree: &Tree,
     trees: &RunTrees<'_>,
@@ -180,8 +185,10 @@ fn verdict_in_order<G: Gate, L: Copy>(
     ensures steps { CountsAtMost trees.now.barred.now (Some old_tree.now) trees.now.tree.now trees.now.std_tree.now (platform ∷ []) steps.old steps.new }
 {
     match listed_on(
+        rt,
         alloc,
         Side::Old,
+        1,
         &PlatformTrees {
             tree: old_tree,
             std_tree: trees.std_tree,
@@ -194,8 +201,10 @@ fn verdict_in_order<G: Gate, L: Copy>(
         Err(error) => Err(error),
         Ok(old) => {
             let new = listed_on(
+                rt,
                 alloc,
                 Side::New,
+                1,
                 &PlatformTrees {
                     tree: trees.tree,
                     std_tree: trees.std_tree,
@@ -214,6 +223,7 @@ fn verdict_in_order<G: Gate, L: Copy>(
 fn verdict_at_once<R: Threads + Sync, G: Gate + Sync, L: Copy + Send>(
     rt: &R,
     alloc: Global,
+    workers: u32,
     old_tree: &Tree,
     trees: &RunTrees<'_>,
     platform: Platform,
@@ -229,6 +239,7 @@ fn verdict_at_once<R: Threads + Sync, G: Gate + Sync, L: Copy + Send>(
     let (before, now) = both_on(
         rt,
         alloc,
+        workers,
         &PlatformTrees {
             tree: old_tree,
             std_tree: trees.std_tree,
@@ -278,9 +289,9 @@ fn verdict_on<R: Threads + Sync, G: Gate + Sync, L: Copy + Send>(
     ensures steps { CountsAtMost trees.now.barred.now (Some old_tree.now) trees.now.tree.now trees.now.std_tree.now (platform ∷ []) steps.old steps.new }
 {
     if workers < 2 {
-        return verdict_in_order(alloc, old_tree, trees, platform, gate, steps);
+        return verdict_in_order(rt, alloc, old_tree, trees, platform, gate, steps);
     }
-    verdict_at_once(rt, alloc, old_tree, trees, platform, gate, steps)
+    verdict_at_once(rt, alloc, workers, old_tree, trees, platform, gate, steps)
 }
 
 /// What is found on a platform: what `find` says, on it alone. Two workers look at both trees at once.
@@ -300,7 +311,7 @@ pub(crate) fn found_on<R: Threads + Sync, G: Gate + Sync, L: Copy + Send>(
     ensures steps { CountsAtMost trees.now.barred.now (option_copied trees.now.old_tree) trees.now.tree.now trees.now.std_tree.now (platform ∷ []) steps.old steps.new }
 {
     match trees.old_tree {
-        None => features_on(alloc, trees, platform, gate, steps),
+        None => features_on(rt, alloc, workers, trees, platform, gate, steps),
         Some(old_tree) => verdict_on(rt, alloc, workers, old_tree, trees, platform, gate, steps),
     }
 }

@@ -50,9 +50,11 @@ pub(crate) struct CountedWorld<L> {
 }
 
 /// What one tree has on a platform, and its features.
-pub(crate) fn listed_on<G: Gate, L: Copy>(
+pub(crate) fn listed_on<R: Threads + Sync, G: Gate + Sync, L: Copy + Send>(
+    rt: &R,
     alloc: Global,
     side: Side,
+    workers: u32,
     trees: &PlatformTrees<'_>,
     gate: &G,
     steps: &mut Steps<L>,
@@ -61,7 +63,7 @@ pub(crate) fn listed_on<G: Gate, L: Copy>(
     ensures answer { AnswersListed trees.now.barred.now trees.now.tree.now trees.now.std_tree.now side trees.now.platform result }
     ensures steps { CountsAtMost trees.now.barred.now trees.now.tree.now trees.now.std_tree.now trees.now.platform steps.old steps.new }
 {
-    match world_on(alloc, side, trees, gate, steps) {
+    match world_on(rt, alloc, side, workers, trees, gate, steps) {
         Err(error) => Err(error),
         Ok(world) => match features(alloc, &world.world) {
             Err(NoMemory) => Err(PlatformError::NoMemory),
@@ -71,9 +73,11 @@ pub(crate) fn listed_on<G: Gate, L: Copy>(
 }
 
 // The same, with a counter of its own, which begins at none.
-fn counted_on<G: Gate, L: Copy>(
+fn counted_on<R: Threads + Sync, G: Gate + Sync, L: Copy + Send>(
+    rt: &R,
     alloc: Global,
     side: Side,
+    workers: u32,
     trees: &PlatformTrees<'_>,
     gate: &G,
     owner: L,
@@ -83,14 +87,15 @@ fn counted_on<G: Gate, L: Copy>(
     ensures steps { CountsAtMost trees.now.barred.now trees.now.tree.now trees.now.std_tree.now trees.now.platform 0 result.steps }
 {
     let mut steps = Steps::new(owner);
-    let outcome = listed_on(alloc, side, trees, gate, &mut steps);
+    let outcome = listed_on(rt, alloc, side, workers, trees, gate, &mut steps);
     CountedWorld { outcome, steps }
 }
 
-/// The same of an old and a new tree, each in a thread of its own where one can be made.
+/// The same of an old and a new tree, each in a thread of its own where one can be made, by half of the workers.
 pub(crate) fn both_on<R: Threads + Sync, G: Gate + Sync, L: Copy + Send>(
     rt: &R,
     alloc: Global,
+    workers: u32,
     old: &PlatformTrees<'_>,
     new: &PlatformTrees<'_>,
     gate: &G,
@@ -104,13 +109,15 @@ pub(crate) fn both_on<R: Threads + Sync, G: Gate + Sync, L: Copy + Send>(
     ensures new_steps { CountsAtMost new.now.barred.now new.now.tree.now new.now.std_tree.now new.now.platform 0 result.1.steps }
 {
     sendable();
+    let half = workers / 2;
+    let others = workers - half;
     let before = move || -> CountedWorld<L>
-        requires { IsSync G.row × IsSend L.row × AreTrees old.now.barred.now old.now.tree.now old.now.std_tree.now }
+        requires { IsSync R.row × IsSync G.row × IsSend L.row × AreTrees old.now.barred.now old.now.tree.now old.now.std_tree.now }
         ensures { AnswersListed old.entry.now.barred.now old.entry.now.tree.now old.entry.now.std_tree.now side.Old old.entry.now.platform result.outcome × CountsAtMost old.entry.now.barred.now old.entry.now.tree.now old.entry.now.std_tree.now old.entry.now.platform 0 result.steps }
-    { counted_on(alloc, Side::Old, old, gate, owner) };
+    { counted_on(rt, alloc, Side::Old, others, old, gate, owner) };
     let now = move || -> CountedWorld<L>
-        requires { IsSync G.row × IsSend L.row × AreTrees new.now.barred.now new.now.tree.now new.now.std_tree.now }
+        requires { IsSync R.row × IsSync G.row × IsSend L.row × AreTrees new.now.barred.now new.now.tree.now new.now.std_tree.now }
         ensures { AnswersListed new.entry.now.barred.now new.entry.now.tree.now new.entry.now.std_tree.now side.New new.entry.now.platform result.outcome × CountsAtMost new.entry.now.barred.now new.entry.now.tree.now new.entry.now.std_tree.now new.entry.now.platform 0 result.steps }
-    { counted_on(alloc, Side::New, new, gate, owner) };
+    { counted_on(rt, alloc, Side::New, half, new, gate, owner) };
     join(rt, before, now)
 }

@@ -85,7 +85,8 @@ fn on_platforms<R: Threads + Sync, G: Gate + Sync, L: Copy + Send>(
 }
 
 // What is told of the client of these inputs decides.
-fn on_client<G: Gate, L: Copy>(
+fn on_client<R: Threads + Sync, G: Gate + Sync, L: Copy + Send>(
+    rt: &R,
     alloc: Global,
     request: &Request,
     inputs: &Inputs,
@@ -105,7 +106,9 @@ fn on_client<G: Gate, L: Copy>(
 {
     let platforms = request.platforms.items();
     match vet_on_platforms(
+        rt,
         alloc,
+        request.workers,
         &ClientTrees {
             tree: &inputs.tree,
             std_tree: &inputs.std_tree,
@@ -144,7 +147,7 @@ fn on_modules<R: Threads + Sync, G: Gate + Sync, L: Copy + Send>(
 {
     match &inputs.client {
         None => on_platforms(rt, alloc, request, inputs, modules, gate, steps),
-        Some(client) => on_client(alloc, request, inputs, client, modules, gate, steps),
+        Some(client) => on_client(rt, alloc, request, inputs, client, modules, gate, steps),
     }
 }
 

@@ -24,6 +24,7 @@ use go_work::checked::CheckedWorld;
 use go_work::error::WorkError;
 use go_work::world::world;
 use std::alloc::Global;
+use std::thread::Threads;
 
 // The world of packages, and the lines of what is left out of them.
 fn with_left_out(
@@ -40,9 +41,11 @@ fn with_left_out(
     })
 }
 
-fn world_of<G: Gate, L: Copy>(
+fn world_of<R: Threads + Sync, G: Gate + Sync, L: Copy + Send>(
+    rt: &R,
     alloc: Global,
     side: Side,
+    workers: u32,
     trees: &PlatformTrees<'_>,
     units: Units,
     gate: &G,
@@ -53,7 +56,8 @@ fn world_of<G: Gate, L: Copy>(
     ensures left_out { IfOk result (λ found. AreLinesOf trees.now.tree.now trees.now.std_tree.now trees.now.platform units found.left_out) }
     ensures steps { steps.new ≤ steps.old + length units.packages }
 {
-    match world(alloc, units, trees.platform.int_bits(), gate, steps) {
+    let bits = trees.platform.int_bits();
+    match world(rt, alloc, units, bits, workers, gate, steps) {
         Ok(checked) => match with_left_out(alloc, trees, checked) {
             Ok(found) => Ok(found),
             Err(NoMemory) => Err(PlatformError::NoMemory),
@@ -72,9 +76,12 @@ fn world_of<G: Gate, L: Copy>(
 
 /// The world of a module's tree over the standard library's on a platform, and what is left out of them, or the fault line of its first
 /// refusal: of its packages, and then of the first package in canonical order that isn't typed. The counter rises by at most the number of the packages.
-pub fn world_on<G: Gate, L: Copy>(
+/// So many workers check them.
+pub fn world_on<R: Threads + Sync, G: Gate + Sync, L: Copy + Send>(
+    rt: &R,
     alloc: Global,
     side: Side,
+    workers: u32,
     trees: &PlatformTrees<'_>,
     gate: &G,
     steps: &mut Steps<L>,
@@ -96,6 +103,6 @@ pub fn world_on<G: Gate, L: Copy>(
         trees.platform,
     ) {
         Err(error) => Err(refused_units(alloc, side, trees, &[], &error)),
-        Ok(units) => world_of(alloc, side, trees, units, gate, steps),
+        Ok(units) => world_of(rt, alloc, side, workers, trees, units, gate, steps),
     }
 }

@@ -3,3 +3,4 @@ mod doubles;
 mod host;
 mod stores;
 mod values;
+mod workers;

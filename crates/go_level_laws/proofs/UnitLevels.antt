@@ -67,14 +67,14 @@ still_at (w ∷ us) v u zero e = e
 still_at (w ∷ us) v u (suc n) e = still_at us v u n e
 
 -- a unit of this path stands before the number
-record StandsBefore (us : List PackageUnit) (n : ℕ) (path : List ℕ) : Type 0 where
+pub record StandsBefore (us : List PackageUnit) (n : ℕ) (path : List ℕ) : Type 0 where
   pub number : ℕ
   pub before : number < n
   pub source : PackageUnit
   pub is : slice_get us number ≡ Some source
   pub place : source.path ≡ path
 
-needed_before : (among : PackageUnit → Type 0) {us : List PackageUnit} → InOrder among us → (n : ℕ) (u : PackageUnit) (path : List ℕ) → slice_get us n ≡ Some u → Has u.needs path → StandsBefore us n path
+pub needed_before : (among : PackageUnit → Type 0) {us : List PackageUnit} → InOrder among us → (n : ℕ) (u : PackageUnit) (path : List ℕ) → slice_get us n ≡ Some u → Has u.needs path → StandsBefore us n path
 needed_before among none n u path e h = none_some (slice_get [] n) u refl e
 needed_before among (next {standing = s} {u = v} o i) n u path e h = elim (last_or_before s v u n e) [
   | inl p ↦ (
@@ -90,12 +90,12 @@ needed_before among (next {standing = s} {u = v} o i) n u path e h = elim (last_
 
 -- ---- as they are written
 
-unit_at : (us : List PackageUnit) (n : ℕ) (s : PackageSource) → slice_get (map source_of us) n ≡ Some s → (u : PackageUnit) × (slice_get us n ≡ Some u) × (source_of u ≡ s)
+pub unit_at : (us : List PackageUnit) (n : ℕ) (s : PackageSource) → slice_get (map source_of us) n ≡ Some s → (u : PackageUnit) × (slice_get us n ≡ Some u) × (source_of u ≡ s)
 unit_at [] n s e = none_some (slice_get [] n) s refl e
 unit_at (u ∷ us) zero s e = (u, refl, some_once (source_of u) s e)
 unit_at (u ∷ us) (suc n) s e = unit_at us n s e
 
-written_at : (us : List PackageUnit) (n : ℕ) (u : PackageUnit) → slice_get us n ≡ Some u → slice_get (map source_of us) n ≡ Some (source_of u)
+pub written_at : (us : List PackageUnit) (n : ℕ) (u : PackageUnit) → slice_get us n ≡ Some u → slice_get (map source_of us) n ≡ Some (source_of u)
 written_at [] n u e = none_some (slice_get [] n) u refl e
 written_at (v ∷ us) zero u e = ap (λ (z : PackageUnit). Some (source_of z)) (some_once v u e)
 written_at (v ∷ us) (suc n) u e = written_at us n u e
@@ -110,7 +110,7 @@ import_there [] (suc n) i h = absurd h
 import_there (f ∷ fs) zero i h = (f, inl refl, h)
 import_there (f ∷ fs) (suc n) i h = let r = import_there fs n i h in (r.0, inr r.1, r.2)
 
-needs_path : (u : PackageUnit) (path : List ℕ) → Needs (source_of u) path → Has u.needs path
+pub needs_path : (u : PackageUnit) (path : List ℕ) → Needs (source_of u) path → Has u.needs path
 needs_path u path k =
     let f = import_there u.files k.0 k.1 k.2 in
     let j = file_has f.0.imports k.1 f.2 in

@@ -1,4 +1,12 @@
+pub mod LevelEnds
+pub mod LevelSteps
+pub mod LevelTurns
+pub mod LevelWorlds
 pub mod NextUnits
+pub mod PlannedUnits
+pub mod ReadyRows
+pub mod RowLists
+pub mod Sendable
 pub mod TakenUnits
 pub mod TypedUnits
 pub mod UnitPrefixes

@@ -74,10 +74,10 @@ module _ (among : PackageUnit → Type 0) where
 
 -- ---- what it says of paths
 
-never : IsProp ⊥
+pub never : IsProp ⊥
 never a b = absurd a
 
-has_or : (xs : List (List ℕ)) (k : List ℕ) → Has xs k ⊎ (Has xs k → ⊥)
+pub has_or : (xs : List (List ℕ)) (k : List ℕ) → Has xs k ⊎ (Has xs k → ⊥)
 has_or [] k = inr (λ h. h)
 has_or (x ∷ xs) k = told (bytes_eq x k) refl (has_or xs k)
   where

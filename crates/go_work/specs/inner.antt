@@ -1,1 +1,4 @@
+pub mod Checks
 pub mod NextUnits
+pub mod Progresses
+pub mod Rows

@@ -1,7 +1,14 @@
-//! Types the packages of a tree one after another.
+//! Types the packages of a tree, one after another or level by level.
 #![tactic(auto)]
 
+mod by_levels;
 pub mod checked;
 pub mod error;
+mod in_turn;
+mod keep;
+mod level;
+mod plan;
+mod progress;
 mod publics;
+mod rows;
 pub mod world;

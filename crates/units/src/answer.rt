@@ -18,6 +18,7 @@ use go_reading::units::units;
 use go_units::unit_error::UnitError;
 use go_units::unit_list::Units;
 use std::alloc::{AllocError, Global};
+use std::thread::Threads;
 
 fn bar(alloc: Global, barred: &mut List<Text>, path: &[u8]) -> Result<(), NoMemory>
     ensures { OnOk result (Has barred.new path.now) }
@@ -43,7 +44,8 @@ fn said(alloc: Global, word: &str) -> Result<Vec<u8>, AllocError> {
     Ok(format!(in alloc; "{word}\n")?.into_bytes())
 }
 
-fn of_trees(
+fn of_trees<R: Threads + Sync>(
+    rt: &R,
     alloc: Global,
     question: Question,
     platform: Platform,
@@ -63,12 +65,13 @@ fn of_trees(
         Err(error) => refused(alloc, &error),
         Ok(units) => match question {
             Question::Units => listed(alloc, &units),
-            Question::Features => features(alloc, platform, units),
+            Question::Features => features(rt, alloc, platform, units),
         },
     }
 }
 
-fn of_store(
+fn of_store<R: Threads + Sync>(
+    rt: &R,
     alloc: Global,
     question: Question,
     platform: Platform,
@@ -86,11 +89,12 @@ fn of_store(
     if tree.module.bytes().is_empty() {
         return said(alloc, "no module");
     }
-    of_trees(alloc, question, platform, &tree, &std_tree, barred)
+    of_trees(rt, alloc, question, platform, &tree, &std_tree, barred)
 }
 
 /// The answer to a question on these files, or the first refusal, as it is printed.
-pub fn answer(
+pub fn answer<R: Threads + Sync>(
+    rt: &R,
     alloc: Global,
     question: Question,
     platform: Platform,
@@ -99,6 +103,6 @@ pub fn answer(
 ) -> Result<Vec<u8>, AllocError> {
     match MemoryFiles::new(alloc, pairs) {
         Err(_) => said(alloc, "files clash"),
-        Ok(store) => of_store(alloc, question, platform, store, barred),
+        Ok(store) => of_store(rt, alloc, question, platform, store, barred),
     }
 }

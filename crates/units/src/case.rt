@@ -8,6 +8,7 @@ use go_model::files::platform::Platform;
 use go_outside::memory_files::FilePair;
 use go_tags::platforms::platform;
 use std::alloc::{AllocError, Global};
+use std::thread::Threads;
 
 /// The files that were told so far, the last of them apart.
 #[derive(Drop)]
@@ -71,8 +72,9 @@ impl Case {
         self.barred.push(path).map_err(out_of_memory)
     }
 
-    fn ask(
+    fn ask<R: Threads + Sync>(
         &mut self,
+        rt: &R,
         alloc: Global,
         question: Question,
         name: &str,
@@ -83,11 +85,16 @@ impl Case {
         self.end_file(alloc)?;
         let pairs = std::mem::replace(&mut self.pairs, List::new(alloc));
         let barred = std::mem::replace(&mut self.barred, List::new(alloc));
-        answer(alloc, question, platform, pairs, barred)
+        answer(rt, alloc, question, platform, pairs, barred)
     }
 
     /// Takes a line; what is to be printed.
-    pub fn take(&mut self, alloc: Global, line: &str) -> Result<Vec<u8>, AllocError> {
+    pub fn take<R: Threads + Sync>(
+        &mut self,
+        rt: &R,
+        alloc: Global,
+        line: &str,
+    ) -> Result<Vec<u8>, AllocError> {
         if line.starts_with('#') {
             return Ok(format!(in alloc; "{line}\n")?.into_bytes());
         }
@@ -99,8 +106,8 @@ impl Case {
             Some(("new", path)) => self.begin_file(alloc, "new", path)?,
             Some(("std", path)) => self.begin_file(alloc, "std", path)?,
             Some(("barred", path)) => self.bar(alloc, path)?,
-            Some(("units", name)) => return self.ask(alloc, Question::Units, name),
-            Some(("features", name)) => return self.ask(alloc, Question::Features, name),
+            Some(("units", name)) => return self.ask(rt, alloc, Question::Units, name),
+            Some(("features", name)) => return self.ask(rt, alloc, Question::Features, name),
             _ => return not_understood(alloc),
         }
         Ok(Vec::new(alloc))

@@ -14,6 +14,7 @@ use go_units::unit_list::Units;
 use go_work::error::WorkError;
 use go_work::world::world;
 use std::alloc::{AllocError, Global};
+use std::thread::Threads;
 
 fn add_lines(text: &mut Vec<u8>, alloc: Global, lines: &[Line]) -> Result<(), AllocError> {
     for line in lines {
@@ -69,11 +70,17 @@ fn of_error(alloc: Global, error: WorkError) -> Result<Vec<u8>, AllocError> {
 }
 
 /// The features of the public packages among these units, or the first refusal.
-pub fn features(alloc: Global, platform: Platform, units: Units) -> Result<Vec<u8>, AllocError>
+pub fn features<R: Threads + Sync>(
+    rt: &R,
+    alloc: Global,
+    platform: Platform,
+    units: Units,
+) -> Result<Vec<u8>, AllocError>
     requires { AreOfPackages units.packages }
 {
     let mut steps = Steps::new(());
-    let answer = world(alloc, units, platform.int_bits(), &OpenGate, &mut steps);
+    let bits = platform.int_bits();
+    let answer = world(rt, alloc, units, bits, 1, &OpenGate, &mut steps);
     let _counted = steps.end();
     match answer {
         Ok(checked) => of_world(alloc, &checked.world),

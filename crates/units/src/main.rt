@@ -31,7 +31,7 @@ fn main(rt: HostRuntime) -> Result<()> {
     let mut case = Case::new(rt.alloc());
     for line in rt.lines(rt.alloc()) {
         let line = line?;
-        let answer = case.take(rt.alloc(), line.as_str())?;
+        let answer = case.take(&rt, rt.alloc(), line.as_str())?;
         out.write_all(answer.as_slice())?;
     }
     out.flush()?;

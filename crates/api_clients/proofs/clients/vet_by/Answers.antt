@@ -5,7 +5,7 @@ pub loop-at-init : goal.loop-at-init
 loop-at-init g c = taken_none c.args.trees.now.barred.now c.args.trees.now.tree.now c.args.trees.now.std_tree.now c.args.trees.now.client.now c.args.platforms.now c.new-answers.result c.args.steps.now c.new-answers.ensures
 
 pub add_next-requires-clause-alike : goal.add_next-requires-clause-alike
-add_next-requires-clause-alike g c =
+add_next-requires-clause-alike g c κs within =
     alike_earlier c.args.trees.now.barred.now c.args.trees.now.tree.now c.args.trees.now.std_tree.now c.args.trees.now.client.now c.args.platforms.now c.args.firsts.now c.requires.firsts c.loop-at.at c.loop-at.answers c.args.steps.now c.loop-at.steps c.loop-at-test.true c.loop-at.invariant
 
 pub returns-in-Err-clause-answer : goal.returns-in-Err-clause-answer

@@ -1,8 +1,8 @@
 use Rattle.api_worlds.proofs.PlatformAnswers.{lines_answer, no_count, units_answer, units_count, units_error}
 use Rattle.api_worlds.proofs.world.world_on.Goals as goal
 
-pub world_of-requires : goal.world_of-requires
-world_of-requires g c = λ u h.
+pub world_of-requires-after_bounds : goal.world_of-requires-after_bounds
+world_of-requires-after_bounds g c κs within = λ u h.
     let k = c.unit_paths.ensures c.args.trees.now.platform c.args.trees.now.barred.now c.args.trees.now.tree.now c.args.trees.now.std_tree.now c.in-Ok.units c.requires.tree c.requires.std c.requires.named c.in-Ok.ensures u h in
     record { pathed = k.0; foreign = k.1 }
 

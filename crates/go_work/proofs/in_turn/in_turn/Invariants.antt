@@ -4,7 +4,7 @@ use Rattle.go_exposed.specs.OfferedWorlds.{IsWorldOf}
 use Rattle.go_work.specs.Answers.{sources}
 use Rattle.go_work.specs.KeptUnits.{AreKept}
 use Rattle.go_work.specs.inner.NextUnits.{AreTaken}
-use Rattle.go_work.proofs.world.world.Given as goal
+use Rattle.go_work.proofs.in_turn.in_turn.Given as goal
 
 abbrev pub invariant-loop-unit : goal.invariant-loop-unit
 invariant-loop-unit g l = record {

@@ -3,7 +3,7 @@ use Rattle.go_model.specs.declared.types.package.Package.{Package}
 use Rattle.go_model.specs.worlds.Worlds.{IsWorld, with_package}
 use Rattle.go_sources.specs.UnitSources.{source_of}
 use Rattle.go_typings.specs.PackageWorlds.{over}
-use Rattle.go_work.proofs.world.add_next.Goals as goal
+use Rattle.go_work.proofs.in_turn.add_next.Goals as goal
 
 pub add-requires : goal.add-requires
 add-requires g c =

@@ -4,7 +4,7 @@ use Rattle.go_base.specs.Lists.{Has}
 use Rattle.go_work.proofs.NextUnits.{has_at, refused_next}
 use Rattle.go_work.proofs.TakenUnits.{taken_kept, taken_next, taken_none, taken_world}
 use Rattle.go_work.proofs.UnitPrefixes.{imports_typed, unit_absent}
-use Rattle.go_work.proofs.world.world.Goals as goal
+use Rattle.go_work.proofs.in_turn.in_turn.Goals as goal
 
 pub loop-unit-init : goal.loop-unit-init
 loop-unit-init g c = record {

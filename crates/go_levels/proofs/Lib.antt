@@ -1,0 +1,3 @@
+pub mod LevelCounts
+pub mod LevelLists
+pub mod LevelSteps

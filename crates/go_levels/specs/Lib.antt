@@ -1,0 +1,2 @@
+pub mod LevelNumbers
+pub mod UnitLevels
