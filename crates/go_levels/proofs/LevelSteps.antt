@@ -206,24 +206,24 @@ all_levels units i known levels is h = record {
   many = h.many ∙ is;
   are = record {
     above = λ n m k. (
-      let us = units.packages in
-      let u = unit_at us n k.0 k.1 in
-      let s = k.2 in
-      let v = unit_at us m s.0 s.1 in
-      let low = units_rise units n m k in
-      let there = slice_get_within us n u.0 u.1 in
-      let needs = needs_path u.0 v.0.path (subst (λ (z : PackageSource). Needs (source_of u.0) z.path) (sym v.2) (subst (λ (z : PackageSource). Needs z s.0.path) (sym u.2) s.2)) in
-      h.above n m u.0 v.0 (omega (arith, there, is)) low u.1 v.1 needs
-      );
+        let us = units.packages in
+        let u = unit_at us n k.0 k.1 in
+        let s = k.2 in
+        let v = unit_at us m s.0 s.1 in
+        let low = units_rise units n m k in
+        let there = slice_get_within us n u.0 u.1 in
+        let needs = needs_path u.0 v.0.path (subst (λ (z : PackageSource). Needs (source_of u.0) z.path) (sym v.2) (subst (λ (z : PackageSource). Needs z s.0.path) (sym u.2) s.2)) in
+        h.above n m u.0 v.0 (omega (arith, there, is)) low u.1 v.1 needs
+        );
     least = λ n l. (
-      let us = units.packages in
-      let many = as_many us in
-      let u = unit_there us n (omega (arith, l, many)) in
-      elim (h.least n u.0 (omega (arith, l, many, is)) u.1) [
-        | inl z ↦ inl z
-        | inr q ↦ inr (q.0, (source_of u.0, written_at us n u.0 u.1, (source_of q.1, written_at us q.0 q.1 q.3, path_needs u.0 q.1.path q.4)), q.5)
-      ]
-      );
+        let us = units.packages in
+        let many = as_many us in
+        let u = unit_there us n (omega (arith, l, many)) in
+        elim (h.least n u.0 (omega (arith, l, many, is)) u.1) [
+          | inl z ↦ inl z
+          | inr q ↦ inr (q.0, (source_of u.0, written_at us n u.0 u.1, (source_of q.1, written_at us q.0 q.1 q.3, path_needs u.0 q.1.path q.4)), q.5)
+        ]
+        );
   };
   few = λ n. let l = h.few n in let f = units.few in omega (arith, l, is, f);
 }

@@ -1,9 +1,6 @@
 use Rattle.api_findings.proofs.FoundOn.{both_count, old_count, old_error}
 use Rattle.api_findings.proofs.found.verdict_in_order.Goals as goal
 
-pub listed_on-requires-after_bounds : goal.listed_on-requires-after_bounds
-listed_on-requires-after_bounds g c κs within = record { trees = record { is_tree = c.requires.old.0; is_std = c.requires.trees.is_std; is_named = c.requires.old.1; is_barred = c.requires.old.2 } }
-
 pub returns-in-Err-clause-answer : goal.returns-in-Err-clause-answer
 returns-in-Err-clause-answer g c = old_error c.args.trees.now.barred.now c.args.trees.now.tree.now c.args.trees.now.std_tree.now c.args.platform c.args.old_tree.now c.in-Err.error c.in-Err.ensures.answer
 
