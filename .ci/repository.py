@@ -87,16 +87,16 @@ def edits(name):
     return [sorted(glob.glob(os.path.join(TOP, folder, "*.edit"))) for folder in ("crates/%s/must-fail" % name, "wrong-bodies/%s" % name)]
 
 
-def misfit(path, name):
-    """Says why a wrong body doesn't apply to the crate, if it doesn't: each `old:` text stands once in its file."""
+def misfit(path, folder, inside_of):
+    """Says why an edit doesn't apply to the files of a folder of these paths, if it doesn't: each `old:` text stands once in its file."""
     with open(path, encoding="utf-8") as file:
         told = file.read().split("\n")
     inside, old, texts, changes = None, None, {}, 0
     for line in told:
         if line.startswith("file: "):
             inside = line[len("file: "):].strip()
-            at = os.path.join(TOP, "crates", name, inside)
-            if not re.match(r"(src|specs|proofs)/", inside) or not os.path.isfile(at):
+            at = os.path.join(TOP, folder, inside)
+            if not re.match(inside_of, inside) or not os.path.isfile(at):
                 return "there is no file %s" % inside
             if inside not in texts:
                 with open(at, encoding="utf-8") as file:
