@@ -1,12 +1,15 @@
 // Makes clients of old versions of modules, and tells which of them stop compiling against the new version, by Go's type checker.
 //
-//	clients [--all] [--keep DIR] [--list DIR] [--shown N] [--most N] [--random N] [--seed N] [--workers N] [FILE]
+//	clients [--all] [--keep DIR] [--list DIR] [--listed N] [--steps N] [--shown N] [--most N] [--random N] [--seed N] [--workers N] [FILE]
 //
 // FILE, or the standard input, has a line `NAME OLD NEW STD` for each pair: the folders of two versions of a module, and of the
 // declarations of the packages that they import from elsewhere, or `-` for Go's own. Of each pair it prints `NAME clients N broken N`,
 // and for some of the clients that are broken `NAME broken CLIENT MESSAGE`; or `NAME refused SIDE MESSAGE` where Go can't type a version.
 // Without --all the clients are those that name something whose declaration, or one that it leads to, isn't the same in both versions:
 // no other one can break.
+//
+// With --listed and --steps so many clients of a pair are listed that are of the profile, and that take one step outside of it alone (steps.go);
+// of each it prints `NAME listed CLIENT`, and behind tabs the step or `-`, what it has to be over the new version, and Go's messages there (listed.go).
 //
 // A line `NAME OLD NEW STD CLIENT` asks of the client in a folder. The answer is `NAME client WORD MESSAGE`: it is untyped against the old
 // version, outside the profile, broken, or kept.
@@ -63,6 +66,8 @@ var (
 	keep    = flag.String("keep", "", "a folder for the clients that stop compiling")
 	list    = flag.String("list", "", "a folder for all clients")
 	all     = flag.Bool("all", false, "also clients of what leads to no change")
+	listed  = flag.Int("listed", 0, "how many clients of a pair are listed and told, where not all are")
+	steps   = flag.Int("steps", 0, "how many clients of a pair that take one step outside of the profile are listed and told")
 	shown   = flag.Int("shown", 20, "how many clients of a pair are told")
 	most    = flag.Int("most", 4000, "how many clients of a pair, before those made by chance")
 	random  = flag.Int("random", 300, "how many random clients of one package")
@@ -108,7 +113,7 @@ func mentions(text, name string) bool {
 			return false
 		}
 		at += found
-		if at == 0 || !isPart(text[at-1]) && text[at-1] != '.' {
+		if at == 0 || !isPart(text[at-1]) && text[at-1] != '.' || strings.HasSuffix(text[:at], "...") {
 			return true
 		}
 		at++
@@ -262,6 +267,11 @@ func (p *prepared) prepare(folder string, std *standard) {
 func (u *unit) profiled(old *tree) (p *parsedUnit, count int) {
 	u.generate()
 	u.randomly(*seed, *random)
+	return u.typedAlone(old, func(found []string) bool { return len(found) == 0 })
+}
+
+// typedAlone keeps the clients that are typed against the old version, and of whose steps outside of the profile it is so.
+func (u *unit) typedAlone(old *tree, wanted func(found []string) bool) (p *parsedUnit, count int) {
 	p = u.parse()
 	for _, one := range u.blocks {
 		one.kept = len(one.decls) > 0
@@ -274,10 +284,14 @@ func (u *unit) profiled(old *tree) (p *parsedUnit, count int) {
 		one.kept = false
 	}
 	for _, one := range u.blocks {
-		for _, decl := range one.decls {
-			one.kept = one.kept && outside(decl, info) == ""
+		if !one.kept {
+			continue
 		}
-		if one.kept {
+		var found []string
+		for _, decl := range one.decls {
+			found = append(found, outside(decl, info)...)
+		}
+		if one.kept = wanted(found); one.kept {
 			count++
 		}
 	}
@@ -295,10 +309,17 @@ func (p *prepared) compare(of pair, now *tree) string {
 	}
 	var told []string
 	clients, broken := 0, 0
+	var inside, outside []one
 	for _, explored := range p.units {
 		u := explored.over(focus, *most/len(p.units))
 		parsed, count := u.profiled(p.tree)
 		clients += count
+		if *listed+*steps > 0 {
+			stepped := explored.over(focus, *most/len(p.units))
+			stepped.stepped(p.tree, now)
+			inside, outside = append(inside, u.keptOnes()...), append(outside, stepped.keptOnes()...)
+			continue
+		}
 		for _, one := range u.blocks {
 			if one.kept && *list != "" {
 				write(filepath.Join(*list, of.name, u.nameOf(one)), u.text([]*block{one}))
@@ -319,6 +340,8 @@ func (p *prepared) compare(of pair, now *tree) string {
 			}
 		}
 	}
+	told = append(told, listOf(of, p.tree, now, inside, *listed)...)
+	told = append(told, listOf(of, p.tree, now, outside, *steps)...)
 	return strings.Join(append([]string{fmt.Sprintf("%s clients %d broken %d", of.name, clients, broken)}, told...), "\n") + "\n"
 }
 
@@ -425,8 +448,8 @@ func vet(of pair, old, now *tree) string {
 	}
 	for _, file := range files {
 		for _, decl := range file.Decls {
-			if why := outside(decl, info); why != "" {
-				return fmt.Sprintf("%s client outside %s\n", of.name, why)
+			if why := outside(decl, info); len(why) > 0 {
+				return fmt.Sprintf("%s client outside %s\n", of.name, why[0])
 			}
 		}
 	}

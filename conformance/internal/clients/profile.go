@@ -8,6 +8,7 @@ import (
 	"go/types"
 	"math/big"
 
+	"apigate/conformance/internal/differences"
 	"apigate/internal/profile"
 )
 
@@ -24,7 +25,7 @@ func isFraction(t types.Type) bool {
 	return is && basic.Info()&(types.IsFloat|types.IsComplex) != 0
 }
 
-// valued names what constants of a node a client of the profile hasn't.
+// valued names what constants or constraints of a node a client of the profile hasn't.
 func valued(node ast.Node, info *types.Info) string {
 	switch node := node.(type) {
 	case *ast.BasicLit:
@@ -32,13 +33,13 @@ func valued(node ast.Node, info *types.Info) string {
 			return "no constant is a fraction"
 		}
 	case *ast.BinaryExpr:
-		if node.Op == token.SHL || node.Op == token.SHR {
-			left, right := info.Types[node.X], info.Types[node.Y]
-			if left.Value != nil && right.Value == nil {
-				// An untyped constant takes a type from the context, which the literal itself doesn't show.
-				if _, is := profile.Unparen(node.X).(*ast.BasicLit); is {
-					return "no untyped constant is shifted by a count that is no constant"
-				}
+		if differences.OfNode(node, info) == differences.Shifted {
+			return "no untyped constant is shifted by a count that is no constant"
+		}
+	case *ast.InterfaceType:
+		for _, field := range node.Methods.List {
+			if of := info.Types[field.Type].Type; len(field.Names) == 0 && of != nil && !types.IsInterface(of) {
+				return "no interface is a constraint"
 			}
 		}
 	case *ast.Ident:
@@ -54,17 +55,23 @@ func valued(node ast.Node, info *types.Info) string {
 	return ""
 }
 
-// outside names a step of a typed declaration that a client of the profile hasn't; it is empty where there is none.
-func outside(decl ast.Decl, info *types.Info) string {
-	if found := profile.Outside(decl, info); len(found) > 0 {
-		return found[0].Rule
+// outside names the steps of a typed declaration that a client of the profile hasn't, and then what constants it hasn't.
+func outside(decl ast.Decl, info *types.Info) (found []string) {
+	for _, step := range profile.Outside(decl, info) {
+		found = append(found, step.Rule)
 	}
-	why := ""
-	ast.Inspect(decl, func(node ast.Node) bool {
-		if node != nil && why == "" {
-			why = valued(node, info)
+	return append(found, unvalued(decl, info)...)
+}
+
+// unvalued names the constants and constraints of a typed declaration or file that a client of the profile hasn't.
+func unvalued(tree ast.Node, info *types.Info) (found []string) {
+	ast.Inspect(tree, func(node ast.Node) bool {
+		if node != nil {
+			if why := valued(node, info); why != "" {
+				found = append(found, why)
+			}
 		}
-		return why == ""
+		return true
 	})
-	return why
+	return found
 }

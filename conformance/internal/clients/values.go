@@ -17,6 +17,7 @@ type block struct {
 	name, text string
 	decls      []ast.Decl
 	kept       bool
+	step       string // that it takes outside of the profile
 }
 
 type mode int
@@ -57,6 +58,7 @@ type unit struct {
 	texts   map[string]bool
 	most    int
 	chooser *chooser       // while clients are made by chance
+	step    string         // while clients that take this step are made
 	focus   map[string]int // how far what is changed is from each name that leads to it; nothing where all clients are wanted
 	fars    map[types.Type]int
 }
@@ -334,7 +336,7 @@ func (u *unit) client(write func(s *scope)) {
 	if u.chooser != nil {
 		u.chooser.left--
 	}
-	u.blocks = append(u.blocks, &block{name: fmt.Sprintf("c%d", s.number), text: text})
+	u.blocks = append(u.blocks, &block{name: fmt.Sprintf("c%d", s.number), text: text, step: u.step})
 }
 
 // never is the distance of what leads to no change.
