@@ -1,6 +1,8 @@
 """The trees of bench/hostile: what a module can hold at most of one thing. Each is made for a share of the limits, 4, 2 or 1."""
 import collections
 
+import client_bodies
+
 FILE, TREE, FILES, PACKAGES, FOLDERS, FROZEN, MAKES = 4 << 20, 64 << 20, 20000, 4096, 65536, 16 << 20, 2000
 
 # a tree's files by the share, the mode in which it is read, and the statuses with which that may end
@@ -87,11 +89,12 @@ one_file("types of later ones", "", lambda n: "type t%d t%d\n" % (n, n + 1), lam
 one_file("embedded pointers", "type t0 struct{ F int }\n", lambda n: "type t%d struct{ *t%d }\n" % (n, n - 1), lambda last: "type Top struct{ t%d }\n" % last)
 one_file("embedded interfaces", "type t0 interface{ M() }\n", lambda n: "type t%d interface{ t%d }\n" % (n, n - 1), lambda last: "type Top interface{ t%d }\n" % last)
 tree("an interface that one embeds again and again", "features", (0, 6))(lambda share: module("package p\ntype I interface {" + "".join("m%d();" % n for n in range(200000 // share)) + "}\ntype J interface {" + "I;" * (900000 // share) + "}\n"))
-one_file("fields", "type X struct {\n", lambda n: "F%d int\n" % n, lambda last: "}\n")
-one_file("methods of an interface", "type X interface {\n", lambda n: "M%d()\n" % n, lambda last: "}\n")
+# a type of more than 100,000 nodes is refused
+one_file("fields", "type X struct {\n", lambda n: "F%d int\n" % n, lambda last: "}\n", (0, 3))
+one_file("methods of an interface", "type X interface {\n", lambda n: "M%d()\n" % n, lambda last: "}\n", (0, 3))
 one_file("methods of a type", "type X int\n", lambda n: "func (X) M%d()\n" % n)
-one_file("parameters", "func X(", lambda n: "a%d int," % n, lambda last: ")\n")
-one_file("results of a call", "func f() (int", lambda n: ",int", lambda last: ")\nfunc g(...int) int\nvar X = g(f())\n")
+one_file("parameters", "func X(", lambda n: "a%d int," % n, lambda last: ")\n", (0, 3))
+one_file("results of a call", "func f() (int", lambda n: ",int", lambda last: ")\nfunc g(...int) int\nvar X = g(f())\n", (0, 3))
 one_file("a type of 65,535 nodes in each line", doubled("func(*) *"), lambda n: "var v%d a15\n" % n)
 one_file("comparisons at a type of 65,535 nodes", doubled("struct{ F, G * }"), lambda n: "var v%d = x == y\n" % n)
 one_file("conversions to a type of 65,535 nodes", doubled("struct{ F, G * }"), lambda n: "var v%d = a15(x)\n" % n)
@@ -148,3 +151,31 @@ tree("interfaces and types that implement them all", "judge", (0,))(lambda share
     "package p\n" + "".join("type I%d interface{ m() }\ntype T%d struct{}\nfunc (T%d) m()\n" % (n, n, n) for n in range(1000 // share))]))
 tree("a type with methods that an interface lists", "judge", (0,))(lambda share: pair(*2 * [
     "package p\ntype I interface{ u()\n" + "".join("M%d()\n" % n for n in range(4000 // share)) + "}\ntype T int\nfunc (T) u()\n" + "".join("func (T) M%d()\n" % n for n in range(4000 // share))]))
+
+
+# clients, whose bodies `vet` reads
+def client(text):
+    """The files of a client with one file."""
+    return {**client_bodies.MODULE, "client/c.go": text}
+
+
+for kind, (make, most) in client_bodies.KINDS.items():
+    kind == "platforms" or tree("a client of " + kind, "vet")(lambda share, make=make, most=most: {**client_bodies.MODULE, **make(most // share)})
+
+
+def one_client(name, head, link, foot, statuses=(0,), limit=FILE):
+    """A tree whose client is one file of so many bytes with one function."""
+    tree("a client of " + name, "vet", statuses)(lambda share: client(filled((limit - len(link(1))) // share, "package c\n" + head, link, foot)))
+
+
+one_client("blocks in one another, again and again", "func f(x int) {\n", lambda n: "{" * 200 + "x++" + "}" * 200 + "\n", lambda last: "}\n")
+one_client("open braces", "func f() ", lambda n: "{" * 64, lambda last: "\n", (3,), 4_000_000)
+one_client("labels", "func f() {\n", lambda n: "l%d: goto l%d\n" % (n, n), lambda last: "}\n")
+one_client("jumps to a later label", "func f() {\n", lambda n: "goto l\n", lambda last: "l:\n}\n")
+one_client("names in nested scopes", "func f(x int) {\n", lambda n: "{ x := x + %d; _ = x }\n" % n, lambda last: "}\n")
+one_client("values of a statement", "func f(x int) {\nvar y int\n", lambda n: "x, y = y, x\n", lambda last: "}\n")
+one_client("names of one declaration", "func f() { var ", lambda n: "a%d, " % n, lambda last: "z int; _ = z }\n")
+one_client("cases of communications", "func f(c chan int) { select {\n", lambda n: "case x := <-c: _ = x + %d\n" % n, lambda last: "} }\n")
+one_client("literals in one another, again and again", "func f(x int) {\n", lambda n: "func() {" * 60 + "x++" + "}()" * 60 + "\n", lambda last: "}\n")
+one_client("a type of 65,535 nodes in each line", doubled("func(*) *") + "func f() {\n", lambda n: "var v%d a15; _ = v%d\n" % (n, n), lambda last: "}\n", limit=FILE // 16)
+one_client("comparisons at a type of 65,535 nodes", doubled("struct{ F, G * }") + "func f() {\n", lambda n: "_ = x == y\n", lambda last: "}\n", limit=FILE // 64)

@@ -15,8 +15,9 @@ KIT = os.path.join(TOOLS, "rlibs")
 FUNCTION = re.compile(r"^( *)(?:pub(?:\([a-z]+\))? )?fn (\w+)", re.M)
 IMPL = re.compile(r"^impl\b(.*)$", re.M)
 IMPLEMENTED = re.compile(r" *(?:(?:\w+::)*(\w+)(?:<.*>)? for )?(?:\w+::)*(\w+)")
-# what a proof file says whose names an edit took away, and what the compiler says of a text that it can't read
-NAMES = re.compile(r"(note: )?(\./)?proofs/.*(has no field|is not in scope|has no `|was not admitted)")
+# what a proof file says whose names an edit took away, in a line that may end behind the module's name, and what the compiler says of a text that it
+# can't read
+NAMES = re.compile(r"(note: )?(\./)?proofs/.*(has no field|is not in scope|has no `|: module `[^`]*`$|was not admitted)")
 UNREAD = re.compile(r"(?:\./)?(src|specs)/\S+:\d+:\d+: error: (?!`[^`]*`: )")
 PLACE = re.compile(r"(?:note: )?(?:\./)?(\S+?):(\d+):\d+:")
 
@@ -125,7 +126,11 @@ class Crate:
         first = next((line for line in told if not NAMES.match(line)), None)
         if first:
             return "refused", first
-        return ("not judged", "only a proof file fails: " + told[0]) if told else ("proved", "no goal fails of what it changes")
+        if told:
+            return "not judged", "only a proof file fails: " + told[0]
+        # a function without a proof file, of a goal of which only the search speaks
+        open_goal = next((line for line in lines for it in mine if re.match(r"fn %s::(?:\w+::)*%s: .*`search` did not prove" % (self.name, it), line)), None)
+        return ("refused", open_goal) if open_goal else ("proved", "no goal fails of what it changes")
 
     def is_about(self, line, function, texts):
         # of functions that call one another the goals begin with the function's name, as what a call requires does with that of the called one

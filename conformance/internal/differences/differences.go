@@ -13,7 +13,7 @@ import (
 const (
 	Past      = "a constant past 128 bits"
 	Inexact   = "a constant of a float or complex type"
-	shifted   = "an untyped constant shifted by what is no constant"
+	Shifted   = "an untyped constant shifted by what is no constant"
 	Twice     = "a constant key that stands twice"
 	Unwritten = "a grammar that differs"
 	Besides   = "what a type form is asked besides"
@@ -103,7 +103,7 @@ func OfNode(node ast.Node, info *types.Info) string {
 		}
 		count := info.Types[tree.Y].Value
 		if count == nil && ofUntyped(tree.X, info) {
-			return shifted
+			return Shifted
 		}
 		if count != nil && count.Kind() == constant.Int && constant.Compare(count, token.GTR, constant.MakeInt64(1074)) {
 			return Far

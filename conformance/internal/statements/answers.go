@@ -3,23 +3,26 @@ package main
 import (
 	"fmt"
 	"go/ast"
+	"go/constant"
 	"go/token"
 	"go/types"
 	"path/filepath"
 	"strings"
 
-	"apigate/conformance/internal/differences"
 	"apigate/internal/profile"
 	"apigate/internal/typed"
 )
 
-// An answer is the line of a client on a platform by Go's checker, the classes of differences that its text has, and what the checker said.
+// An answer is the line of a client on a platform by Go's checker, the lines that this program may give in its place, and what the checker said.
 type answer struct {
-	Line    string
-	Classes []string
-	Said    []string
-	At      []token.Position `json:"-"`
+	Line string
+	Else []other `json:",omitempty"`
+	Said []string
+	Left []string `json:",omitempty"` // what it says by rules that are left out, but that something isn't used
 }
+
+// An other line is one that a class of differences on purpose gives, at the places of its nodes.
+type other struct{ Line, Class string }
 
 // placed is a place of a client as the report writes it.
 func placed(set *token.FileSet, at token.Pos) string {
@@ -27,69 +30,215 @@ func placed(set *token.FileSet, at token.Pos) string {
 	return fmt.Sprintf("%s:%d:%d", filepath.Base(place.Filename), place.Line, place.Column)
 }
 
-// answered is the answer of a client of parsed files, the errors of which the checker gave with their places.
-func answered(set *token.FileSet, platform string, files []*ast.File, info *types.Info, errors []types.Error) answer {
-	var found answer
-	seek := &seeker{}
-	var twice, imports token.Pos = nowhere, nowhere
-	for _, each := range errors {
-		if profile.LeftOut(each.Msg) {
-			continue
-		}
-		if strings.HasPrefix(each.Msg, "select case must be") {
-			// the form of a communication is of the grammar here
-			return answer{Line: "refused", Said: []string{placed(set, each.Pos) + ": " + each.Msg}}
-		}
-		found.Said = append(found.Said, placed(set, each.Pos)+": "+strings.Join(strings.Fields(each.Msg), " "))
-		found.At = append(found.At, set.Position(each.Pos))
-		switch {
-		case strings.HasPrefix(each.Msg, "could not import"):
-			imports = least(imports, each.Pos)
-		case strings.Contains(each.Msg, "already declared through import of "):
-			name, _, _ := strings.Cut(each.Msg, " ")
-			twice = least(twice, behindImport(files, info, name, each.Pos))
-		case strings.Contains(each.Msg, "redeclared") && importAt(files, each.Pos) != nil:
-			twice = least(twice, importAt(files, each.Pos).Path.Pos())
-		case strings.Contains(each.Msg, "redeclared") && isTop(files, each.Pos):
-			twice = least(twice, each.Pos)
-		case strings.HasPrefix(each.Msg, "cannot declare in post statement"):
-			// the form of the loop says so
-		case strings.HasSuffix(each.Msg, "in type switch"):
-			seek.listed = append(seek.listed, each.Pos)
-		default:
-			seek.errors = append(seek.errors, each.Pos)
-		}
-	}
-	for _, file := range files {
-		for _, spec := range file.Imports {
-			if spec.Path.Value == `"unsafe"` {
-				imports = least(imports, spec.Path.Pos())
-			}
-		}
-	}
-	found.Classes = classesOf(files, info, found.Said)
-	at := twice
+// A survey is what Go's checker says of a client, sorted by what this program makes of it.
+type survey struct {
+	platform       string
+	set            *token.FileSet
+	files          []*ast.File
+	info           *types.Info
+	twice, imports token.Pos
+	errors, listed []token.Pos
+	said           bool
+}
+
+// line is the line of a client with some errors besides those of Go's checker.
+func (s *survey) line(besides ...token.Pos) string {
+	seek := &seeker{listed: s.listed, errors: append(append([]token.Pos{}, s.errors...), besides...)}
+	at := s.twice
 	if at == nowhere {
-		at = imports
+		at = s.imports
 	}
 	if at == nowhere {
-		at = declaration(files, info, seek)
+		at = declaration(s.files, s.info, seek)
 	}
-	for _, file := range files {
+	for _, file := range s.files {
 		if at == nowhere {
 			at = bodies(file, seek)
 		}
 	}
 	switch {
 	case at < nowhere:
-		found.Line = fmt.Sprintf("client %s: untyped at %s", platform, placed(set, at))
-	case len(found.Said) > 0:
-		found.Line = fmt.Sprintf("client %s: untyped somewhere", platform)
-	default:
-		found.Line = fmt.Sprintf("client %s: in profile", platform)
+		return fmt.Sprintf("client %s: untyped at %s", s.platform, placed(s.set, at))
+	case s.said:
+		return fmt.Sprintf("client %s: untyped somewhere", s.platform)
+	}
+	for _, file := range s.files {
+		if len(profile.Outside(file, s.info)) > 0 {
+			return fmt.Sprintf("client %s: typed outside the profile", s.platform)
+		}
+	}
+	return fmt.Sprintf("client %s: in profile", s.platform)
+}
+
+// answered is the answer of a client of parsed files, the errors of which the checker gave with their places.
+func answered(set *token.FileSet, platform string, files []*ast.File, pack *types.Package, info *types.Info, errors []types.Error) answer {
+	var found answer
+	s := &survey{platform: platform, set: set, files: files, info: info, twice: nowhere, imports: nowhere}
+	say := func(at token.Pos, message string) {
+		s.said = true
+		found.Said = append(found.Said, placed(set, at)+": "+strings.Join(strings.Fields(message), " "))
+	}
+	s.errors = circular(files, info)
+	missing := notFound(files, errors)
+	s.twice = assumedTwice(files, info, missing)
+	for _, each := range errors {
+		if at, failing := behindKey(s, pack, each); failing {
+			say(at, "the value of a key that stands twice, which Go's checker doesn't look at by itself")
+			s.errors = append(s.errors, at)
+			continue
+		}
+		if profile.LeftOut(each.Msg) {
+			if !strings.HasPrefix(each.Msg, "\t") && !strings.Contains(each.Msg, " not used") {
+				found.Left = append(found.Left, strings.Join(strings.Fields(each.Msg)[:2], " "))
+			}
+			continue
+		}
+		if strings.HasPrefix(each.Msg, "select case must be") {
+			// the form of a communication is of the grammar here
+			return answer{Line: "refused", Said: []string{placed(set, each.Pos) + ": " + each.Msg}}
+		}
+		if strings.HasPrefix(each.Msg, "package ") && strings.Contains(each.Msg, "; expected ") {
+			return answer{Line: "refused", Said: []string{placed(set, each.Pos) + ": " + each.Msg}}
+		}
+		say(each.Pos, each.Msg)
+		switch {
+		case !each.Pos.IsValid():
+			s.errors = append(s.errors, changedConstants(files, info)...)
+		case strings.Contains(each.Msg, "declared") && unnamed(files, missing, each):
+			// what isn't found has no name that the path doesn't give
+		case strings.Contains(each.Msg, " already declared for "):
+			s.twice = least(s.twice, each.Pos)
+		case strings.HasPrefix(each.Msg, "could not import"), strings.HasPrefix(each.Msg, "invalid import path"):
+			s.imports = least(s.imports, each.Pos)
+		case strings.Contains(each.Msg, "already declared through import of "):
+			name, _, _ := strings.Cut(each.Msg, " ")
+			s.twice = least(s.twice, behindImport(files, info, name, each.Pos))
+		case strings.Contains(each.Msg, "redeclared") && importAt(files, each.Pos) != nil:
+			s.twice = least(s.twice, importAt(files, each.Pos).Path.Pos())
+		case strings.Contains(each.Msg, "redeclared") && isTop(files, each.Pos):
+			s.twice = least(s.twice, each.Pos)
+		case strings.HasPrefix(each.Msg, "cannot declare in post statement"):
+			// the form of the loop says so
+		case strings.HasSuffix(each.Msg, "in type switch"):
+			s.listed = append(s.listed, each.Pos)
+		default:
+			s.errors = append(s.errors, each.Pos)
+		}
+	}
+	for _, file := range files {
+		for _, spec := range file.Imports {
+			if spec.Path.Value == `"unsafe"` {
+				s.imports = least(s.imports, spec.Path.Pos())
+			}
+		}
+	}
+	found.Line = s.line()
+	found.differ(s)
+	return found
+}
+
+// changedConstants are the places of assignments by an operator to a constant. Where both sides are constants with a value that doesn't fit, the checker's error has no place.
+func changedConstants(files []*ast.File, info *types.Info) (found []token.Pos) {
+	for _, file := range files {
+		ast.Inspect(file, func(node ast.Node) bool {
+			if changed, is := node.(*ast.AssignStmt); is && changed.Tok != token.ASSIGN && changed.Tok != token.DEFINE && info.Types[changed.Lhs[0]].Value != nil {
+				found = append(found, changed.Pos())
+			}
+			return true
+		})
+	}
+	return found
+}
+
+// notFound are the imports without a written name that the checker doesn't find.
+func notFound(files []*ast.File, errors []types.Error) (found []*ast.ImportSpec) {
+	failing := map[token.Pos]bool{}
+	for _, each := range errors {
+		if strings.HasPrefix(each.Msg, "could not import") || strings.HasPrefix(each.Msg, "invalid import path") {
+			failing[each.Pos] = true
+		}
+	}
+	for _, file := range files {
+		for _, spec := range file.Imports {
+			if spec.Name == nil && failing[spec.Path.Pos()] {
+				found = append(found, spec)
+			}
+		}
+	}
+	return found
+}
+
+// unnamed says whether an error stands on a name that the checker makes up for an import that it doesn't find, and that isn't the one that this program assumes by the path.
+func unnamed(files []*ast.File, missing []*ast.ImportSpec, said types.Error) bool {
+	name, _, _ := strings.Cut(said.Msg, " ")
+	for _, spec := range missing {
+		if importedName(spec) == name {
+			continue
+		}
+		path := strings.TrimSuffix(strings.Trim(spec.Path.Value, "\"`"), "/")
+		through := strings.Contains(said.Msg, " through import of ") && strings.Contains(said.Msg, spec.Path.Value)
+		other := importAt(files, said.Pos)
+		if through || other != nil && path[strings.LastIndex(path, "/")+1:] == name {
+			return true
+		}
+	}
+	return false
+}
+
+// assumedTwice is the least place at which the name that is assumed for a missing import stands a second time: of a declaration, or of an import of its file.
+func assumedTwice(files []*ast.File, info *types.Info, missing []*ast.ImportSpec) token.Pos {
+	found := nowhere
+	clash := func(one, other token.Pos) {
+		if one < other {
+			one = other
+		}
+		found = least(found, one)
+	}
+	for _, spec := range missing {
+		name := importedName(spec)
+		if name == "" || name == "_" {
+			continue
+		}
+		for _, one := range rows(files) {
+			if _, is := info.Defs[one.name].(*types.Func); one.name.Name == name && (!is || receiverOf(info.Defs[one.name].(*types.Func)) == nil) {
+				clash(spec.Path.Pos(), one.name.Pos())
+			}
+		}
 		for _, file := range files {
-			if len(profile.Outside(file, info)) > 0 {
-				found.Line = fmt.Sprintf("client %s: typed outside the profile", platform)
+			for _, other := range file.Imports {
+				if contains(file, spec.Pos()) && other != spec && importName(other, missing, info) == name {
+					clash(spec.Path.Pos(), other.Path.Pos())
+				}
+			}
+		}
+	}
+	return found
+}
+
+// importName is the name that an import declares, which is assumed where it isn't found.
+func importName(spec *ast.ImportSpec, missing []*ast.ImportSpec, info *types.Info) string {
+	for _, one := range missing {
+		if one == spec {
+			return importedName(spec)
+		}
+	}
+	if object := info.Implicits[spec]; spec.Name == nil && object != nil {
+		return object.Name()
+	}
+	return importedName(spec)
+}
+
+// circular are the names of constants and variables of which the checker has no value or no type. Where they name themselves it says no more than that there is an initialization cycle.
+func circular(files []*ast.File, info *types.Info) (found []token.Pos) {
+	for _, one := range rows(files) {
+		switch object := info.Defs[one.name].(type) {
+		case *types.Const:
+			if object.Val() == nil || object.Val().Kind() == constant.Unknown {
+				found = append(found, one.name.Pos())
+			}
+		case *types.Var:
+			if strings.Contains(object.Type().String(), types.Typ[types.Invalid].Name()) {
+				found = append(found, one.name.Pos())
 			}
 		}
 	}
@@ -159,11 +308,12 @@ func names(spec ast.Spec) []*ast.Ident {
 	return nil
 }
 
-// A row is a declaration outside of bodies: its name, its trees, and whether it has a typing.
+// A row is a declaration outside of bodies: its name, its trees, the methods that it needs where it is a type, and whether it has a typing.
 type row struct {
-	name  *ast.Ident
-	trees []ast.Node
-	fails bool
+	name    *ast.Ident
+	trees   []ast.Node
+	methods []*row
+	fails   bool
 }
 
 // rows are the declarations of files in order, methods included.
@@ -198,6 +348,22 @@ func rows(files []*ast.File) (found []*row) {
 	return found
 }
 
+// receiverOf is the name of the type that a method is of.
+func receiverOf(method *types.Func) types.Object {
+	receiver := method.Type().(*types.Signature).Recv()
+	if receiver == nil {
+		return nil
+	}
+	t := receiver.Type()
+	if pointer, is := t.(*types.Pointer); is {
+		t = pointer.Elem()
+	}
+	if named, is := t.(*types.Named); is {
+		return named.Obj()
+	}
+	return nil
+}
+
 // declaration is the place of the first declaration without a typing: one with an error, or one that names another without a typing.
 func declaration(files []*ast.File, info *types.Info, seek *seeker) token.Pos {
 	all := rows(files)
@@ -210,9 +376,21 @@ func declaration(files []*ast.File, info *types.Info, seek *seeker) token.Pos {
 			one.fails = one.fails || seek.own(tree)
 		}
 	}
+	for _, one := range all {
+		if method, is := info.Defs[one.name].(*types.Func); is {
+			if base := of[receiverOf(method)]; base != nil {
+				base.methods = append(base.methods, one)
+			}
+		}
+	}
 	for changed := true; changed; {
 		changed = false
 		for _, one := range all {
+			for _, method := range one.methods {
+				if method.fails && !one.fails {
+					one.fails, changed = true, true
+				}
+			}
 			for _, tree := range one.trees {
 				ast.Inspect(tree, func(below ast.Node) bool {
 					switch below := below.(type) {
@@ -253,58 +431,6 @@ func bodies(file *ast.File, seek *seeker) token.Pos {
 	return found
 }
 
-// classesOf are the classes of differences that are on purpose and that files have somewhere.
-func classesOf(files []*ast.File, info *types.Info, said []string) (found []string) {
-	known := map[string]bool{}
-	add := func(class string) {
-		if class != "" && !known[class] {
-			known[class] = true
-			found = append(found, class)
-		}
-	}
-	for _, file := range files {
-		ast.Inspect(file, func(node ast.Node) bool {
-			if node != nil {
-				add(differences.OfNode(node, info))
-				if !differences.IsWritten(node) {
-					add(differences.Unwritten)
-				}
-				add(ofStatement(node, info))
-			}
-			return true
-		})
-	}
-	return found
-}
-
-// ofStatement is the class of a statement over which Go and the profile differ on purpose.
-func ofStatement(node ast.Node, info *types.Info) string {
-	switch node := node.(type) {
-	case *ast.FuncLit:
-		if profile.HasIota(node, info) {
-			return "iota in a function literal"
-		}
-	case *ast.RangeStmt:
-		if over := info.TypeOf(node.X); over != nil {
-			if pointer, is := over.Underlying().(*types.Pointer); is {
-				if _, is := pointer.Elem().(*types.Named); is {
-					return ""
-				}
-			}
-		}
-	case *ast.SwitchStmt:
-		// Go compares no value with a tag that can't be compared, and this program doesn't ask it of the tag alone
-		if tag := node.Tag; tag != nil && info.TypeOf(tag) != nil && !types.Comparable(info.TypeOf(tag)) {
-			return "a switch over what can't be compared"
-		}
-	case *ast.DeclStmt:
-		if node.Decl.(*ast.GenDecl).Tok == token.TYPE {
-			return "a type that is declared inside of a function"
-		}
-	}
-	return ""
-}
-
 // clientOf reads a client from its folder as the profile does, and answers on the platform of the world.
 func clientOf(world *typed.World, folder string) answer {
 	one := world.Client(folder)
@@ -313,15 +439,30 @@ func clientOf(world *typed.World, folder string) answer {
 		return answer{Line: "client " + name + ": in profile"}
 	}
 	var files []*ast.File
-	for _, file := range one.Files {
-		if file.Err != nil {
-			return answer{Line: "refused", Classes: []string{differences.Unwritten}, Said: []string{file.Err.Error()}}
-		}
-		files = append(files, file.Tree)
-	}
 	var errors []types.Error
+	refused := ""
+	for _, file := range one.Files {
+		files = append(files, file.Tree)
+		if file.Tree.Name.Name == "_" {
+			return answer{Line: "refused", Said: []string{"a package with the blank name"}}
+		}
+		if file.Err == nil {
+			continue
+		}
+		refused = file.Err.Error()
+		typed, only := unparsedAt(file)
+		if !only {
+			return answer{Line: "refused", Said: []string{refused}}
+		}
+		errors = append(errors, typed...)
+	}
 	for _, fault := range one.Faults {
 		errors = append(errors, types.Error{Pos: fault.Pos, Msg: fault.Message})
 	}
-	return answered(world.Set, name, files, one.Info, errors)
+	found := answered(world.Set, name, files, one.Types, one.Info, errors)
+	if refused != "" {
+		found.Else = append(found.Else, other{found.Line, unparsed})
+		found.Line, found.Said = "refused", []string{refused}
+	}
+	return found
 }

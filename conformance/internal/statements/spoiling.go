@@ -38,15 +38,15 @@ func printed(set *token.FileSet, file *ast.File) string {
 	return out.String() + "\n"
 }
 
-// without drops the innermost statements that hold one of the places, which are those of a file with so many lines before the function.
-func without(text string, places []token.Position, lines int) (string, bool) {
+// without drops the innermost statements that hold one of the places, which are those of the function alone.
+func without(text string, places []token.Position) (string, bool) {
 	set, file, is := parsed(text)
 	if !is {
 		return "", false
 	}
 	dropped := false
 	for _, place := range places {
-		line := place.Line - lines + 1
+		line := place.Line + 1
 		if line < 2 || line > set.File(file.Pos()).LineCount() {
 			return "", false
 		}
