@@ -5,9 +5,9 @@ import tempfile
 
 import declarations
 import gating
+from reports import BEFORE, KEPT, OUTSIDE, REFUSED, STOPS
 
 LINE = re.compile(r"client (\S+): (?:(in profile)|(typed outside the profile)|untyped at (.*):([0-9]+):([0-9]+))$", re.S)
-KEPT, OUTSIDE, STOPS, BEFORE, REFUSED = "typed still, in profile", "typed still, outside the profile", "stops compiling", "untyped before too", "refused"
 
 
 class Found:

@@ -5,6 +5,7 @@ import re
 
 import declarations
 import gating
+import go_command
 import modules
 
 REFUSAL = re.compile(r"apigate: (old|new)(?: ([a-z0-9]+-[a-z0-9]+))?: (.*)$", re.S)
@@ -27,7 +28,7 @@ class Explainer:
 
     def ask(self, question, **more):
         if not self.program:
-            self.program = declarations.built("explain", self.room, declarations.settings_of_go({}))[0]
+            self.program = declarations.built("explain", self.room, go_command.settings({}))[0]
         asked = {"old": self.folders["old"], "new": self.folders["new"], "std": self.cut.folder, "platforms": self.platforms, **more}
         try:
             ran = gating.within([self.program, question], input=json.dumps(asked), text=True, errors="replace")

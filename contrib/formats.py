@@ -5,17 +5,15 @@ import os
 import re
 import sys
 import types
-from xml.etree import ElementTree
 
-import clients
 import gating
 import reports
 
 COLOURS = {"-": "31", "+": "32", "break": "1;31", "class": "1", "version": "1"}
 # what a text of XML may hold
-BARRED = re.compile("[^\t\n\r\x20-\ud7ff\ue000-\ufffd\U00010000-\U0010ffff]")
-RULE = re.compile(r"^## `([a-z-]+)`\n\n(.*?)(?:\n\n|\Z)", re.M | re.S)
-MEND = re.compile(r"^To mend it, (.*?)(?:\n\n|\Z)", re.M | re.S)
+BARRED = "[^\t\n\r\x20-\ud7ff\ue000-\ufffd\U00010000-\U0010ffff]"
+RULE = r"(?ms)^## `([a-z-]+)`\n\n(.*?)(?:\n\n|\Z)"
+MEND = r"(?ms)^To mend it, (.*?)(?:\n\n|\Z)"
 
 
 def rules():
@@ -24,7 +22,7 @@ def rules():
         text = file.read()
     found = {}
     for part in re.split(r"(?m)^(?=## )", text):
-        rule, mend = RULE.match(part), MEND.search(part)
+        rule, mend = re.match(RULE, part), re.search(MEND, part)
         if rule:
             found[rule[1]] = (" ".join(rule[2].split()), " ".join(mend[1].split()) if mend else "")
     found["promise"] = ("A line of an earlier release is among the features still.", "keep what the line says, or add it to the file of exceptions")
@@ -130,8 +128,8 @@ def github(run):
         file, line = run.file(place)
         out += command("error", file, line, "apigate " + rule, message)
     for each in run.judged.clients:
-        if each.kind != clients.KEPT:
-            out += "::%s title=apigate client::%s\n" % ("error" if each.kind == clients.STOPS else "warning", escaped("\n".join([each.text] + each.notes)))
+        if each.kind != reports.KEPT:
+            out += "::%s title=apigate client::%s\n" % ("error" if each.kind == reports.STOPS else "warning", escaped("\n".join([each.text] + each.notes)))
     if run.judged.is_refused:
         out += command("error", *run.refusal(), "apigate", "\n".join([run.judged.fault] + run.judged.notes))
     elif run.judged.version:
@@ -194,16 +192,17 @@ def sarif(run):
 
 def junit(run):
     """A suite for each platform, one for the promises, and one for a refusal."""
+    from xml.etree import ElementTree
     top = ElementTree.Element("testsuites", name="apigate")
 
     def suite(name, cases):
         made = ElementTree.SubElement(top, "testsuite", name=name, tests=str(len(cases)), failures=str(sum(kind == "failure" for _, kind, _ in cases)),
                                       errors=str(sum(kind == "error" for _, kind, _ in cases)))
         for title, kind, message in cases:
-            case = ElementTree.SubElement(made, "testcase", classname=run.new.module, name=BARRED.sub("?", title))
+            case = ElementTree.SubElement(made, "testcase", classname=run.new.module, name=re.sub(BARRED, "?", title))
             if kind:
                 first = message.split("\n")[0]
-                ElementTree.SubElement(case, kind, message=BARRED.sub("?", first), type=title.split(" ")[0]).text = BARRED.sub("?", message)
+                ElementTree.SubElement(case, kind, message=re.sub(BARRED, "?", first), type=title.split(" ")[0]).text = re.sub(BARRED, "?", message)
 
     if run.judged.is_refused:
         suite("apigate", [("judged", "error", "\n".join([run.judged.fault] + run.judged.notes))])
@@ -212,7 +211,7 @@ def junit(run):
             broken = [each for each in run.judged.breaks if name in each.platforms]
             suite(name, [("%s %s" % (each.rule, each.owner), "failure", told_at(run, each)) for each in broken] or [("compatible", "", "")])
         if run.judged.clients:
-            suite("clients", [("client " + each.text, "failure" if each.kind == clients.STOPS else "", "\n".join([each.text] + each.notes)) for each in run.judged.clients])
+            suite("clients", [("client " + each.text, "failure" if each.kind == reports.STOPS else "", "\n".join([each.text] + each.notes)) for each in run.judged.clients])
         suite("promises", [("promise " + line, "failure", "promise lost: " + line) for line in run.judged.lost] or [("kept", "", "")])
     ElementTree.indent(top)
     return '<?xml version="1.0" encoding="UTF-8"?>\n' + ElementTree.tostring(top, encoding="unicode") + "\n"

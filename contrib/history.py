@@ -1,5 +1,6 @@
 """A git repository: its releases, and the files of a commit. Nothing of it is changed."""
 import functools
+import itertools
 import os
 import re
 
@@ -10,11 +11,11 @@ KEPT = {"go.mod", "go.sum", "go.work", "go.work.sum", "modules.txt"}
 MAJOR = re.compile(r"(?:/|\.)v([0-9]+)$")
 
 
-def git(folder, *words, given=b""):
+def git(folder, *words, given=b"", **more):
     """Runs git in a folder; where a hook runs this, what it says of its own repository doesn't count."""
     settings = {name: value for name, value in os.environ.items() if not name.startswith("GIT_")}
     try:
-        ran = gating.within(["git", "-C", folder, *words], input=given, env={**settings, "LC_ALL": "C"})
+        ran = gating.within(["git", "-C", folder, *words], input=given, env={**settings, **more, "LC_ALL": "C"})
     except FileNotFoundError as error:
         raise gating.Stop("git isn't installed") from error
     if ran.returncode:
@@ -32,8 +33,12 @@ class Repository:
 
     def __init__(self, folder):
         self.folder = folder
-        self.top = line(folder, "rev-parse", "--show-toplevel")
-        self.prefix = line(folder, "rev-parse", "--show-prefix")
+        both = os.fsdecode(git(folder, "rev-parse", "--show-toplevel", "--show-prefix")).split("\n")
+        if len(both) != 3:
+            # a name with a newline
+            both = [line(folder, "rev-parse", word) for word in ("--show-toplevel", "--show-prefix")]
+        self.top, self.prefix = both[:2]
+        self.tags_below = functools.cache(self.tags_below)
 
     def commit(self, revision):
         """The commit that a revision names."""
@@ -42,9 +47,30 @@ class Repository:
         except gating.Stop:
             return None
 
+    @functools.cached_property
+    def status(self):
+        """The commit of HEAD, or nothing where there is none yet, and how many Go files of the folder aren't as there."""
+        told = git(self.folder, "status", "--porcelain=v2", "--branch", "--no-ahead-behind", "-z", "--", "*.go", "go.mod").split(b"\0")[:-1]
+        heads = list(itertools.takewhile(lambda each: each.startswith(b"# "), told))
+        head = next((each.split()[-1].decode() for each in heads if each.startswith(b"# branch.oid ")), "")
+        return "" if head == "(initial)" else head, len(told) - len(heads)
+
     def changed(self):
         """How many Go files of the folder aren't as at HEAD."""
-        return git(self.folder, "status", "--porcelain", "-z", "--", "*.go", "go.mod").count(b"\0")
+        return self.status[1]
+
+    def tags_below(self, commit):
+        """The tags at or below a commit: of each the objects that it names, itself and what it is a tag of, and the commit, where that is known."""
+        form = "%(refname:strip=2)%00%(objecttype)%00%(objectname)%00%(*objecttype)%00%(*objectname)"
+        found = {}
+        for row in git(self.top, "for-each-ref", "--merged", commit, "--format", form, "refs/tags").splitlines():
+            tag, kind, itself, kind_below, below = map(os.fsdecode, row.split(b"\0"))
+            found[tag] = {itself, below}, itself if kind == "commit" else below if kind_below == "commit" else ""
+        return found
+
+    def commit_of_tag(self, tag, below):
+        """The commit that a tag below another commit names."""
+        return self.tags_below(below)[tag][1] or self.commit("refs/tags/" + tag)
 
     def tag_prefix(self, module):
         """What stands in front of a version in the tags of the module in this folder."""
@@ -56,7 +82,7 @@ class Repository:
     def releases(self, module, below="HEAD"):
         """The tags of releases at or below a commit, those of the module's own major number where there are some, from the greatest down."""
         prefix = self.tag_prefix(module)
-        tags = [tag for tag in line(self.top, "tag", "--merged", below).split("\n") if tag.startswith(prefix)]
+        tags = [tag for tag in self.tags_below(below) if tag.startswith(prefix)]
         found = {tag: gating.numbers(tag[len(prefix):]) for tag in tags if gating.numbers(tag[len(prefix):])}
         major = MAJOR.search(module)
         own = [tag for tag in found if (found[tag][0] == int(major[1]) if major else found[tag][0] < 2)]
@@ -65,11 +91,12 @@ class Repository:
     def last_release(self, module, commit=""):
         """The tag of the last release below a commit, or below HEAD with what has changed since: a tag of the commit itself, or of HEAD where
         nothing has changed, is what is to be released."""
-        if not self.commit("HEAD"):
+        head, changed = self.status
+        if not head:
             raise gating.Stop("the repository has no commit")
-        tags, here = self.releases(module, commit or "HEAD"), set()
-        if commit or not self.changed():
-            here = set(line(self.top, "tag", "--points-at", commit or "HEAD").split("\n"))
+        tags, here = self.releases(module, commit or head), set()
+        if commit or not changed:
+            here = {tag for tag, (objects, _) in self.tags_below(commit or head).items() if (commit or head) in objects}
         below = [tag for tag in tags if tag not in here]
         if below:
             return below[0]
@@ -80,23 +107,30 @@ class Repository:
         raise gating.Stop("no tag %svN.N.N of a release below HEAD: name what was released last, as --old REVISION --version V"
                           % gating.shown(self.tag_prefix(module)))
 
+    def stored(self, *words, given=b""):
+        """What git says of objects as they are: a commit has the same files always, whatever stands in for one."""
+        return git(self.top, *words, given=given, GIT_NO_REPLACE_OBJECTS="1")
+
     def files(self, commit, below):
         """The paths and blobs of the Go files and what Go reads besides of a folder at a commit, but for tests."""
         tree = "%s:%s" % (commit, below.rstrip("/")) if below else commit
-        for entry in git(self.top, "ls-tree", "-r", "-z", tree).split(b"\0"):
+        for entry in self.stored("ls-tree", "-r", "-z", tree).split(b"\0"):
             head, _, path = entry.partition(b"\t")
             path, name = os.fsdecode(path), os.fsdecode(path).split("/")[-1]
             if head.startswith(b"100") and (name in KEPT or name.endswith(".go") and not name.endswith("_test.go")):
+                if {"", ".", ".."} & set(path.split("/")):
+                    # git itself never makes such a tree, and would not check it out
+                    raise gating.Stop("%s has a file named %s; nothing was judged" % (commit[:12], gating.shown(path)))
                 yield path, head.split()[2]
 
     def is_other(self, commit, path):
         """Whether something else than a file stands at a path of a commit, as a link."""
-        return git(self.top, "ls-tree", "-z", commit, "--", path)[:3] not in (b"", b"100")
+        return self.stored("ls-tree", "-z", commit, "--", path)[:3] not in (b"", b"100")
 
     def text(self, commit, path):
         """A file of a commit, or None."""
         try:
-            return git(self.top, "cat-file", "blob", "%s:%s" % (commit, path)).decode(errors="replace")
+            return self.stored("cat-file", "blob", "%s:%s" % (commit, path)).decode(errors="replace")
         except gating.Stop:
             return None
 
@@ -104,7 +138,7 @@ class Repository:
         """Writes the files of a folder at a commit, byte for byte as they were committed."""
         found = list(self.files(commit, below))
         given = b"".join(blob + b"\n" for _, blob in found)
-        contents, at = git(self.top, "cat-file", "--batch", given=given), 0
+        contents, at = self.stored("cat-file", "--batch", given=given), 0
         for path, blob in found:
             end = contents.index(b"\n", at)
             size = int(contents[at:end].split()[2])

@@ -1,18 +1,15 @@
 """Modules on disk: the files that apigate reads of one, its path, and copies of it that Go's own commands understand."""
-import functools
 import json
 import os
 import re
-import shutil
-import tempfile
 
 import gating
+from go_command import go, workspace
 
 MODULE_LINE = re.compile(r'^[ \t]*module[ \t]+("[^"\n]*"|`[^`\n]*`|[^ \t\r\n]+)', re.M)
-OLD_FORM = re.compile(rb"^//[ \t]*\+build[ \t]", re.M)
-NEW_FORM = re.compile(rb"^//go:build[ \t]", re.M)
-OLD_FORM_LINE = re.compile(rb"^//[ \t]*\+build[ \t][^\n]*", re.M)
-NEW_FORM_LINE = re.compile(rb"^//go:build[ \t][^\n]*", re.M)
+OLD_FORM = rb"(?m)^//[ \t]*\+build[ \t]"
+NEW_FORM = rb"(?m)^//go:build[ \t]"
+LINE = rb"[^\n]*"
 ELEMENT = re.compile(r"[A-Za-z0-9~][A-Za-z0-9._~-]*$|_$")
 # where Debian's packages of Go modules stand
 DEBIAN = "/usr/share/gocode"
@@ -36,19 +33,26 @@ def content(path):
         return file.read()
 
 
+def text(folder, name):
+    """A file of a folder as text, or nothing where it isn't there."""
+    path = os.path.join(folder, name)
+    return content(path).decode(errors="replace") if os.path.isfile(path) else ""
+
+
 def old_form(folder):
     """The files that have build lines of the old form alone, but for those that are too large for apigate."""
     found = []
     for name in walked(folder):
         path = os.path.join(folder, name)
         text = content(path) if os.path.getsize(path) <= MOST else b""
-        if OLD_FORM.search(text) and not NEW_FORM.search(text):
+        if re.search(OLD_FORM, text) and not re.search(NEW_FORM, text):
             found.append(name)
     return found
 
 
 def formatted(texts):
     """What gofmt makes of each of these texts: where it can't read one, the text itself."""
+    import tempfile
     with tempfile.TemporaryDirectory(prefix="release-gate-") as room:
         places = [os.path.join(room, "%d.go" % number) for number in range(len(texts))]
         for place, text in zip(places, texts):
@@ -67,10 +71,10 @@ def renew(folder, found=None):
         return []
     texts = [content(os.path.join(folder, name)) for name in found]
     for name, text, made in zip(found, texts, formatted(texts)):
-        new = NEW_FORM_LINE.search(made)
+        new = re.search(NEW_FORM + LINE, made)
         if new:
             with open(os.path.join(folder, name), "wb") as file:
-                file.write(OLD_FORM_LINE.sub(lambda _: b"//", OLD_FORM_LINE.sub(lambda _: new[0], text, count=1)))
+                file.write(re.sub(OLD_FORM + LINE, lambda _: b"//", re.sub(OLD_FORM + LINE, lambda _: new[0], text, count=1)))
     return found
 
 
@@ -93,15 +97,6 @@ def path_of(folder):
         return path_in(content(os.path.join(folder, "go.mod")).decode(errors="replace"))
     except FileNotFoundError:
         return ""
-
-
-def go(folder, *words, **settings):
-    """What Go's command says in a folder, or nothing where it can't."""
-    try:
-        ran = gating.within(["go", *words], cwd=folder, env={**os.environ, **settings}, text=True, errors="replace")
-    except FileNotFoundError as error:
-        raise gating.Stop("the command go isn't installed: apt-get install golang-go, or https://go.dev/dl") from error
-    return ran.stdout.strip() if not ran.returncode else ""
 
 
 def gopaths():
@@ -149,28 +144,9 @@ def point(file, words, origin):
             go(os.path.dirname(file), *words, "-replace=%s=%s" % (old, to), file, GOWORK="off", GOFLAGS="")
 
 
-@functools.cache
-def named_workspace():
-    """The go.work that Go's settings name for every folder, or nothing."""
-    return go(os.sep, "env", "GOWORK")
-
-
-def above(folder):
-    """A folder and all those above it."""
-    while True:
-        yield folder
-        if os.path.dirname(folder) == folder:
-            return
-        folder = os.path.dirname(folder)
-
-
-def workspace(folder):
-    """The go.work that counts in a folder, or nothing. Go's command is asked only where there may be one."""
-    around = [each for path in {os.path.abspath(folder), os.path.realpath(folder)} for each in above(path)]
-    if not any(os.path.exists(os.path.join(each, "go.work")) for each in around) and not named_workspace():
-        return ""
-    found = go(folder, "env", "GOWORK")
-    return found if found and found != "off" else ""
+def copy_file(path, copy):
+    with open(copy, "wb") as file:
+        file.write(content(path))
 
 
 def follow(copy, origin):
@@ -185,13 +161,13 @@ def follow(copy, origin):
     others = [os.path.normpath(os.path.join(top, each["DiskPath"])) for each in said.get("Use") or []]
     if os.path.realpath(origin) not in [os.path.realpath(each) for each in others]:
         return
-    shutil.copyfile(work, place)
+    copy_file(work, place)
     for each, was in zip(others, said["Use"]):
         at = copy if os.path.realpath(each) == os.path.realpath(origin) else each
         go(os.path.dirname(place), "work", "edit", "-dropuse=" + was["DiskPath"], "-use=" + at, place)
     point(place, ["work", "edit"], top)
     if os.path.isfile(work + ".sum"):
-        shutil.copyfile(work + ".sum", place + ".sum")
+        copy_file(work + ".sum", place + ".sum")
 
 
 def copied(folder, copy):
@@ -199,10 +175,10 @@ def copied(folder, copy):
     os.makedirs(copy, exist_ok=True)
     for name in walked(folder):
         os.makedirs(os.path.dirname(os.path.join(copy, name)), exist_ok=True)
-        shutil.copyfile(os.path.join(folder, name), os.path.join(copy, name))
+        copy_file(os.path.join(folder, name), os.path.join(copy, name))
     for name in ("go.mod", "go.sum"):
         if os.path.isfile(os.path.join(folder, name)):
-            shutil.copyfile(os.path.join(folder, name), os.path.join(copy, name))
+            copy_file(os.path.join(folder, name), os.path.join(copy, name))
     if os.path.isdir(os.path.join(folder, "vendor")):
         os.symlink(os.path.abspath(os.path.join(folder, "vendor")), os.path.join(copy, "vendor"))
     follow(copy, folder)

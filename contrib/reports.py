@@ -6,6 +6,9 @@ VERDICT = re.compile(r"judge (\S+): (\w+)$")
 SKIPPED = re.compile(r"skipped (old|new) (\S+) ([0-9]+)$")
 PLACE = re.compile(r"apigate: (?:old|new) \S+: (.*?):([0-9]+):([0-9]+): ")
 
+# what becomes of a client
+KEPT, OUTSIDE, STOPS, BEFORE, REFUSED = "typed still, in profile", "typed still, outside the profile", "stops compiling", "untyped before too", "refused"
+
 
 class Break:
     """Something that is broken, with all platforms on which it is, its place and the ways that lead to it."""

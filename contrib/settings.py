@@ -1,7 +1,6 @@
 """What is asked of a run: the words, and what a file at the module's top says where the words don't."""
 import argparse
 import os
-import tomllib
 
 import gating
 
@@ -49,6 +48,7 @@ def of_file(folder):
         raise gating.Stop("%s has both %s and %s: remove one" % (gating.shown(folder), *NAMES))
     if os.path.exists(found[0]) and not os.path.isfile(found[0]):
         raise gating.Stop("%s is no file" % gating.shown(found[0]))
+    import tomllib
     try:
         with open(found[0], "rb") as file:
             told = tomllib.load(file)

@@ -2,7 +2,10 @@
 import os
 import re
 
+import cache
+import declarations
 import gating
+import go_command
 import history
 import modules
 
@@ -35,12 +38,30 @@ class Side:
 
     def of_commit(self, where, revision, commit, module):
         """A commit; the whole of the repository where the module needs what stands beside it."""
+        self.told = gating.shown(revision) + ("" if commit.startswith(revision) else " (commit %s)" % commit[:12])
+        self.commit, self.folder = commit, kept(where, commit)
+        if not self.folder:
+            self.write(where, revision, commit)
+        self.module = modules.path_of(self.folder)
+        prefix = where.tag_prefix(module)
+        if revision.startswith(prefix) and gating.numbers(revision[len(prefix):]):
+            self.version = revision[len(prefix):]
+        elif not self.version:
+            below = where.releases(module, commit)
+            self.version = below[0][len(prefix):] if below else ""
+
+    def write(self, where, revision, commit):
+        """Writes the files of a commit, and keeps them where nothing but the commit decides about them."""
         if where.is_other(commit, where.prefix + "go.mod"):
             raise gating.Stop("%s:%sgo.mod is no file; nothing was judged" % (gating.shown(revision), gating.shown(where.prefix)))
         text = where.text(commit, where.prefix + "go.mod")
         parents = [where.prefix[: at.start()] for at in re.finditer(r"(?<=/)|^", where.prefix)]
-        whole = where.prefix and (modules.near_replaces(text or "") or any(where.text(commit, each + "go.work") for each in parents))
-        self.folder = os.path.join(self.room, "repository", where.prefix.rstrip("/")) if whole else os.path.join(self.room, "module")
+        is_near = modules.near_replaces(text or "")
+        whole = where.prefix and (is_near or any(where.text(commit, each + "go.work") for each in parents))
+        self.folder = "" if whole or is_near else keep(where, commit)
+        if self.folder:
+            return
+        self.folder, self.is_copy = os.path.join(self.room, "repository", where.prefix.rstrip("/")) if whole else os.path.join(self.room, "module"), True
         if whole:
             where.write(commit, "", os.path.join(self.room, "repository"))
             if not os.path.isdir(self.folder):
@@ -48,14 +69,6 @@ class Side:
         else:
             where.write(commit, where.prefix, self.folder)
             modules.follow(self.folder, where.folder)
-        self.told = gating.shown(revision) + ("" if commit.startswith(revision) else " (commit %s)" % commit[:12])
-        self.module, self.is_copy, self.commit = modules.path_of(self.folder), True, commit
-        prefix = where.tag_prefix(module)
-        if revision.startswith(prefix) and gating.numbers(revision[len(prefix):]):
-            self.version = revision[len(prefix):]
-        elif not self.version:
-            below = where.releases(module, commit)
-            self.version = below[0][len(prefix):] if below else ""
 
     def copy(self):
         """Moves over to a copy, where it isn't one yet."""
@@ -64,20 +77,71 @@ class Side:
             modules.copied(self.folder, copy)
             self.folder, self.is_copy = copy, True
 
-    def mend(self, module):
-        """Gives the tree a go.mod where it has none, and build lines of the new form, both on a copy."""
+    def name_module(self, module):
+        """Gives the tree a go.mod where it has none, on a copy."""
         if not os.path.isfile(os.path.join(self.folder, "go.mod")):
             self.copy()
             self.module = module
             with open(os.path.join(self.folder, "go.mod"), "w", encoding="utf-8") as file:
                 file.write("module %s\n" % module)
             self.notes.append("%s has no go.mod: it is judged as module %s, on a copy" % (self.called, module))
-        found = modules.old_form(self.folder)
+
+    def mend(self, look):
+        """Gives the tree build lines of the new form, on a copy."""
+        found = look["old"] if look else modules.old_form(self.folder)
         if found:
-            self.copy()
-            modules.renew(self.folder, found)
+            renewed = "" if self.is_copy or not look else self.renewed(look, found)
+            if not renewed:
+                self.copy()
+                modules.renew(self.folder, found)
+                declarations.looked.cache_clear()
+            self.folder = renewed or self.folder
             self.notes.append("gofmt gave a go:build line to %s of %s, on a copy: %s"
                               % ("a file" if len(found) == 1 else "%d files" % len(found), self.called, modules.names(found)))
+
+    def renewed(self, look, found):
+        """A copy with build lines of the new form that is kept, where nothing but the tree and gofmt decides about it; or nothing."""
+        command = go_command.found("gofmt")
+        if not go_command.is_program(command) or go_command.workspace(self.folder) or modules.near_replaces(modules.text(self.folder, "go.mod")):
+            return ""
+        name = cache.name_of(self.folder, look["digest"], found, modules.text(self.folder, "go.sum"), command, cache.stamp(command))
+
+        def write(place):
+            modules.copied(self.folder, place)
+            if declarations.look(self.room, [place])["trees"][0] != look:
+                raise gating.Stop("%s changes while it is read; nothing was judged" % gating.shown(self.folder))
+            modules.renew(place, found)
+
+        return cache.tree(name) or cache.keep_tree(name, write)
+
+
+def kept_name(where, commit):
+    """What a commit of the module is kept as, or nothing where a workspace counts or a tree in the cache would have one."""
+    store = cache.folder("trees")
+    if not store or go_command.may_have_workspace(store) or go_command.workspace(where.folder):
+        return ""
+    return cache.name_of(os.path.realpath(where.top), where.prefix, commit)
+
+
+def kept(where, commit):
+    """The tree of a commit that was kept, or nothing."""
+    name = kept_name(where, commit)
+    return cache.tree(name) if name else ""
+
+
+def keep(where, commit):
+    """Keeps the tree of a commit, about which nothing else decides; returns where, or nothing."""
+    name = kept_name(where, commit)
+    return cache.keep_tree(name, lambda place: where.write(commit, where.prefix, place)) if name else ""
+
+
+def looks(room, *found):
+    """What the cutter sees in trees, of each, or None of each where it can't read one; the cut tells of that."""
+    try:
+        told = declarations.looked(room, tuple(dict.fromkeys(each.folder for each in found)))["trees"]
+    except gating.Stop:
+        return [None for _ in found]
+    return [told[0], told[-1]][:len(found)]
 
 
 def ambiguous(word, where):
@@ -131,8 +195,10 @@ def found(folder, asked, room):
     module = module or old.module
     if not module:
         raise gating.Stop("no go.mod in %s, and it isn't below a GOPATH: go mod init PATH writes one" % new.told)
-    new.mend(module)
-    old.mend(new.module or module)
+    new.name_module(module)
+    old.name_module(new.module or module)
+    for side, look in zip((new, old), reversed(looks(room, old, new))):
+        side.mend(look)
     if old.module != new.module:
         raise gating.Stop("the module's path was %s at %s, and is %s now: who imports the old path isn't touched by this release; judge what is to"
                           " be released under the new path before go.mod is changed, and from its first release on against that" % (old.module, old.told, new.module))
@@ -152,5 +218,6 @@ def alone(folder, room):
     module = new.module or modules.path_in_gopath(folder)
     if not module:
         raise gating.Stop("no go.mod in %s, and it isn't below a GOPATH: go mod init PATH writes one" % new.told)
-    new.mend(module)
+    new.name_module(module)
+    new.mend(*looks(room, new))
     return new

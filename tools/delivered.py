@@ -2,12 +2,8 @@
 import collections
 import hashlib
 import os
-import platform
 import re
-import shutil
-import subprocess
 import sys
-import tempfile
 
 import places
 import repository
@@ -16,7 +12,7 @@ import trial
 DIST = os.path.join(repository.TOP, "dist")
 NAME = "apigate-linux-amd64"
 SYSTEM = ("linux", "x86_64")
-SYMBOLS = re.compile(r"Name: (GLIBC_[0-9.]+) ")
+SYMBOLS = r"Name: (GLIBC_[0-9.]+) "
 
 Record = collections.namedtuple("Record", "toolchain library program sources crates")
 
@@ -34,12 +30,14 @@ def text_of(told):
 
 def library(content):
     """Returns the newest version of the C library's symbols that a program needs."""
+    import subprocess
+    import tempfile
     with tempfile.NamedTemporaryFile(prefix="apigate-") as file:
         file.write(content)
         file.flush()
         words = ["readelf", "--version-info", "--wide", file.name]
         told = subprocess.run(words, env={**os.environ, "LC_ALL": "C"}, stdout=subprocess.PIPE, text=True, check=True).stdout
-    return max(SYMBOLS.findall(told), key=lambda name: [int(it) for it in name.partition("_")[2].split(".")], default="none")
+    return max(re.findall(SYMBOLS, told), key=lambda name: [int(it) for it in name.partition("_")[2].split(".")], default="none")
 
 
 def write(folder, content, toolchain, library, sums):
@@ -101,6 +99,8 @@ def packed(folder=DIST):
 
 def unpacked_by_command(whole):
     """Unpacks by the command xz."""
+    import shutil
+    import subprocess
     if not shutil.which("xz"):
         raise Unfit("this Python has no lzma and there is no command xz, so dist/ can't be unpacked")
     ran = subprocess.run(["xz", "-dc"], input=whole, capture_output=True)
@@ -147,7 +147,7 @@ def unpack(told, folders):
 def program(sums, say):
     """Returns the place of the program of dist/, unpacked where it wasn't, if it is of sources with these sums and starts here."""
     told = record()
-    found = sys.platform, platform.machine()
+    found = sys.platform, os.uname().machine
     if found != SYSTEM:
         raise Unfit("dist/ is for Linux on x86-64, and this is %s on %s" % found)
     check_sources(told, sums)

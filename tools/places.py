@@ -2,8 +2,6 @@
 import contextlib
 import fcntl
 import os
-import pwd
-import tempfile
 
 
 class Closed(Exception):
@@ -12,8 +10,11 @@ class Closed(Exception):
 
 def home():
     """Returns the user's folder, or an empty text where none is known."""
+    if os.environ.get("HOME"):
+        return os.environ["HOME"]
+    import pwd
     try:
-        return os.environ.get("HOME") or pwd.getpwuid(os.getuid()).pw_dir
+        return pwd.getpwuid(os.getuid()).pw_dir
     except KeyError:
         return ""
 
@@ -39,6 +40,7 @@ def first(folders, work):
 
 def opened(folder):
     """Returns a folder in which a file can be made."""
+    import tempfile
     with tempfile.TemporaryFile(dir=folder) as file:
         file.write(b"\0")
     return folder
@@ -63,6 +65,7 @@ def alone(folder, waits=lambda: None):
 
 def put(path, content, mode=0o644):
     """Writes a file so that its name always stands for the whole of one."""
+    import tempfile
     held, made = tempfile.mkstemp(dir=os.path.dirname(path), prefix=os.path.basename(path) + ".")
     try:
         with open(held, "wb") as file:

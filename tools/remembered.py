@@ -2,6 +2,7 @@
 size, its times and its number are; sums that are taken within a moment of a change aren't remembered."""
 import hashlib
 import json
+import marshal
 import os
 import time
 
@@ -15,12 +16,27 @@ NAME = "sums.json"
 
 def seen(names):
     """Returns what tells these crates' files apart from others without reading them, and when the last of them changed."""
-    total, last = hashlib.sha256(), 0
-    for path in [os.path.join(repository.TOP, "crates.txt"), *(path for name in names for path in repository.sources(name))]:
-        told = os.stat(path)
-        total.update(repr((path, told.st_size, told.st_mtime_ns, told.st_ctime_ns, told.st_ino)).encode())
-        last = max(last, told.st_ctime_ns)
-    return total.hexdigest(), last
+    told = os.stat(os.path.join(repository.TOP, "crates.txt"))
+    found, last = [("crates.txt", told.st_size, told.st_mtime_ns, told.st_ctime_ns, told.st_ino)], told.st_ctime_ns
+    waits = [os.path.join(repository.TOP, "crates", name, part) for name in names for part in repository.READ]
+    while waits:
+        try:
+            entries = os.scandir(waits.pop())
+        except OSError:
+            continue
+        with entries:
+            for each in entries:
+                if each.is_dir():
+                    # as a walk, not into what is linked
+                    waits += [] if each.is_symlink() else [each.path]
+                    continue
+                told = each.stat()
+                changed = told.st_ctime_ns
+                found.append((each.path, told.st_size, told.st_mtime_ns, changed, told.st_ino))
+                if changed > last:
+                    last = changed
+    # in a form that is the same for the same values
+    return hashlib.sha256(marshal.dumps(sorted(found), 2)).hexdigest(), last
 
 
 def before(place, names, now):

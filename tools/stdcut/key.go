@@ -1,4 +1,5 @@
-// A digest of all that decides what is cut of the modules themselves: their files without the bodies of functions.
+// A look at the modules: a digest of all that decides what is cut of them, their files without the bodies of functions, and what else is asked of
+// their files.
 package main
 
 import (
@@ -22,10 +23,23 @@ import (
 // A source is a file of a tree: how it is named in the digest, and where it stands.
 type source struct{ named, place string }
 
-// key is the digest of the trees.
-func key(of []*trees.Tree) (string, error) {
+// A look is what is told of the trees: the digest of what decides about them, and of each that of all that apigate reads of it, with the files
+// whose build lines are of the old form alone.
+type look struct {
+	Key   string     `json:"key"`
+	Trees []treeLook `json:"trees"`
+}
+
+type treeLook struct {
+	Digest string   `json:"digest"`
+	Old    []string `json:"old"`
+}
+
+// looked looks at the trees, with the help of the digests that an earlier run kept in a file.
+func looked(of []*trees.Tree, kept string) (*look, error) {
 	sum := sha256.New()
 	var all []source
+	var ends []int
 	for _, one := range of {
 		var paths []string
 		for path := range one.Places {
@@ -35,20 +49,41 @@ func key(of []*trees.Tree) (string, error) {
 		for _, path := range paths {
 			found, err := sources(path, one.Places[path])
 			if err != nil {
-				return "", err
+				return nil, err
 			}
 			all = append(all, found...)
 		}
-		fmt.Fprintf(sum, "%q %d\n", one.Module, len(all))
+		ends = append(ends, len(all))
 	}
-	parts, err := outers(all)
+	parts, err := digestsOf(all, kept)
 	if err != nil {
-		return "", err
+		return nil, err
 	}
-	for i, each := range all {
-		fmt.Fprintf(sum, "%s%x\n", each.named, parts[i])
+	told := &look{}
+	from := 0
+	for i, one := range of {
+		fmt.Fprintf(sum, "%q %d\n", one.Module, ends[i])
+		text, err := os.ReadFile(filepath.Join(one.Folder, "go.mod"))
+		if err != nil {
+			return nil, err
+		}
+		whole, old := sha256.New(), []string{}
+		fmt.Fprintf(whole, "%x\n", sha256.Sum256(text))
+		for at := from; at < ends[i]; at++ {
+			fmt.Fprintf(sum, "%s%x\n", all[at].named, parts[at].outer)
+			if base := filepath.Base(all[at].place); base[0] == '.' || base[0] == '_' {
+				continue
+			}
+			fmt.Fprintf(whole, "%s%x\n", all[at].named, parts[at].whole)
+			if below, err := filepath.Rel(one.Folder, all[at].place); err == nil && parts[at].isOld {
+				old = append(old, below)
+			}
+		}
+		told.Trees = append(told.Trees, treeLook{fmt.Sprintf("%x", whole.Sum(nil)), old})
+		from = ends[i]
 	}
-	return fmt.Sprintf("%x", sum.Sum(nil)), nil
+	told.Key = fmt.Sprintf("%x", sum.Sum(nil))
+	return told, nil
 }
 
 func sources(path, folder string) ([]source, error) {
@@ -65,42 +100,54 @@ func sources(path, folder string) ([]source, error) {
 	return found, nil
 }
 
-// outers are the digests of what counts in each file, side by side; what stands in both trees is read twice and parsed once.
-func outers(all []source) ([][sha256.Size]byte, error) {
-	texts := make([][]byte, len(all))
-	first := map[[sha256.Size]byte]int{}
+// digestsOf are the digests of the files, side by side; what stands in both trees is parsed once, and what an earlier run saw isn't parsed.
+func digestsOf(all []source, kept string) ([]digests, error) {
+	earlier := before(kept)
+	parts, stamps, texts := make([]digests, len(all)), make([]string, len(all)), make([][]byte, len(all))
+	first := map[sum]int{}
 	same := make([]int, len(all))
 	for i, each := range all {
+		same[i] = i
+		if kept != "" {
+			stamps[i] = earlier.stampOf(each.place)
+		}
+		if one, is := earlier.stamped[stamps[i]]; is {
+			parts[i] = one
+			continue
+		}
 		text, err := os.ReadFile(each.place)
 		if err != nil {
 			return nil, err
 		}
-		whole := sha256.Sum256(text)
-		at, is := first[whole]
-		if !is {
-			at, texts[i] = i, text
-			first[whole] = i
+		whole := sum(sha256.Sum256(text))
+		if one, is := earlier.whole[whole]; is {
+			parts[i] = one
+		} else if at, is := first[whole]; is {
+			same[i] = at
+		} else {
+			first[whole], texts[i], parts[i].whole = i, text, whole
 		}
-		same[i] = at
 	}
-	parts := make([][sha256.Size]byte, len(all))
 	var group sync.WaitGroup
 	free := make(chan struct{}, runtime.GOMAXPROCS(0))
 	for i := range all {
-		if same[i] != i {
+		if texts[i] == nil {
 			continue
 		}
 		group.Add(1)
 		free <- struct{}{}
 		go func(i int) {
 			defer func() { <-free; group.Done() }()
-			parts[i] = sha256.Sum256(outer(texts[i]))
+			parts[i].outer, parts[i].isOld = sha256.Sum256(outer(texts[i])), isOldForm(texts[i])
 			texts[i] = nil
 		}(i)
 	}
 	group.Wait()
 	for i, at := range same {
 		parts[i] = parts[at]
+	}
+	if kept != "" {
+		earlier.keep(kept, parts, stamps)
 	}
 	return parts, nil
 }

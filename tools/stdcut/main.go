@@ -2,12 +2,13 @@
 // folder for apigate's option --std.
 //
 //	go run ./tools/stdcut [--platforms NAMES] [--client DIR] [--whole PATHS] [--read FILE] --out DIR MODULE..
-//	go run ./tools/stdcut --key MODULE..
+//	go run ./tools/stdcut --key [--digests FILE] MODULE..
 //
 // README.md beside this file says what it writes, what it drops and what it says on its error output.
 package main
 
 import (
+	"encoding/json"
 	"flag"
 	"fmt"
 	"go/types"
@@ -45,7 +46,8 @@ type request struct {
 	whole     []string
 	read      string          // the file for the folders that were read outside of modules, if they are to be told
 	folders   map[string]bool // these folders
-	key       bool            // whether the digest of the trees is all that is asked for
+	key       bool            // whether a look at the trees is all that is asked for
+	digests   string          // the file for the digests of files, if they are to be kept
 }
 
 func main() {
@@ -55,12 +57,14 @@ func main() {
 		os.Exit(badWords)
 	}
 	if asked.key {
-		digest, err := key(asked.trees)
+		told, err := looked(asked.trees, asked.digests)
+		if err == nil {
+			err = json.NewEncoder(os.Stdout).Encode(told)
+		}
 		if err != nil {
 			fmt.Fprintln(os.Stderr, "stdcut:", err)
 			os.Exit(badWords)
 		}
-		fmt.Println(digest)
 		return
 	}
 	os.Exit(run(asked))
@@ -72,18 +76,19 @@ func read(words []string) (*request, error) {
 	out := options.String("out", "", "the folder that is written; it holds nothing yet, or isn't there")
 	whole := options.String("whole", "", "import paths, joined by commas, of which all that is exported is kept")
 	listed := options.String("read", "", "a file that gets the folders which were read outside of the modules, a line each")
-	digest := options.Bool("key", false, "print a digest of what decides about the modules, and write nothing")
+	digest := options.Bool("key", false, "print a digest of what decides about the modules, and of each a digest of all that apigate reads and the files with old build lines, as JSON")
+	kept := options.String("digests", "", "a file in which the digests of files are kept for the next run with --key")
 	var clients folders
 	options.Var(&clients, "client", "the folder of a client of the last module; may stand several times")
 	options.Usage = func() {
 		fmt.Fprintln(options.Output(), "stdcut [--platforms NAMES] [--client DIR] [--whole PATHS] [--read FILE] --out DIR MODULE..")
-		fmt.Fprintln(options.Output(), "stdcut --key MODULE..")
+		fmt.Fprintln(options.Output(), "stdcut --key [--digests FILE] MODULE..")
 		options.PrintDefaults()
 	}
 	if err := options.Parse(words); err != nil {
 		return nil, err
 	}
-	asked := &request{out: *out, clients: clients, read: *listed, folders: map[string]bool{}, key: *digest}
+	asked := &request{out: *out, clients: clients, read: *listed, folders: map[string]bool{}, key: *digest, digests: *kept}
 	var err error
 	if asked.platforms, err = trees.PlatformsOf(*names); err != nil {
 		return nil, err
