@@ -16,10 +16,15 @@ pub struct ParsedBody {
 }
 
 /// The statements of a function literal, and the byte offset of its `{`.
-#[derive(Drop)]
 pub struct LiteralBlock {
     pub start: u32,
     pub block: List<Stmt>,
+}
+
+impl Drop for LiteralBlock {
+    fn drop(self) {
+        let LiteralBlock { start: _, block: _ } = self;
+    }
 }
 
 /// A statement, and the byte offset at which it starts.
