@@ -55,7 +55,7 @@ fn root_files<'a>(alloc: Global, files: &'a [TreeFile]) -> Result<Vec<&'a TreeFi
 fn is_named_as(file: &ParsedFile, name: &[u8]) -> bool
     ensures { Decides result (IsNamedAs name.now file.now) }
 {
-    file.source.outline.package.text.bytes() == name
+    file.source.outline.value().package.text.bytes() == name
 }
 
 fn are_named_as(files: &[ParsedFile], name: &[u8]) -> bool
@@ -76,7 +76,7 @@ fn are_of_one(files: &[ParsedFile]) -> bool
     if files.is_empty() {
         return true;
     }
-    are_named_as(files, files[0].source.outline.package.text.bytes())
+    are_named_as(files, files[0].source.outline.value().package.text.bytes())
 }
 
 fn client_folder(alloc: Global) -> Result<Folder, NoMemory>

@@ -3,15 +3,20 @@ ghost use Rattle.std.specs.Prelude.{◌≡◌, ◌≤◌, length, IfOk, IfErr};
 ghost use Rattle.go_client_files.specs.ClientFiles.{IsParsed};
 ghost use Rattle.go_client_files.specs.inner.Causes.{Causes, HasBadText, HasBadTokens, HasNoBlocks, IsParsedOf};
 ghost use Rattle.go_file_blocks.specs.FileBlocks.{HasFileBlocks};
+ghost use Rattle.go_imports.specs.Outlines.{IsOutlineOf};
 ghost use Rattle.go_reading.specs.ChosenFiles.{path_of};
 ghost use Rattle.go_syntax.specs.grammar.SourceFiles.{HasOutline};
+ghost use Rattle.go_syntax.specs.lexical.Tokens.{IsTokens};
 
 use go_base::list::List;
+use go_base::memory::NoMemory;
 use go_base::text::Text;
 use go_cursor::error::ParseError;
 use go_file_blocks::blocks::file_blocks;
+use go_imports::outline::Outline;
 use go_imports::package_files::SourceFile;
 use go_lex::error::LexError;
+use go_lex::laws::one_list;
 use go_lex::scan::scan;
 use go_load::names::under;
 use go_model::files::tree::TreeFile;
@@ -62,7 +67,35 @@ fn blocks_of(
     }
 }
 
-fn parsed_tokens(alloc: Global, tokens: &[Token], path: Text) -> Result<ParsedFile, FileError>
+// A file with this tree, which is the outline of these bytes.
+fn outlined(
+    alloc: Global,
+    bytes: &[u8],
+    tree: File,
+    blocks: List<LiteralBlock>,
+    path: Text,
+) -> Result<ParsedFile, NoMemory>
+    requires { IsOutlineOf bytes.now tree }
+    ensures path { IfOk result (λ p. p.source.path ≡ path) }
+    ensures outline { IfOk result (λ p. p.source.outline ≡ tree) }
+    ensures blocks { IfOk result (λ p. p.blocks ≡ blocks) }
+{
+    one_list();
+    one_tree();
+    let outline = Outline::new(alloc, bytes, tree)?;
+    Ok(ParsedFile {
+        source: SourceFile { path, outline },
+        blocks,
+    })
+}
+
+fn parsed_tokens(
+    alloc: Global,
+    bytes: &[u8],
+    tokens: &[Token],
+    path: Text,
+) -> Result<ParsedFile, FileError>
+    requires { IsTokens bytes.now tokens.now }
     ensures path { IfOk result (λ p. p.source.path ≡ path) }
     ensures ok { IfOk result (IsParsedOf tokens.now) }
     ensures cause { IfErr result (Causes (HasBadTokens tokens.now)) }
@@ -72,10 +105,10 @@ fn parsed_tokens(alloc: Global, tokens: &[Token], path: Text) -> Result<ParsedFi
         Err(error) => Err(error),
         Ok(outline) => match blocks_of(alloc, tokens, &outline) {
             Err(error) => Err(error),
-            Ok(blocks) => Ok(ParsedFile {
-                source: SourceFile { path, outline },
-                blocks,
-            }),
+            Ok(blocks) => match outlined(alloc, bytes, outline, blocks, path) {
+                Err(NoMemory) => Err(FileError::NoMemory),
+                Ok(parsed) => Ok(parsed),
+            },
         },
     }
 }
@@ -89,7 +122,7 @@ fn parsed_at(alloc: Global, file: &TreeFile, path: Text) -> Result<ParsedFile, F
     match scan(alloc, file.bytes.bytes()) {
         Err(LexError::NoMemory) => Err(FileError::NoMemory),
         Err(LexError::BadToken(offset)) => Err(FileError::Faulty(FileFault::BadToken(offset))),
-        Ok(tokens) => parsed_tokens(alloc, tokens.items(), path),
+        Ok(tokens) => parsed_tokens(alloc, file.bytes.bytes(), tokens.items(), path),
     }
 }
 

@@ -87,10 +87,10 @@ fn client_file(
     requires { AreOrdered folders.now }
     ensures { IfOk result (GivesClientFile module_path.now folders.now parsed) }
 {
-    if imports_c(&parsed.source.outline) {
+    if imports_c(parsed.source.outline.value()) {
         return Ok(None);
     }
-    let uses = uses_in(alloc, module_path, folders, &parsed.source.outline)?;
+    let uses = uses_in(alloc, module_path, folders, parsed.source.outline.value())?;
     let ParsedFile { source, blocks } = parsed;
     let SourceFile { path, outline } = source;
     let file = PackageFile {

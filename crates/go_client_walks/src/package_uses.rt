@@ -117,10 +117,11 @@ fn add_declared_by(
 ) -> Result<(), NoMemory>
     ensures { OnOk result (Grows (IsDeclaredByFile source.now) declared.old.keys declared.new.keys) }
 {
-    if imports_c(&source.outline) {
+    let outline = source.outline.value();
+    if imports_c(outline) {
         return Ok(());
     }
-    add_declared(alloc, declared, source.outline.decls.items())
+    add_declared(alloc, declared, outline.decls.items())
 }
 
 fn declared_among(alloc: Global, sources: &[SourceFile]) -> Result<BTreeSet<Text>, NoMemory>
@@ -144,7 +145,7 @@ fn package_file(
     requires { AreOrdered folders.now }
     ensures { IfOk result (GivesFile module_path.now folders.now from_std declared.now.keys source) }
 {
-    if imports_c(&source.outline) {
+    if imports_c(source.outline.value()) {
         return Ok(None);
     }
     let uses = uses_in(
@@ -153,7 +154,7 @@ fn package_file(
         folders,
         from_std,
         declared,
-        &source.outline,
+        source.outline.value(),
     )?;
     let SourceFile { path, outline } = source;
     Ok(Some(PackageFile {

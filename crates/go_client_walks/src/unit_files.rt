@@ -9,7 +9,6 @@ ghost use Rattle.go_units.specs.inner.UnitMaking.{PackageFilesAreNamed, AreAlike
 use crate::folder::{folder_at, found};
 use go_base::list::List;
 use go_base::memory::NoMemory;
-use go_base::shared::Shared;
 use go_base::text::Text;
 use go_imports::used_imports::NamedImport;
 use go_units::folder::Folder;
@@ -88,7 +87,7 @@ fn unit_file(
     } = file;
     Ok(UnitFile {
         path,
-        outline: Shared::new(alloc, outline)?,
+        outline,
         imports,
     })
 }
@@ -186,7 +185,7 @@ pub fn name_of(alloc: Global, files: &[PackageFile]) -> Result<Text, NoMemory>
     requires alike { AreAlike files.now }
     ensures { IfOk result (PackageFilesAreNamed files.now) }
 {
-    Text::of(alloc, files[0].outline.package.text.bytes())
+    Text::of(alloc, files[0].outline.value().package.text.bytes())
 }
 
 /// The unit of these files, which stand in a folder.

@@ -3,6 +3,7 @@ pub mod Gives
 pub mod ImportPaths
 pub mod InternalUses
 pub mod Orders
+pub mod Outlines
 pub mod PackageFiles
 pub mod UsedImports
 pub mod inner

@@ -6,6 +6,7 @@ pub mod cycle;
 pub mod import_paths;
 pub mod laws;
 pub mod order;
+pub mod outline;
 pub mod package_files;
 mod text_set;
 pub mod used_imports;

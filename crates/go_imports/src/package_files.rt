@@ -5,6 +5,7 @@ ghost use Rattle.go_imports.specs.PackageFiles.{AreOfOnePackage, HasC, IsC};
 ghost use Rattle.go_imports.specs.Answers.{Decides};
 ghost use Rattle.go_imports.specs.inner.Files.{IsNamedAs};
 
+use crate::outline::Outline;
 use go_base::text::Text;
 use go_syntax::declaration::{File, ImportSpec};
 
@@ -13,13 +14,13 @@ use go_syntax::declaration::{File, ImportSpec};
 pub struct SourceFile {
     /// Its path below the root of its tree.
     pub path: Text,
-    pub outline: File,
+    pub outline: Outline,
 }
 
 fn is_named_as(file: &SourceFile, name: &[u8]) -> bool
     ensures { Decides result (IsNamedAs name.now file.now) }
 {
-    file.outline.package.text.bytes() == name
+    file.outline.value().package.text.bytes() == name
 }
 
 fn are_named_as(files: &[SourceFile], name: &[u8]) -> bool
@@ -41,7 +42,7 @@ pub fn are_of_one_package(files: &[SourceFile]) -> bool
     if files.is_empty() {
         return true;
     }
-    are_named_as(files, files[0].outline.package.text.bytes())
+    are_named_as(files, files[0].outline.value().package.text.bytes())
 }
 
 fn is_c(import: &ImportSpec) -> bool

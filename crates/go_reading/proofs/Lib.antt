@@ -5,6 +5,7 @@ pub mod GroupEntries
 pub mod HeadedFiles
 pub mod ListFacts
 pub mod OneFolderList
+pub mod OneOutlines
 pub mod OneReading
 pub mod PackageNames
 pub mod ReadSources

@@ -4,6 +4,7 @@ use mathlib.Core.Bool.{true≢false}
 use Rattle.std.proofs.lemmas.List.{append-nil}
 use Rattle.go_base.specs.Lists.{Has}
 use Rattle.go_imports.specs.Gives.{Gives, none, next, optional}
+use Rattle.go_imports.specs.Outlines.{IsOutlineOf}
 use Rattle.go_imports.specs.declared.package_files.SourceFile.{SourceFile}
 use Rattle.go_model.specs.declared.files.build.Header.{Header}
 use Rattle.go_model.specs.declared.files.platform.Platform.{Platform}
@@ -12,7 +13,6 @@ use Rattle.go_model.specs.files.Headers.{IsHeader}
 use Rattle.go_reading.proofs.PackageNames.{left_not_chosen}
 use Rattle.go_reading.specs.ChosenFiles.{IsAllowed, IsChosen, IsLeftOut, IsFaulty, IsSource, GivesSource, path_of}
 use Rattle.go_reading.specs.FolderReadings.{IsFirstRefused, IsReading}
-use Rattle.go_reading.specs.Outlines.{IsOutlineOf}
 use Rattle.go_reading.specs.inner.SourceCauses.{HasBadText}
 use Rattle.go_syntax.specs.declared.declaration.File.{File}
 use Rattle.go_syntax.specs.declared.token.Token.{Token}

@@ -2,6 +2,7 @@
 -- Public source: "Build constraints" of Go's package go/build; the Go specification, "Package clause" and "Source file organization". Own: only the headers of files
 -- whose names the platform allows are read; a file is refused for its header before it is for a token, and for a token before it is for its grammar.
 use Rattle.std.specs.Prelude.{◌≡◌, ◌⊎◌, ℕ, true, false, Option, Some, None, List}
+use Rattle.go_imports.specs.Outlines.{IsOutlineOf}
 use Rattle.go_imports.specs.declared.package_files.SourceFile.{SourceFile}
 use Rattle.go_load.specs.Names.{under}
 use Rattle.go_model.specs.declared.files.build.Header.{Header}
@@ -9,7 +10,7 @@ use Rattle.go_model.specs.declared.files.platform.Platform.{Platform}
 use Rattle.go_model.specs.declared.files.tree.TreeFile.{TreeFile}
 use Rattle.go_model.specs.files.BuildValues.{is_chosen}
 use Rattle.go_model.specs.files.Headers.{IsHeader, HasBadExpression, HasTwoBuildLines, HasPlusAlone}
-use Rattle.go_reading.specs.Outlines.{IsOutlineOf, IsNotInGrammar}
+use Rattle.go_reading.specs.Outlines.{IsNotInGrammar}
 use Rattle.go_syntax.specs.lexical.Lexemes.{IsBadOffset}
 use Rattle.go_units.specs.declared.reader.FileFault.{FileFault}
 use Rattle.go_units.specs.declared.reader.FileFault.TheVariants as fault

@@ -1,14 +1,10 @@
--- The outline of a file's bytes: the syntax tree of their tokens, bodies skipped.
+-- Bytes that have no outline.
 -- Public source: Go specification, "Source file organization", "Tokens".
 use Rattle.std.specs.Prelude.{ℕ, List}
 use Rattle.go_syntax.specs.declared.declaration.File.{File}
 use Rattle.go_syntax.specs.declared.token.Token.{Token}
 use Rattle.go_syntax.specs.grammar.SourceFiles.{HasOutline}
 use Rattle.go_syntax.specs.lexical.Tokens.{IsTokens}
-
--- the bytes have tokens, whose outline this is
-abbrev pub IsOutlineOf : List ℕ → File → Type 0
-IsOutlineOf bytes f = (tokens : List Token) × IsTokens bytes tokens × HasOutline tokens f
 
 -- the bytes have tokens, and those have no outline
 abbrev pub IsNotInGrammar : List ℕ → Type 0

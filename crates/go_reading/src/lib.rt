@@ -6,6 +6,7 @@ mod folder_list;
 mod gathering;
 mod groups;
 mod heads;
+pub mod known;
 pub mod laws;
 mod outlines;
 mod reader;

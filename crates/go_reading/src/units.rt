@@ -5,6 +5,7 @@ ghost use Rattle.go_model.specs.files.Trees.{IsTree};
 ghost use Rattle.go_reading.specs.TreeUnits.{AreUnitsOfTrees};
 
 use crate::folder_list::{TreeFolders, tree_folders};
+use crate::known::KnownOutlines;
 use crate::reader::TreeReader;
 use go_base::text::Text;
 use go_model::files::platform::Platform;
@@ -15,7 +16,7 @@ use std::alloc::Global;
 
 /// The units of a module's tree on a platform: its packages in canonical order, with those of the standard library's tree that
 /// they reach through found imports that they use. The barred paths are the paths of modules, that of this tree among them: a
-/// folder of the standard library with one of them, or under one, is ignored.
+/// folder of the standard library with one of them, or under one, is ignored. A file whose outline is known isn't parsed again.
 ///
 /// Else the first refusal. The folders of the module are read in the order of their paths, and then always the one with the
 /// least path for which a used import asks. In each one the first file that is refused comes first: for its header where the
@@ -29,6 +30,7 @@ pub fn units(
     std_tree: &Tree,
     barred: &[Text],
     platform: Platform,
+    known: &KnownOutlines,
 ) -> Result<Units, UnitError>
     requires tree { IsTree tree.now }
     requires std { IsTree std_tree.now }
@@ -38,7 +40,7 @@ pub fn units(
     match tree_folders(alloc, platform, barred, tree, std_tree) {
         Err(_) => Err(UnitError::NoMemory),
         Ok(TreeFolders { folders, contents }) => {
-            let reader = TreeReader { contents };
+            let reader = TreeReader { contents, known };
             go_units::units::units(alloc, &reader, tree.module.bytes(), folders.items())
         }
     }

@@ -202,3 +202,17 @@ file_sync =
     let i = lists.the_sync import_row.the_row import_spec.the_sync in
     let d = lists.the_sync decl.the_row decl_sync in
     search sendable depth 20
+
+pub file_field_send : IsSend (file.the_field).row
+file_field_send =
+    let n = name.the_field_send in
+    let i = lists.the_send import_row.the_row import_spec.the_send in
+    let d = lists.the_send decl.the_row decl_send in
+    search sendable depth 20
+
+pub file_field_sync : IsSync (file.the_field).row
+file_field_sync =
+    let n = name.the_field_sync in
+    let i = lists.the_sync import_row.the_row import_spec.the_sync in
+    let d = lists.the_sync decl.the_row decl_sync in
+    search sendable depth 20

@@ -11,10 +11,10 @@ use crate::heads::{Head, HeadedFile};
 use crate::outlines::outline_of;
 use go_base::list::List;
 use go_base::memory::NoMemory;
+use go_imports::outline::Outline;
 use go_imports::package_files::SourceFile;
 use go_load::names::under;
 use go_model::files::tree::TreeFile;
-use go_syntax::declaration::File;
 use go_units::reader::{FileFault, Reading};
 use std::alloc::Global;
 
@@ -25,7 +25,7 @@ pub(crate) enum SourceError {
     NoMemory,
 }
 
-fn named(alloc: Global, file: &TreeFile, outline: File) -> Result<SourceFile, SourceError>
+fn named(alloc: Global, file: &TreeFile, outline: Outline) -> Result<SourceFile, SourceError>
     ensures path { IfOk result (λ s. s.path ≡ path_of file.now) }
     ensures outline { IfOk result (λ s. s.outline ≡ outline) }
     ensures cause { IfErr result IsNoMemory }

@@ -9,6 +9,7 @@ use crate::folder::{Folder, folder_at, named};
 use go_base::list::List;
 use go_base::memory::NoMemory;
 use go_base::text::Text;
+use go_imports::outline::Outline;
 use go_imports::package_files::{SourceFile, imports_c};
 use go_imports::used_imports::{Import, NamedImport, add_declared, qualifiers, used_imports};
 use go_syntax::declaration::{File, ImportSpec};
@@ -21,7 +22,7 @@ use std::collections::BTreeSet;
 pub struct PackageFile {
     /// Its path below the root of its tree.
     pub path: Text,
-    pub outline: File,
+    pub outline: Outline,
     pub uses: List<NamedImport>,
 }
 
@@ -123,10 +124,11 @@ fn add_declared_by(
 ) -> Result<(), NoMemory>
     ensures { OnOk result (Grows (IsDeclaredByFile source.now) declared.old.keys declared.new.keys) }
 {
-    if imports_c(&source.outline) {
+    let outline = source.outline.value();
+    if imports_c(outline) {
         return Ok(());
     }
-    add_declared(alloc, declared, source.outline.decls.items())
+    add_declared(alloc, declared, outline.decls.items())
 }
 
 fn declared_among(alloc: Global, sources: &[SourceFile]) -> Result<BTreeSet<Text>, NoMemory>
@@ -150,7 +152,7 @@ fn package_file(
     requires { AreOrdered folders.now }
     ensures { IfOk result (GivesFile module_path.now folders.now from_std declared.now.keys source) }
 {
-    if imports_c(&source.outline) {
+    if imports_c(source.outline.value()) {
         return Ok(None);
     }
     let uses = uses_in(
@@ -159,7 +161,7 @@ fn package_file(
         folders,
         from_std,
         declared,
-        &source.outline,
+        source.outline.value(),
     )?;
     let SourceFile { path, outline } = source;
     Ok(Some(PackageFile {

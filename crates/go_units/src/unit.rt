@@ -3,9 +3,8 @@ ghost use Rattle.std.specs.Prelude.{◌≡◌, ◌<◌, length};
 ghost use Rattle.go_units.specs.UnitFacts.{UnitFilesAreNamed, needed_by};
 
 use go_base::list::List;
-use go_base::shared::Shared;
 use go_base::text::Text;
-use go_syntax::declaration::File;
+use go_imports::outline::Outline;
 
 /// An import that a file uses.
 #[derive(Debug, Drop)]
@@ -24,7 +23,7 @@ pub struct UsedImport {
 pub struct UnitFile {
     /// Its path below the root of its tree.
     pub path: Text,
-    pub outline: Shared<File>,
+    pub outline: Outline,
     /// The imports that it uses, in the order of their places.
     pub imports: List<UsedImport>,
 }

@@ -11,7 +11,6 @@ use crate::package_uses::PackageFile;
 use crate::unit::{Unit, UnitFile, UsedImport};
 use go_base::list::List;
 use go_base::memory::NoMemory;
-use go_base::shared::Shared;
 use go_base::text::Text;
 use go_imports::used_imports::NamedImport;
 use std::alloc::Global;
@@ -87,7 +86,7 @@ fn unit_file(
     } = file;
     Ok(UnitFile {
         path,
-        outline: Shared::new(alloc, outline)?,
+        outline,
         imports,
     })
 }
@@ -182,7 +181,7 @@ fn name_of(alloc: Global, files: &[PackageFile]) -> Result<Text, NoMemory>
     requires alike { AreAlike files.now }
     ensures { IfOk result (PackageFilesAreNamed files.now) }
 {
-    Text::of(alloc, files[0].outline.package.text.bytes())
+    Text::of(alloc, files[0].outline.value().package.text.bytes())
 }
 
 /// The unit of these files, which stand in a folder.

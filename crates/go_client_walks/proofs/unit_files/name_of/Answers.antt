@@ -1,5 +1,6 @@
 use Rattle.std.proofs.Common.{◌≡◌, ◌∙◌, List, ℕ, sym, ap}
 use Rattle.go_imports.proofs.Files.{has_item}
+use Rattle.go_syntax.specs.declared.declaration.File.{File}
 use Rattle.go_units.specs.declared.package_uses.PackageFile.{PackageFile}
 use Rattle.go_units.specs.inner.UnitMaking.{PackageFilesAreNamed}
 use Rattle.go_units.proofs.Results.{if_ok_as}
@@ -8,5 +9,5 @@ use Rattle.go_client_walks.proofs.unit_files.name_of.Goals as goal
 pub returns : goal.returns
 returns c =
     if_ok_as (λ (text : List ℕ). text ≡ c.bytes.result.now) (PackageFilesAreNamed c.args.files.now)
-    (λ text e f h. c.requires.alike f c.index-files-0.result h (has_item c.args.files.now 0 c.index-files-0.result c.requires.some c.index-files-0.is) ∙ ap (λ (g : PackageFile). g.outline.«package».text) c.index-files-0.is ∙ sym c.bytes.ensures ∙ sym e)
+    (λ text e f h. c.requires.alike f c.index-files-0.result h (has_item c.args.files.now 0 c.index-files-0.result c.requires.some c.index-files-0.is) ∙ ap (λ (g : PackageFile). g.outline.«package».text) c.index-files-0.is ∙ sym (c.bytes.ensures ∙ ap (λ (g : File). g.«package».text) c.value.ensures) ∙ sym e)
     c.of.result c.of.ensures
