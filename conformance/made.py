@@ -210,6 +210,383 @@ NESTS = [
     ("func a(b ", "[]", "c", "", ")"), ("func (a ", "*", "b", "", ") c()"), ("func a() {", "(", "b", ")", "}"), ("var a = func() {", "{", "b", "}", "}"),
 ]
 
+# Statements, alone in a function.
+STATEMENTS = """
+
+;
+;;
+{}
+{;}
+{ ; }
+x
+x; y
+x; y;
+x y
+x,
+x, y
+x.y
+x()
+x().y[z]
+(x)
+[]x
+[]x{}
+[]x(y)
+[]x[y](z)
+[]*x[y](z)
+map[x]y[z](a)
+x([]y[z])
+x([]func() y[z])
+struct{}{}
+chan x
+func() {}
+func() {}()
+func() { func() { func() {} } }
+func() int
+x{}
+x{y: z, {}}
+*x = y
+<-x
+<-x = y
+<-chan x(y)
+!x
+1
+"a"
+x <- y
+x <- <-y
+x, y <- z
+x <- y, z
+x <- []y
+x++
+x--
+x, y++
+++x
+x = y
+x, y = z
+x, y = z, a
+x = y, z
+x = y = z
+x == y
+[]x = y
+x = []y
+x := y
+x, y := z
+x.y := z
+(x) := y
+_ := x
+x, y.z := a
+1 := x
+x := []y
+x += y
+x -= y
+x *= y
+x /= y
+x %= y
+x &= y
+x |= y
+x ^= y
+x <<= y
+x >>= y
+x &^= y
+x, y += z
+x += y, z
+x, y += z, a
+x =+ y
+const x = 1
+const x
+const x int
+const (x = iota; y; z)
+const ()
+const x, y int = 1, 2
+var x
+var x int
+var x, y = z
+var x int = y
+var x []y = z
+var (x int; y = z)
+var ()
+type x int
+type x = y
+type (x int)
+type ()
+import "x"
+func x() {}
+x: y
+x: y: z
+x:
+x:;
+x: {}
+x: for {}
+x.y: z
+(x): y
+x: var y int
+{ x: }
+x: case y:
+go x
+go x()
+go (x())
+go x().y
+go func() {}()
+go []x(y)
+go []x
+go x; y
+go
+defer x
+defer x()
+defer (x)()
+defer (x())
+defer func() { x }()
+return
+return x
+return x, y
+return func() { return }
+return []x
+return x,
+break
+break x
+break x y
+break 1
+continue
+continue x
+goto
+goto x
+goto 1
+fallthrough
+fallthrough x
+if x {}
+if x { y } else { z }
+if x {} else if y {} else {}
+if x {} else if y {} else if z {}
+if x {} else y
+if x {} else
+if {}
+if ; x {}
+if x; y {}
+if x := y; z {}
+if x, y := z; a {}
+if x = y; z {}
+if x++; y {}
+if x <- y; z {}
+if x := y {}
+if x; {}
+if ; {}
+if ;; {}
+if x; y; z {}
+if var x = y; z {}
+if x{} {}
+if (x{}) {}
+if x == y{} {}
+if x == (y{}) {}
+if []x{} {}
+if [...]x{} {}
+if x([]y{z{}}) {}
+if x[y{}] {}
+if &x{} {}
+if func() bool { return x{} }() {}
+if func() { if x{} {} }() {}
+if struct{}{} == x {}
+if map[x]y{} == z {}
+if interface{}(x) {}
+if x, y {}
+if []x {}
+if x {} y
+if x { y }; else { z }
+if (x := y); z {}
+switch {}
+switch x {}
+switch x { case y: }
+switch x { case y, z: a; b }
+switch x { case y: z; default: a; case b: }
+switch x { default: default: }
+switch x { case: }
+switch x { case y }
+switch x { case y: fallthrough; case z: }
+switch x { case y: {}; case z: ; }
+switch x { case []y: }
+switch x { case y := z: }
+switch x { y }
+switch x { case y: z: }
+switch x { case y: z: case a: }
+switch ; {}
+switch ;; {}
+switch ; x {}
+switch x; {}
+switch x; y {}
+switch x := y; {}
+switch x := y; z {}
+switch x := y {}
+switch x, y {}
+switch x{} {}
+switch (x{}) {}
+switch x.y {}
+switch x() {}
+switch []x{} {}
+switch []x {}
+switch x; y; z {}
+switch x.(type) {}
+switch x := y.(type) {}
+switch x = y.(type) {}
+switch x, y := z.(type) {}
+switch x, y := z.(type), a {}
+switch x.y := z.(type) {}
+switch _ := x.(type) {}
+switch (x.(type)) {}
+switch x := (y.(type)); z {}
+switch *x.(type) {}
+switch -x.(type) {}
+switch x.(type) + y {}
+switch x.(type).y {}
+switch y + x.(type) {}
+switch x[y].z().(type) {}
+switch (x + y).(type) {}
+switch x{}.(type) {}
+switch []x{}.(type) {}
+switch func() {}.(type) {}
+switch x; y.(type) {}
+switch x := y; z.(type) {}
+switch x := y; z := a.(type) {}
+switch ; x := y.(type) {}
+switch x.(type); y {}
+switch x.(type); {}
+switch x.(type) { case int, nil: y; case *z.a, []b, func(c) d: default: }
+switch x.(type) { case y(z): }
+switch x.(type) { case 1: }
+switch x.(type) { case y + z: }
+switch x.(type) { case y[z]: }
+switch x.(type) { case (y): }
+switch x.(type) { case []y{}: }
+switch x.(type) { case struct{ y z }, interface{ a() }, map[b]c, chan d, <-chan e, chan<- f: }
+switch x.(type) { case: }
+switch x.(type) { case y: fallthrough }
+x.(type)
+x = y.(type)
+x := y.(type)
+x(y.(type))
+x.(y).(type)
+select {}
+select { case <-x: }
+select { case (<-x): ; case ((<-y)): }
+select { case x <- y: z; default: a }
+select { case x = <-y: case z, a = <-b: case c := <-d: case e, f := <-g: }
+select { case x := (<-y): }
+select { case x, y, z := <-a: }
+select { case x, y, z = <-a: }
+select { case x, y := <-z, <-a: }
+select { case x: }
+select { case x(): }
+select { case x + <-y: }
+select { case <-x + y: }
+select { case -<-x: }
+select { case x := y: }
+select { case x = y: }
+select { case x.y = <-z: case a[b], c.d = <-e: }
+select { case x.y := <-z: }
+select { case x += <-y: }
+select { case x++: }
+select { case <-x, <-y: }
+select { case <-x.(y): case <-(z): case <-a(): case <-<-b: }
+select { case <-chan x(y): }
+select { case x{} <- y{}: }
+select { case x := <-y{}: }
+select { case []x <- y: }
+select { case var x = <-y: }
+select { case: }
+select { default: default: }
+select { case <-x: y: }
+select x {}
+select { x }
+for {}
+for x {}
+for x.y() {}
+for ; ; {}
+for ;; x++ {}
+for ; x; {}
+for x; ; {}
+for x := 0; x < y; x++ {}
+for x, y := 0, 1; ; x, y = y, x {}
+for x = y; z; a() {}
+for x <- y; z; <-a {}
+for ; ; x := y {}
+for x; y {}
+for x; {}
+for ; {}
+for x := y {}
+for x++ {}
+for ; x := y; {}
+for x{} {}
+for (x{}) {}
+for ; x{}; {}
+for ; ; x{} {}
+for x := y{}; ; {}
+for x := []y{}; ; {}
+for var x = 0; ; {}
+for x, y {}
+for []x {}
+for range x {}
+for range x{} {}
+for range (x{}) {}
+for range []x{y{}} {}
+for range func() { x{} } {}
+for range {}
+for range x, y {}
+for range []x {}
+for x = range y {}
+for x, y = range z {}
+for x.y, z[a] = range b {}
+for *x = range y {}
+for x, y, z = range a {}
+for x := range y {}
+for x, y := range z {}
+for x, y, z := range a {}
+for x, y, z, a := range b {}
+for x.y := range z {}
+for x, y.z := range a {}
+for x += range y {}
+for x == range y {}
+for x := range y; z {}
+for ; x := range y; {}
+for x range y {}
+for _, _ = range x {}
+for x := range <-y {}
+for x := range chan y {}
+x := range y
+x = range y
+else {}
+case x:
+default:
+range x
+...x
+x...
+x(y...)
+)
+}
+]
+}; func g() {
+}; var x = func() { y }; func g() {
+""".split("\n")
+
+STATEMENT_NESTS = [
+    ("", "{", "", "}", ""), ("", "{", "a()", "}", ""), ("", "if a {", "", "}", ""), ("", "if a {} else ", "{}", "", ""), ("", "for {", "b", "}", ""), ("", "a: ", "b", "", ""),
+    ("", "switch { case a: ", "b", "}", ""), ("", "switch a.(type) { case b: ", "c", "}", ""), ("", "select { case <-a: ", "b", "}", ""), ("", "func() {", "", "}()", ""),
+    ("a = ", "func() { return ", "b", "}", ""), ("", "for range a {", "return", "}", ""), ("", "for a := range b {", "c", "}", ""), ("", "select { default: ", "goto a", "}", ""),
+    ("return ", "(", "a", ")", ""), ("a <- ", "!", "b", "", ""), ("a[", "b(", "c", ")", "]++"), ("const a = ", "(", "b", ")", ""), ("var a ", "[]", "b", "", ""),
+    ("switch ", "(", "a", ")", " {}"), ("switch ", "(", "a", ")", ".(type) {}"), ("switch a.(type) { case ", "[]", "b", "", ": }"), ("select { case ", "(", "<-a", ")", ": }"),
+    ("select { case a = ", "(", "<-b", ")", ": }"), ("for a := range ", "(", "b", ")", " {}"), ("for ; ; ", "(", "b", ")", " {}"), ("defer ", "a(", "b()", ")", ""),
+    ("go func() {", "{", "break a", "}", "}()"), ("if a := func() { ", "if b {", "c", "}", "}; a {}"), ("a, ", "*", "b", "", " = c"), ("switch { case ", "(", "a", ")", ": }"),
+    ("for { func() { a(func() { ", "{", "continue", "}", "}) }() }"), ("var a = func() ", "[]", "b", "", " { c }"), ("a := b{", "{", "c", "}", "}"), ("a(func(b ", "[]", "c", "", ") {})"),
+]
+
+
+def bodies():
+    """Each source of a body as its title and its bytes."""
+    for line in STATEMENTS:
+        for before, behind in (("{ ", " }"), ("{\n", "\n}"), ("{ a; ", "; b }"), ("{ return func() { ", " } }")):
+            yield before + line, (HEAD + "func f() " + before + line + behind + "\n").encode()
+        yield "var = func() { %s }" % line, (HEAD + "var v = func() { " + line + " }\n").encode()
+    for before, opened, inner, closed, behind in STATEMENT_NESTS:
+        for count in [1, 2, 3] + list(range(60, 70)) + list(range(80, 90)) + list(range(122, 132)) + list(range(248, 262)) + [400]:
+            text = HEAD + "func f() { " + before + opened * count + inner + closed * count + behind + " }\n"
+            yield "%s, %d times %s %s" % (before, count, opened, closed), text.encode()
+
 
 def sources():
     """Each source as its title and its bytes."""

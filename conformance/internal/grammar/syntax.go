@@ -132,6 +132,7 @@ type grammar struct {
 	lost    []int // the offsets of types that Go's parser took out of its tree
 	met     notes
 	refused bool
+	inside  bool // whether the blocks of function literals are looked at too
 }
 
 func (g *grammar) refuse(why string) int {
@@ -415,7 +416,11 @@ func (g *grammar) expr(x ast.Expr) int {
 	case *ast.Ident, *ast.BasicLit, *ast.BadExpr, nil:
 		return 0
 	case *ast.FuncLit:
-		return 1 + g.signature(x.Type, false)
+		height := g.signature(x.Type, false)
+		if g.inside {
+			height = most(height, g.block(x.Body))
+		}
+		return 1 + height
 	case *ast.CompositeLit:
 		return g.composite(x)
 	case *ast.ParenExpr:

@@ -16,6 +16,7 @@ type tree struct {
 	files  *token.FileSet
 	r      *readable
 	source []byte
+	g      *grammar // where statements are written
 	// differs is set where Go reads type parameters in place of the length of an array.
 	differs bool
 }
@@ -336,13 +337,58 @@ func (t *tree) posts(e ast.Expr) (operand ast.Expr, write func()) {
 	case *ast.CallExpr:
 		before, own = e.Fun, func() { t.call(e) }
 	default:
-		return e, func() {}
+		of, indices := withoutIndices(e)
+		return of, func() {
+			for _, index := range indices {
+				t.part("index", func() { t.expr(index) })
+			}
+		}
 	}
 	operand, earlier := t.posts(before)
 	return operand, func() {
 		earlier()
 		own()
 	}
+}
+
+// withoutIndices is a type that an operand is, without the indices behind it that Go reads as type arguments of its last name, and these.
+func withoutIndices(e ast.Expr) (ast.Expr, []ast.Expr) {
+	var indices []ast.Expr
+	last := func(inner ast.Expr) ast.Expr {
+		if index, is := inner.(*ast.IndexExpr); is {
+			indices = append(indices, index.Index)
+			return index.X
+		}
+		of, found := withoutIndices(inner)
+		indices = append(indices, found...)
+		return of
+	}
+	switch e := e.(type) {
+	case *ast.StarExpr:
+		of := *e
+		of.X = last(e.X)
+		return &of, indices
+	case *ast.ArrayType:
+		of := *e
+		of.Elt = last(e.Elt)
+		return &of, indices
+	case *ast.MapType:
+		of := *e
+		of.Value = last(e.Value)
+		return &of, indices
+	case *ast.ChanType:
+		of := *e
+		of.Value = last(e.Value)
+		return &of, indices
+	case *ast.FuncType:
+		if e.Results != nil && !e.Results.Opening.IsValid() {
+			of, result := *e, *e.Results.List[0]
+			result.Type = last(result.Type)
+			of.Results = &ast.FieldList{List: []*ast.Field{&result}}
+			return &of, indices
+		}
+	}
+	return e, nil
 }
 
 func (t *tree) call(e *ast.CallExpr) {
@@ -430,7 +476,17 @@ func (t *tree) expr(e ast.Expr) {
 			write()
 		})
 	default:
-		t.part("type", func() { t.typ(e) })
+		of, indices := withoutIndices(e)
+		if len(indices) == 0 {
+			t.part("type", func() { t.typ(e) })
+			return
+		}
+		t.part("primary", func() {
+			t.expr(of)
+			for _, index := range indices {
+				t.part("index", func() { t.expr(index) })
+			}
+		})
 	}
 }
 

@@ -7,6 +7,8 @@
 //	                 the named differences, joined by semicolons
 //	oracle trees     prints a line for each source: Go's tree of it as the crate syntax writes its own, or
 //	                 nothing where Go's parser refuses it
+//	oracle blocks    prints a line for each source: what the crate syntax has to say of its blocks, a tab, and
+//	                 the named differences; nothing before the tab where Go's parser alone refuses it
 //	oracle chosen    reads a platform and a file's path a line, and prints whether go/build chooses the
 //	                 file, or why it refuses it
 //	oracle units     reads files of trees as the crate units does, and tells their units
@@ -47,6 +49,12 @@ func main() {
 			fmt.Fprintln(out, text)
 			return true
 		})
+	case "blocks":
+		frames.Frames(func(source []byte) bool {
+			answer, met := grammar.Blocks(source)
+			fmt.Fprintf(out, "%s\t%s\n", answer, strings.Join(met.Sorted(), "; "))
+			return true
+		})
 	case "chosen":
 		lines := bufio.NewScanner(os.Stdin)
 		for lines.Scan() {
@@ -56,7 +64,7 @@ func main() {
 	case "units":
 		units.UnitsOf(out)
 	default:
-		fmt.Fprintln(os.Stderr, "oracle: tokens, syntax, trees, chosen or units")
+		fmt.Fprintln(os.Stderr, "oracle: tokens, syntax, trees, blocks, chosen or units")
 		os.Exit(2)
 	}
 }

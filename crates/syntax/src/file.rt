@@ -37,7 +37,12 @@ fn push_spec(
     push_word(out, "))")
 }
 
-fn push_consts(alloc: Global, out: &mut Vec<u8>, specs: &[ConstSpec]) -> Result<(), AllocError> {
+/// Writes specs of constants.
+pub fn push_consts(
+    alloc: Global,
+    out: &mut Vec<u8>,
+    specs: &[ConstSpec],
+) -> Result<(), AllocError> {
     push_word(out, " (const")?;
     for spec in specs {
         push_spec(
@@ -51,7 +56,8 @@ fn push_consts(alloc: Global, out: &mut Vec<u8>, specs: &[ConstSpec]) -> Result<
     push_word(out, ")")
 }
 
-fn push_vars(alloc: Global, out: &mut Vec<u8>, specs: &[VarSpec]) -> Result<(), AllocError> {
+/// Writes specs of variables.
+pub fn push_vars(alloc: Global, out: &mut Vec<u8>, specs: &[VarSpec]) -> Result<(), AllocError> {
     push_word(out, " (var")?;
     for spec in specs {
         push_spec(

@@ -9,18 +9,23 @@
 //! value N WORD    the same where its token N, from 0, says `nothing`, `wide` or an integer
 //! tree            its tree, where it has one
 //! references      the names that its declarations refer to outside of bodies, where it has a tree
+//! blocks          the blocks of its functions and function literals, in the order of their places, where it has a tree;
+//!                 `no-blocks` where a body isn't one
 //! ```
 //!
 //! Of a tree each part is a word and further parts in parentheses. A name has its offset after `@`, a text
 //! is `text:` and hexadecimal digits, a body of a function its two offsets, and `-` is a part that isn't there.
+//! A block and a statement have theirs behind the word.
 //! A line that begins with `#` is printed as it is. Where the input isn't such frames it says so on standard
 //! error and ends with status 2.
 #![tactic(auto)]
 
+mod blocks;
 mod changed;
 mod file;
 mod question;
 mod reading;
+mod statement;
 mod tree;
 
 use crate::question::push_answer;

@@ -1,14 +1,17 @@
 //! A question about a source, and its answer.
 ghost use Rattle.std.specs.Prelude.{◌≤◌, length};
 
+use crate::blocks::push_file_blocks;
 use crate::changed::{Change, reading_of_changed};
 use crate::file::push_file;
-use crate::reading::{Reading, reading_of};
+use crate::reading::{Reading, outline_of, reading_of};
 use crate::tree::{push_name, push_word};
 use frames::fault::Fault;
+use go_lex::error::LexError;
+use go_lex::scan::scan;
 use go_references::references::decl_refs;
 use go_syntax::declaration::{Decl, File};
-use go_syntax::token::TokenValue;
+use go_syntax::token::{Token, TokenValue};
 use std::alloc::{AllocError, Global};
 
 fn number(word: &str) -> Result<usize, Fault> {
@@ -74,6 +77,25 @@ fn push_refs(alloc: Global, out: &mut Vec<u8>, reading: &Reading) -> Result<(), 
     }
 }
 
+fn push_blocks(alloc: Global, out: &mut Vec<u8>, tokens: &[Token]) -> Result<(), Fault> {
+    match outline_of(alloc, tokens)? {
+        Reading::Tree(file) => push_file_blocks(alloc, out, tokens, &file),
+        other => Ok(push_verdict(alloc, out, &other)?),
+    }
+}
+
+fn answer_blocks(alloc: Global, out: &mut Vec<u8>, source: &[u8]) -> Result<(), Fault>
+    requires { length source.now ≤ 4194304 }
+{
+    match scan(alloc, source) {
+        Ok(tokens) => push_blocks(alloc, out, tokens.items()),
+        Err(LexError::BadToken(place)) => {
+            Ok(push_verdict(alloc, out, &Reading::BadToken(place))?)
+        }
+        Err(LexError::NoMemory) => Err(Fault::NoMemory),
+    }
+}
+
 fn answer_changed(
     alloc: Global,
     out: &mut Vec<u8>,
@@ -90,6 +112,9 @@ fn answer_changed(
 fn answer_plain(alloc: Global, out: &mut Vec<u8>, source: &[u8], word: &str) -> Result<(), Fault>
     requires { length source.now ≤ 4194304 }
 {
+    if word == "blocks" {
+        return answer_blocks(alloc, out, source);
+    }
     let reading = reading_of(alloc, source)?;
     match word {
         "" => Ok(push_verdict(alloc, out, &reading)?),

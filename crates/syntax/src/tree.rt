@@ -110,7 +110,8 @@ fn compare_word(op: CompareOp) -> &'static str {
     }
 }
 
-fn sum_word(op: SumOperator) -> &'static str {
+/// An operator of a sum.
+pub fn sum_word(op: SumOperator) -> &'static str {
     match op {
         SumOperator::Add => " +",
         SumOperator::Subtract => " -",
@@ -119,7 +120,8 @@ fn sum_word(op: SumOperator) -> &'static str {
     }
 }
 
-fn product_word(op: ProductOperator) -> &'static str {
+/// An operator of a product.
+pub fn product_word(op: ProductOperator) -> &'static str {
     match op {
         ProductOperator::Multiply => " *",
         ProductOperator::Divide => " /",
