@@ -2,6 +2,7 @@ pub mod Alike
 pub mod AlikeFindings
 pub mod FoundOn
 pub mod LeftOutPlatforms
+pub mod ListedSides
 pub mod OneFinding
 pub mod OneListing
 pub mod PlainPaths

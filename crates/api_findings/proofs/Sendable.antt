@@ -9,18 +9,18 @@ use Rattle.go_model.proofs.Sendable.{world_send}
 use Rattle.api_lines.proofs.line.Line.TheSendSync as line
 use Rattle.api_lines.specs.contracts.line.Line as line_row
 use Rattle.api_worlds.proofs.error.PlatformError.TheSendSync as error
-use Rattle.api_worlds.specs.contracts.platform_world.PlatformWorld as platform_world
 use Rattle.api_findings.specs.contracts.sides.CountedWorld as counted
-use Rattle.api_findings.specs.contracts.sides.ListedWorld as listed
+use Rattle.api_findings.specs.contracts.listed.Listed as listed
+use Rattle.api_findings.specs.contracts.sides.ListedWorld as listed_world
 
-platform_world_send : IsSend (platform_world.the_field).row
-platform_world_send = let w = world_send in let t = lists.the_send text_row.the_row text.the_send in search sendable depth 20
+listed_send : IsSend (listed.the_field).row
+listed_send = let t = lists.the_send text_row.the_row text.the_send in let l = lists.the_send line_row.the_row line.the_send in search sendable depth 20
 
-listed_send : IsSend listed.the_row
-listed_send = let w = platform_world_send in let l = lists.the_send line_row.the_row line.the_send in search sendable depth 20
+listed_world_send : IsSend listed_world.the_row
+listed_world_send = let w = world_send in let l = listed_send in search sendable depth 20
 
-listed_field_send : IsSend (listed.the_field).row
-listed_field_send = let w = platform_world_send in let l = lists.the_send line_row.the_row line.the_send in search sendable depth 20
+listed_world_field_send : IsSend (listed_world.the_field).row
+listed_world_field_send = let w = world_send in let l = listed_send in search sendable depth 20
 
 pub counted_send : (L : RattleType) → IsSend L → IsSend (counted.the_row L)
-counted_send L s = let l = listed_send in let f = listed_field_send in let e = error.the_send in search sendable depth 20
+counted_send L s = let l = listed_world_send in let f = listed_world_field_send in let e = error.the_send in search sendable depth 20

@@ -12,9 +12,10 @@ ghost use Rattle.go_base.specs.Lists.{Each, Has};
 ghost use Rattle.go_file_choices.specs.AlikePlatforms.{AreFirsts, files_of};
 ghost use Rattle.go_model.specs.files.Trees.{IsTree};
 
+use crate::chain::Chain;
 use crate::copies::{left_out_at, verdict_at};
 use crate::found::Found;
-use crate::outcomes::{Counted, Outcome, outcome_on, sought};
+use crate::outcomes::{Counted, Outcome, fresh_in, outcome_on, sought};
 use crate::trees::RunTrees;
 use api_judge::verdict::Verdict;
 use api_lines::platform_lines::PlatformLines;
@@ -150,7 +151,7 @@ fn add_outcome(
     }
 }
 
-// What `find` says, by the numbers of the first platforms that are alike, one platform after another.
+// What `find` says, by the numbers of the first platforms that are alike, one platform after another. Each takes over from the one before.
 fn find_in_order<R: Threads + Sync, G: Gate + Sync, L: Copy + Send>(
     rt: &R,
     alloc: Global,
@@ -169,6 +170,7 @@ fn find_in_order<R: Threads + Sync, G: Gate + Sync, L: Copy + Send>(
     ensures steps { CountsAtMost trees.now.barred.now (option_copied trees.now.old_tree) trees.now.tree.now trees.now.std_tree.now platforms.now steps.old steps.new }
 {
     let mut all = Findings::none(alloc);
+    let mut chain = Chain::new(fresh_in(firsts, 0) > 1);
     for at in 0..platforms.len() {
         let outcome = outcome_on(
             rt,
@@ -178,6 +180,7 @@ fn find_in_order<R: Threads + Sync, G: Gate + Sync, L: Copy + Send>(
             platforms[at],
             firsts[at],
             at,
+            &mut chain,
             gate,
             steps,
         );
@@ -281,8 +284,9 @@ fn find_by<R: Threads + Sync, G: Gate + Sync, L: Copy + Send>(
 
 /// What is found on these platforms in the new tree over the standard library's and, where there is an old tree, in both, and what was left out of them; or `Refused`
 /// with the fault line of the first platform on which a tree is refused, the old one before the new; or `NoMemory`. So many workers look at platforms at
-/// once, and where there are more of them than platforms, at both trees; what is found doesn't depend on their number. The counter rises by at
-/// most the number of the packages of both trees on all platforms together.
+/// once, and where there are more of them than platforms, at both trees; what is found doesn't depend on their number. A worker that has a platform to
+/// itself takes over what it typed before: of the same tree on its last platform, and of the old tree on this one. What stands there as it is written
+/// here isn't parsed or checked again. The counter rises by at most the number of the packages of both trees on all platforms together.
 pub fn find<R: Threads + Sync, G: Gate + Sync, L: Copy + Send>(
     rt: &R,
     alloc: Global,

@@ -4,10 +4,13 @@ ghost use Rattle.std.specs.Option.{option_copied};
 ghost use Rattle.std.specs.Thread.{IsSend, IsSync};
 ghost use Rattle.api_findings.specs.Checks.{CountsAtMost};
 ghost use Rattle.api_findings.specs.Findings.{IsOldTree};
+ghost use Rattle.api_findings.specs.inner.Chains.{IsChain};
 ghost use Rattle.api_findings.specs.inner.Outcomes.{AreAppended, AreOutcomes, IsOutcome, has_ended};
 ghost use Rattle.api_findings.specs.inner.Sides.{AreTrees};
 
-use crate::found::{Found, found_on};
+use crate::chain::Chain;
+use crate::found::Found;
+use crate::found_on::found_on;
 use crate::trees::RunTrees;
 use api_worlds::error::PlatformError;
 use go_base::list::List;
@@ -35,7 +38,8 @@ pub(crate) struct Counted<L> {
     pub steps: Steps<L>,
 }
 
-/// What comes of the platform of this number, where the first one that is alike has that number. So many workers look at the trees.
+/// What comes of the platform of this number, where the first one that is alike has that number. So many workers look at the trees; a single one takes over
+/// from the platform before.
 pub(crate) fn outcome_on<R: Threads + Sync, G: Gate + Sync, L: Copy + Send>(
     rt: &R,
     alloc: Global,
@@ -44,21 +48,38 @@ pub(crate) fn outcome_on<R: Threads + Sync, G: Gate + Sync, L: Copy + Send>(
     platform: Platform,
     first: usize,
     number: usize,
+    chain: &mut Chain,
     gate: &G,
     steps: &mut Steps<L>,
 ) -> Outcome
     requires old { IsOldTree trees.now.barred.now (option_copied trees.now.old_tree) }
     requires trees { AreTrees trees.now.barred.now trees.now.tree.now trees.now.std_tree.now }
+    requires chain { IsChain chain.old }
+    ensures chain { IsChain chain.new }
     ensures outcome { IsOutcome trees.now.barred.now (option_copied trees.now.old_tree) trees.now.tree.now trees.now.std_tree.now first number platform result }
     ensures steps { CountsAtMost trees.now.barred.now (option_copied trees.now.old_tree) trees.now.tree.now trees.now.std_tree.now (platform ∷ []) steps.old steps.new }
 {
     if first < number {
         return Outcome::Alike;
     }
-    match found_on(rt, alloc, workers, trees, platform, gate, steps) {
+    match found_on(rt, alloc, workers, trees, platform, chain, gate, steps) {
         Err(error) => Outcome::Ended(error),
         Ok(found) => Outcome::Sought(found),
     }
+}
+
+/// How many of the platforms aren't alike to an earlier one.
+pub(crate) fn fresh_in(firsts: &[usize], start: usize) -> usize
+    requires { start + length firsts.now < 2 ^ 64 }
+    ensures { result ≤ length firsts.now }
+{
+    let mut fresh = 0;
+    for at in 0..firsts.len() {
+        if firsts[at] >= start + at {
+            fresh += 1;
+        }
+    }
+    fresh
 }
 
 fn has_ended(outcome: &Outcome) -> bool
@@ -71,7 +92,7 @@ fn has_ended(outcome: &Outcome) -> bool
     }
 }
 
-// What comes of the platforms one after another, until an error; the first one has this number.
+// What comes of the platforms one after another, until an error; the first one has this number. Each takes over from the one before.
 fn in_order<R: Threads + Sync, G: Gate + Sync, L: Copy + Send>(
     rt: &R,
     alloc: Global,
@@ -91,6 +112,7 @@ fn in_order<R: Threads + Sync, G: Gate + Sync, L: Copy + Send>(
     ensures steps { CountsAtMost trees.now.barred.now (option_copied trees.now.old_tree) trees.now.tree.now trees.now.std_tree.now platforms.now steps.old steps.new }
 {
     let mut all = List::new(alloc);
+    let mut chain = Chain::new(fresh_in(firsts, start) > 1);
     for at in 0..platforms.len() {
         let outcome = outcome_on(
             rt,
@@ -100,6 +122,7 @@ fn in_order<R: Threads + Sync, G: Gate + Sync, L: Copy + Send>(
             platforms[at],
             firsts[at],
             start + at,
+            &mut chain,
             gate,
             steps,
         );
@@ -180,20 +203,6 @@ fn together<L: Copy>(ours: Counted<L>, theirs: Counted<L>) -> Counted<L>
         outcomes: appended(outcomes, others),
         steps,
     }
-}
-
-// How many of the platforms aren't alike to an earlier one.
-fn fresh_in(firsts: &[usize], start: usize) -> usize
-    requires { start + length firsts.now < 2 ^ 64 }
-    ensures { result ≤ length firsts.now }
-{
-    let mut fresh = 0;
-    for at in 0..firsts.len() {
-        if firsts[at] >= start + at {
-            fresh += 1;
-        }
-    }
-    fresh
 }
 
 // The end of the platforms among which so many aren't alike to an earlier one.

@@ -1,9 +1,11 @@
-//! What one tree of a run has on a platform, with its features, and what two trees have at once.
+//! What one tree of a run has on a platform, with what is listed of it, and what two trees have at once.
+ghost use Rattle.std.specs.Prelude.{◌≡◌};
 ghost use Rattle.std.specs.Thread.{IsSend, IsSync};
 ghost use Rattle.api_findings.specs.inner.Sides.{AnswersListed, AreTrees};
 ghost use Rattle.api_texts.specs.declared.lines.Side.TheVariants as side;
 ghost use Rattle.api_worlds.specs.PlatformWorlds.{CountsAtMost};
 
+use crate::listed::Listed;
 use api_features::features::features;
 use api_lines::line::Line;
 use api_texts::lines::Side;
@@ -15,31 +17,41 @@ use go_base::list::List;
 use go_base::memory::NoMemory;
 use go_base::steps::Steps;
 use go_model::laws::sendable;
+use go_model::types::world::World;
 use go_outside::gate::Gate;
 use std::alloc::Global;
 use std::thread::{Threads, join};
 
-/// What one tree has on a platform, and the features of it.
+/// The world of one tree on a platform, and what is listed of it.
 pub(crate) struct ListedWorld {
-    pub world: PlatformWorld,
-    pub lines: List<Line>,
+    pub world: World,
+    pub listed: Listed,
 }
 
 impl Drop for ListedWorld {
     fn drop(self) {
-        let ListedWorld { world: _, lines: _ } = self;
+        let ListedWorld {
+            world: _,
+            listed: _,
+        } = self;
     }
 }
 
 impl ListedWorld {
-    ghost use Rattle.std.specs.Prelude.{◌≡◌};
-
-    /// The world and the features, moved out.
-    pub(crate) fn into_parts(self) -> (PlatformWorld, List<Line>)
-        ensures { result ≡ (self.world, self.lines) }
+    /// Both, moved out.
+    pub(crate) fn into_parts(self) -> (World, Listed)
+        ensures { result ≡ (self.world, self.listed) }
     {
-        let ListedWorld { world, lines } = self;
-        (world, lines)
+        let ListedWorld { world, listed } = self;
+        (world, listed)
+    }
+
+    /// What is listed, moved out.
+    pub(crate) fn into_listed(self) -> Listed
+        ensures { result ≡ self.listed }
+    {
+        let ListedWorld { world: _, listed } = self;
+        listed
     }
 }
 
@@ -49,7 +61,19 @@ pub(crate) struct CountedWorld<L> {
     pub steps: Steps<L>,
 }
 
-/// What one tree has on a platform, and its features.
+fn with_lines(found: PlatformWorld, lines: List<Line>) -> ListedWorld
+    ensures world { result.world ≡ found.world }
+    ensures lines { result.listed.lines ≡ lines }
+    ensures left_out { result.listed.left_out ≡ found.left_out }
+{
+    let (world, left_out) = found.into_parts();
+    ListedWorld {
+        world,
+        listed: Listed { lines, left_out },
+    }
+}
+
+/// The world of one tree on a platform, and what is listed of it.
 pub(crate) fn listed_on<R: Threads + Sync, G: Gate + Sync, L: Copy + Send>(
     rt: &R,
     alloc: Global,
@@ -65,9 +89,9 @@ pub(crate) fn listed_on<R: Threads + Sync, G: Gate + Sync, L: Copy + Send>(
 {
     match world_on(rt, alloc, side, workers, trees, gate, steps) {
         Err(error) => Err(error),
-        Ok(world) => match features(alloc, &world.world) {
+        Ok(found) => match features(alloc, &found.world) {
             Err(NoMemory) => Err(PlatformError::NoMemory),
-            Ok(lines) => Ok(ListedWorld { world, lines }),
+            Ok(lines) => Ok(with_lines(found, lines)),
         },
     }
 }

@@ -81,10 +81,11 @@ fn decide<R: Threads + Sync, F: Files, G: Gate + Sync, L: Copy + Send>(
 /// or, platform by platform and the old tree before the new one, the packages or a client's files are refused, or the last version isn't a
 /// release or none can follow it. Else it is `Broken` where `frozen` or `gate` tells a lost line, `judge` or `gate` what is
 /// broken, or `vet` a client that is untyped, and else `Pass`. In place of these may come `ReadFault`, only where the store failed and never in mode `make`,
-/// and `NoMemory`, at any time; and in place of all `WriteFault`, only where a sink failed. The hook hears of each check of a
-/// package before it begins, as of worker 0 whichever thread checks it, and the counter rises by one for each. As many workers as the words give look at
-/// platforms at once and, where there are more of them than platforms, at both trees; each checks the packages of its tree one after another. A client is
-/// looked at by one. None of these clauses speaks of their number: a run ends with the same report by any.
+/// and `NoMemory`, at any time; and in place of all `WriteFault`, only where a sink failed. The hook hears of each
+/// package right before it is checked, as of worker 0 or, where several share the packages of a tree, of the worker's number among them, and the counter rises by one for each.
+/// A package that stands as it is in the old tree, or on the platform that was looked at before, with all that it imports, is taken over from there and isn't checked; where several
+/// workers look at one platform, all are checked. As many workers as the words give look at platforms at once and, where there are more of them than platforms, at both trees and at
+/// packages that don't need each other. None of these clauses speaks of their number: a run ends with the same report by any.
 pub fn run<R: Threads + Sync, F: Files, S: Sink, E: Sink, G: Gate + Sync, L: Copy + Send>(
     rt: &R,
     alloc: Global,

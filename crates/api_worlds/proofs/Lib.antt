@@ -1,3 +1,4 @@
 pub mod KeptPackages
+pub mod ListedPackages
 pub mod OneWorld
 pub mod PlatformAnswers

@@ -5,6 +5,7 @@ use Rattle.api_refusals.specs.Refusals.{package_text, refusal_line, unit_text}
 use Rattle.api_texts.specs.declared.lines.Side.{Side}
 use Rattle.api_worlds.specs.declared.error.PlatformError.{PlatformError}
 use Rattle.api_worlds.specs.declared.error.PlatformError.TheVariants as error
+use Rattle.api_worlds.specs.declared.next_world.NextWorld.{NextWorld}
 use Rattle.api_worlds.specs.declared.platform_world.PlatformWorld.{PlatformWorld}
 use Rattle.go_model.specs.declared.files.platform.Platform.{Platform}
 use Rattle.go_model.specs.declared.files.tree.Tree.{Tree}
@@ -46,6 +47,11 @@ module _ (barred : List (List ℕ)) (tree std_tree : Tree) where
   abbrev pub AnswersWorld : Side → Platform → Result PlatformWorld PlatformError → Type 0
   AnswersWorld s p (Ok w) = IsWorldOn p w.world
   AnswersWorld s p (Err e) = IsErrorOn s p e
+
+  -- the same, where the packages are kept
+  abbrev pub AnswersNext : Side → Platform → Result NextWorld PlatformError → Type 0
+  AnswersNext s p (Ok w) = IsWorldOn p w.typed.world
+  AnswersNext s p (Err e) = IsErrorOn s p e
 
   -- how many packages are checked on a platform: all that the trees have there, or none
   pub data CountsOn (p : Platform) : ℕ → Type 0 where

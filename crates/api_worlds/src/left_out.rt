@@ -1,18 +1,21 @@
 //! What is left out of the packages of trees, as lines.
-ghost use Rattle.std.specs.Prelude.{◌≡◌, ◌++◌, [], IfOk, OnOk};
+ghost use Rattle.std.specs.Prelude.{◌≡◌, ◌++◌, [], IfOk, OnOk, map};
 ghost use Rattle.std.specs.Cmp.Lexicographic.{slice_cmp};
 ghost use Rattle.std.specs.Ordering.{is_lt, nat_cmp};
 ghost use Rattle.api_refusals.specs.SkippedTexts.{skipped_texts};
-ghost use Rattle.api_worlds.specs.LeftOut.{all_lines, path_of, with_lines};
-ghost use Rattle.api_worlds.specs.inner.KeptLines.{kept_lines, lines_from};
+ghost use Rattle.api_worlds.specs.LeftOut.{all_lines, lines_with, path_of, with_lines};
+ghost use Rattle.api_worlds.specs.inner.KeptLines.{kept_lines};
 ghost use Rattle.go_base.specs.Keys.{PlaceFor, placed};
+ghost use Rattle.go_exposed.specs.SkippedValues.{all_skipped};
 
 use api_refusals::skipped::skipped_texts;
 use go_base::list::List;
 use go_base::memory::NoMemory;
 use go_base::order::order;
 use go_base::text::Text;
+use go_exposed::skipped::Skipped;
 use go_model::files::tree::Tree;
+use go_units::unit::Unit;
 use go_work::checked::SkippedUnit;
 use std::alloc::Global;
 use std::cmp::Ordering;
@@ -82,17 +85,19 @@ fn add_package(
     put(packages, PackageLines { path, lines })
 }
 
+// Those of one package more, of which this is left out.
 fn add_unit(
     alloc: Global,
     packages: &mut Vec<PackageLines>,
     tree: &Tree,
     std_tree: &Tree,
-    kept: &SkippedUnit,
+    unit: &Unit,
+    skipped: &[Skipped],
 ) -> Result<(), NoMemory>
-    ensures { OnOk result (packages.new.items ≡ lines_from tree.now std_tree.now packages.old.items kept.now) }
+    ensures { OnOk result (packages.new.items ≡ with_lines unit.now.path (skipped_texts tree.now std_tree.now unit.now (all_skipped skipped.now)) packages.old.items) }
 {
-    let path = Text::of(alloc, kept.unit.path.bytes())?;
-    let lines = skipped_texts(alloc, tree, std_tree, &kept.unit, kept.skipped.items())?;
+    let path = Text::of(alloc, unit.path.bytes())?;
+    let lines = skipped_texts(alloc, tree, std_tree, unit, skipped)?;
     add_package(packages, path, lines)
 }
 
@@ -126,7 +131,39 @@ pub(crate) fn left_out(
 {
     let mut packages = Vec::new(alloc);
     for unit in kept {
-        add_unit(alloc, &mut packages, tree, std_tree, unit)?;
+        add_unit(
+            alloc,
+            &mut packages,
+            tree,
+            std_tree,
+            &unit.unit,
+            unit.skipped.items(),
+        )?;
+    }
+    joined(alloc, packages)
+}
+
+/// The same of packages, each of which stands beside what is left out of it.
+pub(crate) fn left_out_of(
+    alloc: Global,
+    tree: &Tree,
+    std_tree: &Tree,
+    units: &[Unit],
+    skipped: &[List<Skipped>],
+) -> Result<List<Text>, NoMemory>
+    ensures { IfOk result (λ lines. lines ≡ all_lines (lines_with tree.now std_tree.now [] units.now (map all_skipped skipped.now))) }
+{
+    let mut packages = Vec::new(alloc);
+    let many = units.len().min(skipped.len());
+    for at in 0..many {
+        add_unit(
+            alloc,
+            &mut packages,
+            tree,
+            std_tree,
+            &units[at],
+            skipped[at].items(),
+        )?;
     }
     joined(alloc, packages)
 }

@@ -4,6 +4,8 @@
 pub mod error;
 pub mod laws;
 pub mod left_out;
+pub mod next_world;
+mod platform_units;
 pub mod platform_world;
 pub mod refused;
 pub mod trees;

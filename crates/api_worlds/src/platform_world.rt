@@ -23,11 +23,11 @@ impl Drop for PlatformWorld {
 impl PlatformWorld {
     ghost use Rattle.std.specs.Prelude.{◌≡◌};
 
-    /// What was left out, moved out.
-    pub fn into_left_out(self) -> List<Text>
-        ensures { result ≡ self.left_out }
+    /// The packages and what was left out, moved out.
+    pub fn into_parts(self) -> (World, List<Text>)
+        ensures { result ≡ (self.world, self.left_out) }
     {
-        let PlatformWorld { world: _, left_out } = self;
-        left_out
+        let PlatformWorld { world, left_out } = self;
+        (world, left_out)
     }
 }

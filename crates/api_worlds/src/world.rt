@@ -10,6 +10,7 @@ ghost use Rattle.api_worlds.specs.inner.PlatformSteps.{AnswersOfUnits, AreLinesO
 
 use crate::error::PlatformError;
 use crate::left_out::left_out;
+use crate::platform_units::platform_units;
 use crate::platform_world::PlatformWorld;
 use crate::refused::{refused_package, refused_units};
 use crate::trees::PlatformTrees;
@@ -18,7 +19,6 @@ use go_base::memory::NoMemory;
 use go_base::steps::Steps;
 use go_outside::gate::Gate;
 use go_reading::laws::unit_paths;
-use go_reading::units::units;
 use go_units::unit_list::Units;
 use go_work::checked::CheckedWorld;
 use go_work::error::WorkError;
@@ -95,13 +95,7 @@ pub fn world_on<R: Threads + Sync, G: Gate + Sync, L: Copy + Send>(
     ensures steps { CountsAtMost trees.now.barred.now trees.now.tree.now trees.now.std_tree.now trees.now.platform steps.old steps.new }
 {
     unit_paths();
-    match units(
-        alloc,
-        trees.tree,
-        trees.std_tree,
-        trees.barred,
-        trees.platform,
-    ) {
+    match platform_units(alloc, trees, None, None) {
         Err(error) => Err(refused_units(alloc, side, trees, &[], &error)),
         Ok(units) => world_of(rt, alloc, side, workers, trees, units, gate, steps),
     }

@@ -1,3 +1,4 @@
+pub mod EarlierUnits
 pub mod LevelEnds
 pub mod LevelSteps
 pub mod LevelTurns
@@ -8,5 +9,6 @@ pub mod ReadyRows
 pub mod RowLists
 pub mod Sendable
 pub mod TakenUnits
+pub mod TypedSoFar
 pub mod TypedUnits
 pub mod UnitPrefixes

@@ -36,13 +36,17 @@ module _ (bits : ℕ) where
     all_typed = (refl, rest.all_typed);
   }
 
-  skips_of : {w v : Packages} {us : List PackageSource} {xss : List (List Skipped)} → Offer bits w us xss v → Skip bits w us (map all_skipped xss)
+  pub skips_of : {w v : Packages} {us : List PackageSource} {xss : List (List Skipped)} → Offer bits w us xss v → Skip bits w us (map all_skipped xss)
   skips_of offer_none = skip_none
   skips_of (offer_more p imports o s more) = skip_more (typed p) (imports, o) s (skips_of more)
 
+  -- their world
+  pub offered_world : {us : List PackageSource} {xss : List (List Skipped)} {w : Packages} → Offer bits no_packages us xss w → IsWorldOf bits us w
+  offered_world o = let w = offered_outcomes o in record { outcomes = w.outcomes; become = w.become; all_typed = w.all_typed }
+
   -- ---- one more
 
-  offer_last : {w v : Packages} {us : List PackageSource} {xss : List (List Skipped)} (u : PackageSource) (p : Package) (xs : List Skipped) → Offer bits w us xss v → AreTyped v u → IsOfferedAs (over bits v) u p → IsSkipped (over bits v) u (all_skipped xs)
+  pub offer_last : {w v : Packages} {us : List PackageSource} {xss : List (List Skipped)} (u : PackageSource) (p : Package) (xs : List Skipped) → Offer bits w us xss v → AreTyped v u → IsOfferedAs (over bits v) u p → IsSkipped (over bits v) u (all_skipped xs)
       → Offer bits w (us ++ u ∷ []) (xss ++ xs ∷ []) (with_outcome v u (typed p))
   offer_last u p xs offer_none imports o s = offer_more p imports o s offer_none
   offer_last u p xs (offer_more q j r t more) imports o s = offer_more q j r t (offer_last u p xs more imports o s)
@@ -68,7 +72,7 @@ module _ (bits : ℕ) where
   -- ---- all
 
   pub taken_world : (us : List PackageUnit) (checked : CheckedWorld) → AreTaken bits us checked → IsWorldOf bits (sources us) checked.world
-  taken_world us checked t = let w = offered_outcomes t.offer in record { outcomes = w.outcomes; become = w.become; all_typed = w.all_typed }
+  taken_world us checked t = offered_world t.offer
 
   pub taken_kept : (us : List PackageUnit) (checked : CheckedWorld) → AreTaken bits us checked → AreKept bits us checked.skipped
   taken_kept us checked t = record { skipped = t.left_out; skips = skips_of t.offer; «is» = t.kept }

@@ -1,4 +1,5 @@
 pub mod Answers
 pub mod KeptUnits
 pub mod Paths
+pub mod TypedUnits
 pub mod inner

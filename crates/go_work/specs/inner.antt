@@ -1,4 +1,5 @@
 pub mod Checks
+pub mod EarlierUnits
 pub mod NextUnits
 pub mod Progresses
 pub mod Rows

@@ -23,7 +23,8 @@ use go_units::unit::Unit;
 use go_units::unit_list::Units;
 use std::alloc::Global;
 
-fn error_at(number: u32, unit: Unit, error: CheckError) -> WorkError
+// What a package of a number is refused for.
+pub(crate) fn error_at(number: u32, unit: Unit, error: CheckError) -> WorkError
     ensures { result ≡ error_at number unit error }
 {
     match error {

@@ -3,6 +3,8 @@
 
 mod by_levels;
 pub mod checked;
+mod copied;
+mod earlier;
 pub mod error;
 mod in_turn;
 mod keep;
@@ -11,4 +13,5 @@ mod plan;
 mod progress;
 mod publics;
 mod rows;
+pub mod typed;
 pub mod world;

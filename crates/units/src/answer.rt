@@ -13,6 +13,7 @@ use go_load::load::{load_module, load_std};
 use go_model::files::platform::Platform;
 use go_model::files::tree::Tree;
 use go_outside::memory_files::{FilePair, MemoryFiles};
+use go_reading::known::KnownOutlines;
 use go_reading::laws::unit_paths;
 use go_reading::units::units;
 use go_units::unit_error::UnitError;
@@ -61,7 +62,8 @@ fn of_trees<R: Threads + Sync>(
     if let Err(_) = bar(alloc, &mut barred, tree.module.bytes()) {
         return Err(AllocError);
     }
-    match units(alloc, tree, std_tree, barred.items(), platform) {
+    let known = KnownOutlines::none(alloc);
+    match units(alloc, tree, std_tree, barred.items(), platform, &known) {
         Err(error) => refused(alloc, &error),
         Ok(units) => match question {
             Question::Units => listed(alloc, &units),

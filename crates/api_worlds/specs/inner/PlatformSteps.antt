@@ -6,6 +6,7 @@ use Rattle.api_worlds.specs.PlatformWorlds.{sources_of}
 use Rattle.api_worlds.specs.declared.error.PlatformError.{PlatformError}
 use Rattle.api_worlds.specs.declared.error.PlatformError.TheVariants as error
 use Rattle.api_worlds.specs.LeftOut.{all_lines, lines_with}
+use Rattle.api_worlds.specs.declared.next_world.NextWorld.{NextWorld}
 use Rattle.api_worlds.specs.declared.platform_world.PlatformWorld.{PlatformWorld}
 use Rattle.go_exposed.specs.OfferedWorlds.{IsFirstRefused, IsWorldOf}
 use Rattle.go_exposed.specs.SkippedDeclarations.{Skipped}
@@ -23,8 +24,17 @@ pub record AreLinesOf (tree std_tree : Tree) (p : Platform) (units : Units) (lin
   pub «is» : lines ≡ all_lines (lines_with tree std_tree [] units.packages skipped)
 
 module _ (tree std_tree : Tree) (s : Side) (p : Platform) where
-  -- the world of these units, or the fault line of the first package that is refused
+  -- the fault line of the first of these units that is refused; want of memory may come at any time
+  abbrev pub IsErrorOfUnits : Units → PlatformError → Type 0
+  IsErrorOfUnits units (error.Refused line) = (n : ℕ) × (r : Refusal) × IsFirstRefused (bits_of p) (sources_of units) n r × (line ≡ refusal_line s p (package_text tree std_tree [] units.packages n r))
+  IsErrorOfUnits units error.NoMemory = Unit {0}
+
+  -- the world of these units, or that
   abbrev pub AnswersOfUnits : Units → Result PlatformWorld PlatformError → Type 0
   AnswersOfUnits units (Ok w) = IsWorldOf (bits_of p) (sources_of units) w.world
-  AnswersOfUnits units (Err (error.Refused line)) = (n : ℕ) × (r : Refusal) × IsFirstRefused (bits_of p) (sources_of units) n r × (line ≡ refusal_line s p (package_text tree std_tree [] units.packages n r))
-  AnswersOfUnits units (Err error.NoMemory) = Unit {0}
+  AnswersOfUnits units (Err e) = IsErrorOfUnits units e
+
+  -- the same, where they are kept
+  abbrev pub AnswersNextUnits : Units → Result NextWorld PlatformError → Type 0
+  AnswersNextUnits units (Ok w) = IsWorldOf (bits_of p) (sources_of units) w.typed.world
+  AnswersNextUnits units (Err e) = IsErrorOfUnits units e

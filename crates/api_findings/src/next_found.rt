@@ -1,0 +1,234 @@
+//! What is found on one platform by one worker, which takes over what was typed on the platform before.
+ghost use Rattle.std.specs.Prelude.{◌≡◌, ◌∷◌, [], IfOk, IfSome, Some, None};
+ghost use Rattle.std.specs.Option.{option_copied};
+ghost use Rattle.api_findings.specs.Checks.{CountsAtMost};
+ghost use Rattle.api_findings.specs.Findings.{IsLeftOut, IsOldTree};
+ghost use Rattle.api_findings.specs.inner.Chains.{IsChain};
+ghost use Rattle.api_findings.specs.inner.Found.{AnswersFound};
+ghost use Rattle.api_findings.specs.inner.Sides.{AnswersNextListed, AreTrees, IsListedOn};
+ghost use Rattle.api_worlds.specs.PlatformWorlds.{CountsAtMost as CountsAtMostOn};
+ghost use Rattle.go_work.specs.TypedUnits.{AreTypedUnits};
+
+use crate::chain::Chain;
+use crate::found::{Found, featured, verdict_of};
+use crate::listed::Listed;
+use crate::trees::RunTrees;
+use api_features::features::features;
+use api_lines::line::Line;
+use api_texts::lines::Side;
+use api_worlds::error::PlatformError;
+use api_worlds::next_world::{NextWorld, next_world_on};
+use api_worlds::trees::PlatformTrees;
+use go_base::list::List;
+use go_base::memory::NoMemory;
+use go_base::steps::Steps;
+use go_model::files::platform::Platform;
+use go_model::files::tree::Tree;
+use go_outside::gate::Gate;
+use go_work::typed::TypedUnits;
+use std::alloc::Global;
+
+/// The packages of one tree on a platform as they were typed, and what is listed of them.
+pub(crate) struct ListedUnits {
+    pub typed: TypedUnits,
+    pub listed: Listed,
+}
+
+impl Drop for ListedUnits {
+    fn drop(self) {
+        let ListedUnits {
+            typed: _,
+            listed: _,
+        } = self;
+    }
+}
+
+impl ListedUnits {
+    // Both, moved out.
+    fn into_parts(self) -> (TypedUnits, Listed)
+        ensures { result ≡ (self.typed, self.listed) }
+    {
+        let ListedUnits { typed, listed } = self;
+        (typed, listed)
+    }
+
+    // The packages, moved out.
+    fn into_typed(self) -> TypedUnits
+        ensures { result ≡ self.typed }
+    {
+        let ListedUnits { typed, listed: _ } = self;
+        typed
+    }
+}
+
+fn with_lines(found: NextWorld, lines: List<Line>) -> ListedUnits
+    ensures typed { result.typed ≡ found.typed }
+    ensures lines { result.listed.lines ≡ lines }
+    ensures left_out { result.listed.left_out ≡ found.left_out }
+{
+    let (typed, left_out) = found.into_parts();
+    ListedUnits {
+        typed,
+        listed: Listed { lines, left_out },
+    }
+}
+
+// The packages of one tree on a platform, of which two others may have some, and what is listed of them.
+fn listed_next<G: Gate, L: Copy>(
+    alloc: Global,
+    side: Side,
+    trees: &PlatformTrees<'_>,
+    first: Option<&TypedUnits>,
+    second: Option<&TypedUnits>,
+    gate: &G,
+    steps: &mut Steps<L>,
+) -> Result<ListedUnits, PlatformError>
+    requires trees { AreTrees trees.now.barred.now trees.now.tree.now trees.now.std_tree.now }
+    requires first { IfSome (option_copied first) AreTypedUnits }
+    requires second { IfSome (option_copied second) AreTypedUnits }
+    ensures answer { AnswersNextListed trees.now.barred.now trees.now.tree.now trees.now.std_tree.now side trees.now.platform result }
+    ensures steps { CountsAtMostOn trees.now.barred.now trees.now.tree.now trees.now.std_tree.now trees.now.platform steps.old steps.new }
+{
+    match next_world_on(alloc, side, trees, first, second, gate, steps) {
+        Err(error) => Err(error),
+        Ok(found) => match features(alloc, &found.typed.world) {
+            Err(NoMemory) => Err(PlatformError::NoMemory),
+            Ok(lines) => Ok(with_lines(found, lines)),
+        },
+    }
+}
+
+/// What is found on a platform where there is no old tree.
+pub(crate) fn features_next<G: Gate, L: Copy>(
+    alloc: Global,
+    trees: &RunTrees<'_>,
+    platform: Platform,
+    chain: &mut Chain,
+    gate: &G,
+    steps: &mut Steps<L>,
+) -> Result<Found, PlatformError>
+    requires trees { AreTrees trees.now.barred.now trees.now.tree.now trees.now.std_tree.now }
+    requires chain { IsChain chain.old }
+    ensures answer { AnswersFound trees.now.barred.now None trees.now.tree.now trees.now.std_tree.now platform result }
+    ensures left_out { IfOk result (λ found. IsLeftOut trees.now.barred.now trees.now.std_tree.now None trees.now.tree.now platform found.left_out) }
+    ensures chain { IsChain chain.new }
+    ensures steps { CountsAtMost trees.now.barred.now None trees.now.tree.now trees.now.std_tree.now (platform ∷ []) steps.old steps.new }
+{
+    match listed_next(
+        alloc,
+        Side::New,
+        &PlatformTrees {
+            tree: trees.tree,
+            std_tree: trees.std_tree,
+            barred: trees.barred,
+            platform,
+        },
+        None,
+        chain.of_new.as_ref(),
+        gate,
+        steps,
+    ) {
+        Err(error) => Err(error),
+        Ok(new) => {
+            let (typed, listed) = new.into_parts();
+            chain.of_new = Some(typed);
+            Ok(featured(listed))
+        }
+    }
+}
+
+// What is found on a platform where the old tree has these packages. The new tree takes over from them, and from its own on the platform before.
+fn verdict_after<G: Gate, L: Copy>(
+    alloc: Global,
+    old_tree: &Tree,
+    trees: &RunTrees<'_>,
+    platform: Platform,
+    old: &ListedUnits,
+    chain: &mut Chain,
+    gate: &G,
+    steps: &mut Steps<L>,
+) -> Result<Found, PlatformError>
+    requires old_tree { IsOldTree trees.now.barred.now (Some old_tree.now) }
+    requires trees { AreTrees trees.now.barred.now trees.now.tree.now trees.now.std_tree.now }
+    requires old { IsListedOn trees.now.barred.now old_tree.now trees.now.std_tree.now platform old.now.typed.world old.now.listed }
+    requires typed { AreTypedUnits old.now.typed }
+    requires chain { IsChain chain.old }
+    ensures answer { AnswersFound trees.now.barred.now (Some old_tree.now) trees.now.tree.now trees.now.std_tree.now platform result }
+    ensures left_out { IfOk result (λ found. IsLeftOut trees.now.barred.now trees.now.std_tree.now (Some old_tree.now) trees.now.tree.now platform found.left_out) }
+    ensures chain { IsChain chain.new }
+    ensures steps { CountsAtMostOn trees.now.barred.now trees.now.tree.now trees.now.std_tree.now platform steps.old steps.new }
+{
+    match listed_next(
+        alloc,
+        Side::New,
+        &PlatformTrees {
+            tree: trees.tree,
+            std_tree: trees.std_tree,
+            barred: trees.barred,
+            platform,
+        },
+        Some(&old.typed),
+        chain.of_new.as_ref(),
+        gate,
+        steps,
+    ) {
+        Err(error) => Err(error),
+        Ok(new) => {
+            let (typed, listed) = new.into_parts();
+            let found = verdict_of(
+                alloc,
+                old_tree,
+                trees,
+                platform,
+                &old.typed.world,
+                &old.listed,
+                &typed.world,
+                listed,
+            );
+            chain.of_new = Some(typed);
+            found
+        }
+    }
+}
+
+/// What is found on a platform where there is an old tree: it is looked at first, and takes over from its packages on the platform before.
+pub(crate) fn verdict_next<G: Gate, L: Copy>(
+    alloc: Global,
+    old_tree: &Tree,
+    trees: &RunTrees<'_>,
+    platform: Platform,
+    chain: &mut Chain,
+    gate: &G,
+    steps: &mut Steps<L>,
+) -> Result<Found, PlatformError>
+    requires old { IsOldTree trees.now.barred.now (Some old_tree.now) }
+    requires trees { AreTrees trees.now.barred.now trees.now.tree.now trees.now.std_tree.now }
+    requires chain { IsChain chain.old }
+    ensures answer { AnswersFound trees.now.barred.now (Some old_tree.now) trees.now.tree.now trees.now.std_tree.now platform result }
+    ensures left_out { IfOk result (λ found. IsLeftOut trees.now.barred.now trees.now.std_tree.now (Some old_tree.now) trees.now.tree.now platform found.left_out) }
+    ensures chain { IsChain chain.new }
+    ensures steps { CountsAtMost trees.now.barred.now (Some old_tree.now) trees.now.tree.now trees.now.std_tree.now (platform ∷ []) steps.old steps.new }
+{
+    match listed_next(
+        alloc,
+        Side::Old,
+        &PlatformTrees {
+            tree: old_tree,
+            std_tree: trees.std_tree,
+            barred: trees.barred,
+            platform,
+        },
+        None,
+        chain.of_old.as_ref(),
+        gate,
+        steps,
+    ) {
+        Err(error) => Err(error),
+        Ok(old) => {
+            chain.of_old = None;
+            let found = verdict_after(alloc, old_tree, trees, platform, &old, chain, gate, steps);
+            chain.of_old = Some(old.into_typed());
+            found
+        }
+    }
+}

@@ -1,0 +1,4 @@
+pub mod AlikeFiles
+pub mod AlikeLists
+pub mod ListedImports
+pub mod TakenSoFar
