@@ -2,6 +2,7 @@
 #![tactic(auto)]
 
 pub mod error;
+pub mod known;
 pub mod laws;
 pub mod left_out;
 pub mod next_world;

@@ -11,6 +11,7 @@ ghost use Rattle.go_work.specs.Paths.{AreOfPackages};
 ghost use Rattle.go_work.specs.TypedUnits.{AreTypedUnits};
 
 use crate::error::PlatformError;
+use crate::known::known_of;
 use crate::left_out::left_out_of;
 use crate::platform_units::platform_units;
 use crate::refused::{refused_package, refused_units};
@@ -133,7 +134,8 @@ pub fn next_world_on<G: Gate, L: Copy>(
     ensures steps { CountsAtMost trees.now.barred.now trees.now.tree.now trees.now.std_tree.now trees.now.platform steps.old steps.new }
 {
     unit_paths();
-    match platform_units(alloc, trees, first, second) {
+    let known = known_of(alloc, first, second);
+    match platform_units(alloc, trees, known) {
         Err(error) => Err(refused_units(alloc, side, trees, &[], &error)),
         Ok(units) => next_world_of(alloc, side, trees, units, first, second, gate, steps),
     }

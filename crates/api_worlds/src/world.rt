@@ -9,6 +9,7 @@ ghost use Rattle.api_worlds.specs.inner.KeptLines.{kept_lines};
 ghost use Rattle.api_worlds.specs.inner.PlatformSteps.{AnswersOfUnits, AreLinesOf};
 
 use crate::error::PlatformError;
+use crate::known::known_ahead;
 use crate::left_out::left_out;
 use crate::platform_units::platform_units;
 use crate::platform_world::PlatformWorld;
@@ -76,7 +77,7 @@ fn world_of<R: Threads + Sync, G: Gate + Sync, L: Copy + Send>(
 
 /// The world of a module's tree over the standard library's on a platform, and what is left out of them, or the fault line of its first
 /// refusal: of its packages, and then of the first package in canonical order that isn't typed. The counter rises by at most the number of the packages.
-/// So many workers check them.
+/// Several workers parse their files, and check them.
 pub fn world_on<R: Threads + Sync, G: Gate + Sync, L: Copy + Send>(
     rt: &R,
     alloc: Global,
@@ -95,7 +96,8 @@ pub fn world_on<R: Threads + Sync, G: Gate + Sync, L: Copy + Send>(
     ensures steps { CountsAtMost trees.now.barred.now trees.now.tree.now trees.now.std_tree.now trees.now.platform steps.old steps.new }
 {
     unit_paths();
-    match platform_units(alloc, trees, None, None) {
+    let known = known_ahead(rt, alloc, workers, steps.owner(), trees);
+    match platform_units(alloc, trees, known) {
         Err(error) => Err(refused_units(alloc, side, trees, &[], &error)),
         Ok(units) => world_of(rt, alloc, side, workers, trees, units, gate, steps),
     }

@@ -28,11 +28,16 @@ impl KnownOutlines {
         }
     }
 
+    /// That of the file of this path too, in place of an earlier one.
+    pub fn know(&mut self, path: Text, outline: Outline) -> Result<(), NoMemory> {
+        self.by_path.insert(path, outline)?;
+        Ok(())
+    }
+
     fn add_file(&mut self, alloc: Global, file: &UnitFile) -> Result<(), NoMemory> {
         let path = Text::of(alloc, file.path.bytes())?;
         let outline = file.outline.share()?;
-        self.by_path.insert(path, outline)?;
-        Ok(())
+        self.know(path, outline)
     }
 
     fn add_unit(&mut self, alloc: Global, unit: &Unit) -> Result<(), NoMemory> {
@@ -50,8 +55,8 @@ impl KnownOutlines {
         Ok(())
     }
 
-    // The outline of the file of this path, where it is known as that of these bytes.
-    pub(crate) fn find(&self, path: &Text, bytes: &[u8]) -> Result<Option<Outline>, NoMemory>
+    /// The outline of the file of this path, where it is known as that of these bytes.
+    pub fn find(&self, path: &Text, bytes: &[u8]) -> Result<Option<Outline>, NoMemory>
         ensures { IfOk result (λ found. IfSome found (IsOutlineOf bytes.now)) }
     {
         match self.by_path.get(path) {

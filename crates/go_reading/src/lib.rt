@@ -8,7 +8,7 @@ mod groups;
 mod heads;
 pub mod known;
 pub mod laws;
-mod outlines;
+pub mod outlines;
 mod reader;
 mod sources;
 pub mod units;

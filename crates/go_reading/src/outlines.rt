@@ -1,11 +1,12 @@
 //! The outlines of files.
-ghost use Rattle.std.specs.Prelude.{◌≡◌, ◌≤◌, length, IfOk, IfErr};
+ghost use Rattle.std.specs.Prelude.{◌≡◌, ◌≤◌, length, IfOk, IfErr, IfSome};
 ghost use Rattle.go_imports.specs.Outlines.{IsOutlineOf};
 ghost use Rattle.go_reading.specs.inner.SourceCauses.{Causes, HasBadText, HasBadTokens, IsNoMemory};
 ghost use Rattle.go_syntax.specs.lexical.Tokens.{IsTokens};
 
 use crate::sources::SourceError;
 use go_base::list::List;
+use go_base::memory::NoMemory;
 use go_imports::outline::Outline;
 use go_lex::error::LexError;
 use go_lex::laws::one_list;
@@ -54,5 +55,17 @@ pub(crate) fn outline_of(alloc: Global, bytes: &[u8]) -> Result<Outline, SourceE
         Err(LexError::NoMemory) => Err(SourceError::NoMemory),
         Err(LexError::BadToken(offset)) => Err(SourceError::Faulty(FileFault::BadToken(offset))),
         Ok(tokens) => parse(alloc, bytes, tokens),
+    }
+}
+
+/// The outline of these bytes, where they are those of a file in the grammar.
+pub fn outline_in(alloc: Global, bytes: &[u8]) -> Result<Option<Outline>, NoMemory>
+    requires { length bytes.now ≤ 4194304 }
+    ensures { IfOk result (λ found. IfSome found (IsOutlineOf bytes.now)) }
+{
+    match outline_of(alloc, bytes) {
+        Ok(outline) => Ok(Some(outline)),
+        Err(SourceError::Faulty(_)) => Ok(None),
+        Err(SourceError::NoMemory) => Err(NoMemory),
     }
 }

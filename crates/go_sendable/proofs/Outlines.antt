@@ -28,3 +28,8 @@ pub outline_field_sync : IsSync (outline.the_field).row
 outline_field_sync =
     let o = shares.the_sync outlined.the_row outlined_send outlined_sync in
     search sendable depth 20
+
+pub outline_send : IsSend outline.the_row
+outline_send =
+    let o = shares.the_send outlined.the_row outlined_send outlined_sync in
+    search sendable depth 20
