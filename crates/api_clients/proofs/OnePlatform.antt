@@ -24,7 +24,11 @@ use Rattle.go_model.specs.files.Platforms.{bits_of}
 use Rattle.go_model.specs.worlds.Worlds.{Packages}
 use Rattle.go_syntax.specs.declared.statement.LiteralBlock.{LiteralBlock}
 use Rattle.go_units.specs.declared.unit.UnitFile.{UnitFile}
+use Rattle.go_units.specs.declared.unit.«Unit».{«Unit» as PackageUnit}
 use Rattle.go_units.specs.declared.unit_error.UnitError.{UnitError}
+use Rattle.go_work.specs.Answers.{sources}
+use Rattle.go_work.specs.TypedUnits.{AreTypedUnits}
+use Rattle.go_work.specs.declared.typed.TypedUnits.{TypedUnits}
 
 pathed : (files : List UnitFile) (blocks : List (List LiteralBlock)) (c : Option ClientUnit) → IsClientOf files blocks c → IsClientPath c
 pathed files blocks None h = tt
@@ -43,6 +47,13 @@ told_kept tree std_tree client p units bits w files o a e f b i t = record {
   is = subst (λ (n : ℕ). IsWorldOf n (sources_of units.packages) w) e i;
   told = subst (λ (x : ℕ × List TreeFile × Option ClientUnit). IsTold x.1 w x.0 x.2 a) (λ j. (e j, f j, borrowed o units.client b j)) t;
 }
+
+-- the same, where the packages were typed for so many bits
+pub told_typed : (tree std_tree client : Tree) (p : Platform) (units : ClientUnits) (bits : ℕ) (t : TypedUnits) (files : List TreeFile) (o : Option (Bor ClientUnit)) (a : ClientAnswer) → bits ≡ bits_of p → files ≡ client.files → option_copied o ≡ units.client
+    → t.bits ≡ bits → t.units ≡ units.packages.packages → AreTypedUnits t → IsTold files t.world bits (client_in o) a → IsToldOf tree std_tree client p units a
+told_typed tree std_tree client p units bits t files o a e f b wide same typed told =
+    told_kept tree std_tree client p units bits t.world files o a e f b
+    (subst (λ (n : ℕ). IsWorldOf n (sources_of units.packages) t.world) wide (subst (λ (us : List PackageUnit). IsWorldOf t.bits (sources us) t.world) same typed.world)) told
 
 module _ (barred : List (List ℕ)) (tree std_tree client : Tree) (p : Platform) where
   pub client_pathed : (units : ClientUnits) → AreUnitsOn barred tree std_tree client p units → IsClientPath units.client

@@ -1,23 +1,28 @@
 //! What is told of a client on one platform.
 ghost use Rattle.std.specs.Prelude.{◌≡◌, ◌≢◌, ◌≤◌, ◌+◌, ◌∷◌, [], length};
 ghost use Rattle.api_clients.specs.ClientChecks.{CountsAtMost};
+ghost use Rattle.api_clients.specs.inner.Chains.{IsChain};
 ghost use Rattle.api_clients.specs.inner.ClientSteps.{AnswersOfUnits, AnswersOn};
 ghost use Rattle.go_base.specs.Lists.{Has};
 ghost use Rattle.go_clients.specs.Vetting.{IsClientPath};
 ghost use Rattle.go_model.specs.files.Trees.{IsTree};
 ghost use Rattle.go_work.specs.Paths.{AreOfPackages};
 
+use crate::chain::Chain;
+use crate::next_answers::answer_next;
 use crate::told::told;
 use crate::trees::ClientTrees;
+use crate::units::units_over;
 use api_reports::clients::ClientAnswer;
 use api_texts::lines::Side;
 use api_worlds::error::PlatformError;
+use api_worlds::known::known_ahead;
 use api_worlds::refused::{refused_package, refused_units};
 use api_worlds::trees::PlatformTrees;
 use go_base::memory::NoMemory;
 use go_base::steps::Steps;
 use go_client_unit_laws::laws::client_unit_paths;
-use go_client_units::units::{ClientUnits, client_units};
+use go_client_units::units::ClientUnits;
 use go_model::files::platform::Platform;
 use go_outside::gate::Gate;
 use go_work::error::WorkError;
@@ -70,8 +75,8 @@ fn answer_of<R: Threads + Sync, G: Gate + Sync, L: Copy + Send>(
     }
 }
 
-/// What is told of a client on a platform: what `vet_on_platforms` says, on it alone.
-pub(crate) fn answer_on<R: Threads + Sync, G: Gate + Sync, L: Copy + Send>(
+// What is told of a client on a platform. No package is taken over, and none is kept.
+fn answer_alone<R: Threads + Sync, G: Gate + Sync, L: Copy + Send>(
     rt: &R,
     alloc: Global,
     workers: u32,
@@ -89,14 +94,19 @@ pub(crate) fn answer_on<R: Threads + Sync, G: Gate + Sync, L: Copy + Send>(
     ensures steps { CountsAtMost trees.now.barred.now trees.now.tree.now trees.now.std_tree.now trees.now.client.now (platform ∷ []) steps.old steps.new }
 {
     client_unit_paths();
-    match client_units(
+    let known = known_ahead(
+        rt,
         alloc,
-        trees.tree,
-        trees.std_tree,
-        trees.client,
-        trees.barred,
-        platform,
-    ) {
+        workers,
+        steps.owner(),
+        &PlatformTrees {
+            tree: trees.tree,
+            std_tree: trees.std_tree,
+            barred: trees.barred,
+            platform,
+        },
+    );
+    match units_over(alloc, trees, platform, known) {
         Err(error) => Err(refused_units(
             alloc,
             Side::New,
@@ -111,4 +121,31 @@ pub(crate) fn answer_on<R: Threads + Sync, G: Gate + Sync, L: Copy + Send>(
         )),
         Ok(units) => answer_of(rt, alloc, workers, trees, platform, units, gate, steps),
     }
+}
+
+/// What is told of a client on a platform: what `vet_on_platforms` says, on it alone. A single worker that looks at several platforms takes over from the one before.
+pub(crate) fn answer_on<R: Threads + Sync, G: Gate + Sync, L: Copy + Send>(
+    rt: &R,
+    alloc: Global,
+    workers: u32,
+    trees: &ClientTrees<'_>,
+    platform: Platform,
+    chain: &mut Chain,
+    gate: &G,
+    steps: &mut Steps<L>,
+) -> Result<ClientAnswer, PlatformError>
+    requires tree { IsTree trees.now.tree.now }
+    requires std { IsTree trees.now.std_tree.now }
+    requires client { IsTree trees.now.client.now }
+    requires named { trees.now.tree.now.module ≢ [] }
+    requires barred { Has trees.now.barred.now trees.now.tree.now.module }
+    requires chain { IsChain chain.old }
+    ensures answer { AnswersOn trees.now.barred.now trees.now.tree.now trees.now.std_tree.now trees.now.client.now platform result }
+    ensures chain { IsChain chain.new }
+    ensures steps { CountsAtMost trees.now.barred.now trees.now.tree.now trees.now.std_tree.now trees.now.client.now (platform ∷ []) steps.old steps.new }
+{
+    if workers < 2 && chain.keeps {
+        return answer_next(alloc, trees, platform, chain, gate, steps);
+    }
+    answer_alone(rt, alloc, workers, trees, platform, gate, steps)
 }

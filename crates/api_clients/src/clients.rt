@@ -2,12 +2,14 @@
 ghost use Rattle.std.specs.Prelude.{◌≡◌, ◌≢◌, ◌<◌, ◌++◌, ◌∷◌, [], Some, IfOk, OnOk, length, slice_get};
 ghost use Rattle.api_clients.specs.ClientAnswers.{Answers};
 ghost use Rattle.api_clients.specs.ClientChecks.{CountsAtMost};
+ghost use Rattle.api_clients.specs.inner.Chains.{IsChain};
 ghost use Rattle.api_clients.specs.inner.ClientSteps.{AnswersNext, IsAnsweredAlike, listed};
 ghost use Rattle.go_base.specs.Lists.{Has};
 ghost use Rattle.go_file_choices.specs.AlikePlatforms.{AreFirsts, files_of};
 ghost use Rattle.go_model.specs.files.Trees.{IsTree};
 
 use crate::answers::answer_on;
+use crate::chain::Chain;
 use crate::trees::ClientTrees;
 use api_reports::clients::ClientAnswer;
 use api_worlds::error::PlatformError;
@@ -69,6 +71,7 @@ fn add_next<R: Threads + Sync, G: Gate + Sync, L: Copy + Send>(
     first: usize,
     trees: &ClientTrees<'_>,
     platform: Platform,
+    chain: &mut Chain,
     gate: &G,
     steps: &mut Steps<L>,
 ) -> Result<(), PlatformError>
@@ -78,6 +81,8 @@ fn add_next<R: Threads + Sync, G: Gate + Sync, L: Copy + Send>(
     requires client { IsTree trees.now.client.now }
     requires named { trees.now.tree.now.module ≢ [] }
     requires barred { Has trees.now.barred.now trees.now.tree.now.module }
+    requires chain { IsChain chain.old }
+    ensures chain { IsChain chain.new }
     ensures answer { AnswersNext trees.now.barred.now trees.now.tree.now trees.now.std_tree.now trees.now.client.now platform answers.old answers.new result }
     ensures steps { CountsAtMost trees.now.barred.now trees.now.tree.now trees.now.std_tree.now trees.now.client.now (platform ∷ []) steps.old steps.new }
 {
@@ -88,7 +93,7 @@ fn add_next<R: Threads + Sync, G: Gate + Sync, L: Copy + Send>(
             Err(NoMemory) => Err(PlatformError::NoMemory),
         };
     }
-    match answer_on(rt, alloc, workers, trees, platform, gate, steps) {
+    match answer_on(rt, alloc, workers, trees, platform, chain, gate, steps) {
         Err(error) => Err(error),
         Ok(answer) => match answers.push(answer) {
             Ok(()) => Ok(()),
@@ -97,7 +102,12 @@ fn add_next<R: Threads + Sync, G: Gate + Sync, L: Copy + Send>(
     }
 }
 
-// What `vet_on_platforms` says, by the numbers of the first platforms that are alike.
+// Whether a platform isn't alike to the first one, by the numbers of the first ones that are alike: else one alone is looked at.
+fn differ(firsts: &[usize]) -> bool {
+    firsts.iter().any(|first| *first > 0)
+}
+
+// What `vet_on_platforms` says, by the numbers of the first platforms that are alike, one platform after another.
 fn vet_by<R: Threads + Sync, G: Gate + Sync, L: Copy + Send>(
     rt: &R,
     alloc: Global,
@@ -118,6 +128,7 @@ fn vet_by<R: Threads + Sync, G: Gate + Sync, L: Copy + Send>(
     ensures steps { CountsAtMost trees.now.barred.now trees.now.tree.now trees.now.std_tree.now trees.now.client.now platforms.now steps.old steps.new }
 {
     let mut answers = List::new(alloc);
+    let mut chain = Chain::new(differ(firsts));
     for at in 0..platforms.len() {
         match add_next(
             rt,
@@ -127,6 +138,7 @@ fn vet_by<R: Threads + Sync, G: Gate + Sync, L: Copy + Send>(
             firsts[at],
             trees,
             platforms[at],
+            &mut chain,
             gate,
             steps,
         ) {
@@ -139,7 +151,8 @@ fn vet_by<R: Threads + Sync, G: Gate + Sync, L: Copy + Send>(
 
 /// What is told of a client on each of these platforms, over the packages of the module and those of the standard library that it and
 /// the client reach; or `Refused` with the fault line of the first platform on which a package or the client's files are refused; or
-/// `NoMemory`. The counter rises by at most the number of these packages on all platforms together.
+/// `NoMemory`. What is told doesn't depend on the number of workers. A single one takes over what it typed on the platform before: what stands there as it is
+/// written here isn't parsed or checked again. The counter rises by at most the number of these packages on all platforms together.
 pub fn vet_on_platforms<R: Threads + Sync, G: Gate + Sync, L: Copy + Send>(
     rt: &R,
     alloc: Global,

@@ -2,7 +2,10 @@
 #![tactic(auto)]
 
 mod answers;
+mod chain;
 pub mod clients;
 pub mod laws;
+mod next_answers;
 mod told;
 pub mod trees;
+mod units;

@@ -20,6 +20,7 @@ use go_client_walks::unit_files::needed;
 use go_client_walks::units::{WalkedClient, client_walk, module_walk};
 use go_model::files::platform::Platform;
 use go_model::files::tree::Tree;
+use go_reading::known::KnownOutlines;
 use go_syntax::statement::LiteralBlock;
 use go_tree_folders::folder_list::{TreeFolders, tree_folders};
 use go_tree_folders::reader::TreeReader;
@@ -142,7 +143,7 @@ fn refused<R: FolderReader>(
 /// The units of a module's tree with a client on a platform: the packages of the module in canonical order, with those of the
 /// standard library's tree that they reach through found imports that they use, or the client; and the client's own unit, where a
 /// file of it remains. The client's path is `-client`, and it uses all of its imports. The barred paths are the paths of modules,
-/// that of this tree among them.
+/// that of this tree among them. A file of these packages whose outline is known isn't parsed again; those of the client always are.
 ///
 /// Else the first refusal. The folders of the module are read in the order of their paths, then the client, and then always the
 /// folder of the standard library with the least path for which a used import asks.
@@ -153,6 +154,7 @@ pub fn client_units(
     client: &Tree,
     barred: &[Text],
     platform: Platform,
+    known: &KnownOutlines,
 ) -> Result<ClientUnits, UnitError>
     requires tree { IsTree tree.now }
     requires std { IsTree std_tree.now }
@@ -163,7 +165,7 @@ pub fn client_units(
     match tree_folders(alloc, platform, barred, tree, std_tree) {
         Err(_) => Err(UnitError::NoMemory),
         Ok(TreeFolders { folders, contents }) => {
-            let reader = TreeReader { contents };
+            let reader = TreeReader { contents, known };
             let path = tree.module.bytes();
             let listed = folders.items();
             match read_client(alloc, platform, path, listed, client) {

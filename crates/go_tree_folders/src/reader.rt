@@ -7,13 +7,15 @@ use crate::heads::HeadedFile;
 use crate::sources::read_files;
 use go_base::list::List;
 use go_base::memory::NoMemory;
+use go_reading::known::KnownOutlines;
 use go_units::reader::{FolderReader, Reading};
 use std::alloc::Global;
 
-/// The files of each folder, by its number.
+/// The files of each folder, by its number, and the outlines that are known of them.
 #[derive(Drop)]
 pub struct TreeReader<'a> {
     pub contents: List<List<HeadedFile<'a>>>,
+    pub known: &'a KnownOutlines,
     pub ghost small: { (n : ℕ) (h : HeadedFile) → Has (get_or contents n []) h → length h.file.now.bytes ≤ 4194304 },
     pub ghost few: { (n : ℕ) → length (get_or contents n []) < 4294967296 },
 }
@@ -27,8 +29,8 @@ impl<'a> FolderReader for TreeReader<'a> {
 
     fn read(&self, alloc: Global, folder: usize) -> Result<Reading, NoMemory> {
         match self.contents.items().get(folder) {
-            None => read_files(alloc, &[]),
-            Some(files) => read_files(alloc, files.items()),
+            None => read_files(alloc, self.known, &[]),
+            Some(files) => read_files(alloc, self.known, files.items()),
         }
     }
 

@@ -1,5 +1,5 @@
 -- What the steps to the answer of a platform answer.
-use Rattle.std.specs.Prelude.{◌≡◌, ◌+◌, ℕ, Option, Some, None, List, [], ◌∷◌, ◌++◌, Result, Ok, Err}
+use Rattle.std.specs.Prelude.{◌≡◌, ℕ, Option, Some, None, List, [], ◌∷◌, ◌++◌, Result, Ok, Err}
 use Rattle.api_clients.specs.ClientAnswers.{IsAnsweredOn, IsRefusedOn, told_as}
 use Rattle.api_refusals.specs.Refusals.{package_text, refusal_line}
 use Rattle.api_reports.specs.declared.clients.ClientAnswer.{ClientAnswer}

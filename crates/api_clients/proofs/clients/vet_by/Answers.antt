@@ -2,26 +2,31 @@ use Rattle.api_clients.proofs.PlatformAnswers.{alike_earlier, count_all, count_h
 use Rattle.api_clients.proofs.clients.vet_by.Goals as goal
 
 pub loop-at-init : goal.loop-at-init
-loop-at-init g c = taken_none c.args.trees.now.barred.now c.args.trees.now.tree.now c.args.trees.now.std_tree.now c.args.trees.now.client.now c.args.platforms.now c.new-answers.result c.args.steps.now c.new-answers.ensures
+loop-at-init g c = record {
+  taken = taken_none c.args.trees.now.barred.now c.args.trees.now.tree.now c.args.trees.now.std_tree.now c.args.trees.now.client.now c.args.platforms.now c.new-answers.result c.args.steps.now c.new-answers.ensures;
+  chain = c.new-chain.ensures;
+}
 
 pub add_next-requires-clause-alike : goal.add_next-requires-clause-alike
 add_next-requires-clause-alike g c κs within =
-    alike_earlier c.args.trees.now.barred.now c.args.trees.now.tree.now c.args.trees.now.std_tree.now c.args.trees.now.client.now c.args.platforms.now c.args.firsts.now c.requires.firsts c.loop-at.at c.loop-at.answers c.args.steps.now c.loop-at.steps c.loop-at-test.true c.loop-at.invariant
+    alike_earlier c.args.trees.now.barred.now c.args.trees.now.tree.now c.args.trees.now.std_tree.now c.args.trees.now.client.now c.args.platforms.now c.args.firsts.now c.requires.firsts c.loop-at.at c.loop-at.answers c.args.steps.now c.loop-at.steps c.loop-at-test.true c.loop-at.invariant.taken
 
 pub returns-in-Err-clause-answer : goal.returns-in-Err-clause-answer
 returns-in-Err-clause-answer g c =
-    error_here c.args.trees.now.barred.now c.args.trees.now.tree.now c.args.trees.now.std_tree.now c.args.trees.now.client.now c.args.platforms.now c.loop-at.at _ c.loop-at.answers c.args.steps.now c.loop-at.steps c.add_next.new.steps c.loop-at-test.true c.loop-at.invariant c.in-Err.ensures.steps c.in-Err.error c.in-Err.ensures.answer
+    error_here c.args.trees.now.barred.now c.args.trees.now.tree.now c.args.trees.now.std_tree.now c.args.trees.now.client.now c.args.platforms.now c.loop-at.at _ c.loop-at.answers c.args.steps.now c.loop-at.steps c.add_next.new.steps c.loop-at-test.true c.loop-at.invariant.taken c.in-Err.ensures.steps c.in-Err.error c.in-Err.ensures.answer
 
 pub returns-in-Err-clause-steps : goal.returns-in-Err-clause-steps
 returns-in-Err-clause-steps g c =
-    count_here c.args.trees.now.barred.now c.args.trees.now.tree.now c.args.trees.now.std_tree.now c.args.trees.now.client.now c.args.platforms.now c.loop-at.at _ c.loop-at.answers c.args.steps.now c.loop-at.steps c.add_next.new.steps c.loop-at-test.true c.loop-at.invariant c.in-Err.ensures.steps
+    count_here c.args.trees.now.barred.now c.args.trees.now.tree.now c.args.trees.now.std_tree.now c.args.trees.now.client.now c.args.platforms.now c.loop-at.at _ c.loop-at.answers c.args.steps.now c.loop-at.steps c.add_next.new.steps c.loop-at-test.true c.loop-at.invariant.taken c.in-Err.ensures.steps
 
 pub loop-at-preserved : goal.loop-at-preserved
-loop-at-preserved g c =
-    taken_more c.args.trees.now.barred.now c.args.trees.now.tree.now c.args.trees.now.std_tree.now c.args.trees.now.client.now c.args.platforms.now c.loop-at.at _ c.loop-at.answers c.args.steps.now c.loop-at.steps c.add_next.new.steps c.loop-at-test.true c.loop-at.invariant c.in-Ok.ensures.steps c.add_next.new.answers c.in-Ok.ensures.answer
+loop-at-preserved g c = record {
+  taken = taken_more c.args.trees.now.barred.now c.args.trees.now.tree.now c.args.trees.now.std_tree.now c.args.trees.now.client.now c.args.platforms.now c.loop-at.at _ c.loop-at.answers c.args.steps.now c.loop-at.steps c.add_next.new.steps c.loop-at-test.true c.loop-at.invariant.taken c.in-Ok.ensures.steps c.add_next.new.answers c.in-Ok.ensures.answer;
+  chain = c.add_next.ensures.chain;
+}
 
 pub returns-clause-answer : goal.returns-clause-answer
-returns-clause-answer g c = taken_all c.args.trees.now.barred.now c.args.trees.now.tree.now c.args.trees.now.std_tree.now c.args.trees.now.client.now c.args.platforms.now c.loop-at.at c.loop-at.answers c.args.steps.now c.loop-at.steps c.loop-at-test.false c.loop-at.invariant
+returns-clause-answer g c = taken_all c.args.trees.now.barred.now c.args.trees.now.tree.now c.args.trees.now.std_tree.now c.args.trees.now.client.now c.args.platforms.now c.loop-at.at c.loop-at.answers c.args.steps.now c.loop-at.steps c.loop-at-test.false c.loop-at.invariant.taken
 
 pub returns-clause-steps : goal.returns-clause-steps
-returns-clause-steps g c = count_all c.args.trees.now.barred.now c.args.trees.now.tree.now c.args.trees.now.std_tree.now c.args.trees.now.client.now c.args.platforms.now c.loop-at.at c.loop-at.answers c.args.steps.now c.loop-at.steps c.loop-at-test.false c.loop-at.invariant
+returns-clause-steps g c = count_all c.args.trees.now.barred.now c.args.trees.now.tree.now c.args.trees.now.std_tree.now c.args.trees.now.client.now c.args.platforms.now c.loop-at.at c.loop-at.answers c.args.steps.now c.loop-at.steps c.loop-at-test.false c.loop-at.invariant.taken
