@@ -130,12 +130,12 @@ func (g *grammar) assignment(s *ast.AssignStmt) int {
 }
 
 func (g *grammar) declaration(group *ast.GenDecl) int {
+	if group.Tok == token.TYPE {
+		return g.refuse("a type that is declared in a function")
+	}
 	height := 0
 	for _, spec := range group.Specs {
-		value, is := spec.(*ast.ValueSpec)
-		if !is {
-			return g.refuse("a type that is declared in a function")
-		}
+		value := spec.(*ast.ValueSpec)
 		if group.Tok == token.CONST && value.Type != nil && value.Values == nil {
 			g.refused = true // as Go does
 		}
