@@ -35,7 +35,16 @@ func Blocks(source []byte) (string, notes) {
 	g := &grammar{files: token.NewFileSet(), text: r.text, met: notes{}, inside: true}
 	file, err := parser.ParseFile(g.files, "", r.text, mode)
 	if err != nil {
-		return refusedBlocks(err)
+		answer, met := refusedBlocks(err)
+		if other := parenthesized(r.text, tokensOf(r.text)); answer != "" && other != nil {
+			if _, err := parser.ParseFile(token.NewFileSet(), "", other, mode); err == nil {
+				return "", notes{indexOfType: true}
+			} else if again, more := refusedBlocks(err); again == "" {
+				more[indexOfType] = true
+				return "", more
+			}
+		}
+		return answer, met
 	}
 	t := &tree{files: g.files, r: r, source: source, g: g}
 	t.WriteString("(blocks")

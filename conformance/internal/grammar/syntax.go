@@ -36,6 +36,9 @@ var stricter = map[string]string{
 	"exceeded max nesting depth": "a chain may have any length",
 }
 
+// indexOfType is the difference that parenthesized is for.
+const indexOfType = "an index or a type assertion behind a type belongs to its name for Go"
+
 // Verdict is what the gate owes of a source, and the named differences from Go.
 func Verdict(source []byte) (string, notes) {
 	r := read(source)
@@ -46,7 +49,7 @@ func Verdict(source []byte) (string, notes) {
 	g, file := parse(text, r.met)
 	if file == nil {
 		if other := parenthesized(text, tokensOf(text)); other != nil {
-			met := notes{"an index or a type assertion behind a type belongs to its name for Go": true}
+			met := notes{indexOfType: true}
 			for name := range r.met {
 				met[name] = true
 			}
