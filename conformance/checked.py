@@ -45,13 +45,18 @@ class Tree:
                 self.folders.setdefault(name.rpartition(b"/")[0].decode(), []).append(text)
 
 
-def uses(texts):
-    """The imports that files use, by their order."""
+def name_of(texts):
+    """The name of the package of files."""
+    return next((clause[1] for clause in (re.search(rb"^package (\w+)$", text, re.M) for text in texts) if clause), None)
+
+
+def uses(texts, names):
+    """The imports that files use, by their order, where packages have these names."""
     found = []
     for text in texts:
         bare = re.sub(rb"\{\n\treturn nil, nil\n\}", b"", text)
         for path in re.findall(rb'^import "([^"]+)"$', text, re.M):
-            if re.search(rb"\b%s\." % path.rpartition(b"/")[2], bare):
+            if re.search(rb"\b%s\." % (names.get(path.decode()) or path.rpartition(b"/")[2]), bare):
                 found.append(path.decode())
     return found
 
@@ -65,9 +70,11 @@ class Packages:
         others.folders = {path: texts for path, texts in others.folders.items() if not any((path + "/").startswith(one + "/") for one in barred)}
         for folder, texts in own.folders.items():
             self.all["%s/%s" % (module, folder) if folder else module] = False, texts
+        self.names = {path: name_of(texts) for path, texts in others.folders.items()}
+        self.names.update((path, name_of(texts)) for path, (_, texts) in self.all.items())
         waiting = list(self.all)
         while waiting:
-            for path in uses(self.all[waiting.pop()][1]):
+            for path in uses(self.all[waiting.pop()][1], self.names):
                 if path not in self.all and path in others.folders:
                     self.all[path] = True, others.folders[path]
                     waiting.append(path)
@@ -77,9 +84,9 @@ class Packages:
         if earlier is None or earlier.narrow != self.narrow:
             return set()
         found = {path for path, package in self.all.items() if earlier.all.get(path) == package
-                 and all((name in self.all) == (name in earlier.all) for name in uses(package[1]))}
+                 and all((name in self.all) == (name in earlier.all) for name in uses(package[1], self.names))}
         while True:
-            lost = {path for path in found if any(name in self.all and name not in found for name in uses(self.all[path][1]))}
+            lost = {path for path in found if any(name in self.all and name not in found for name in uses(self.all[path][1], self.names))}
             if not lost:
                 return found
             found -= lost

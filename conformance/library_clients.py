@@ -46,10 +46,13 @@ def opened(text):
 
 
 def opened_folder(folder, into):
-    """The folder of declarations with such paths."""
+    """The folder of declarations with such paths. A package that Go's library has below `vendor`, and that stands here by itself too, is the latter."""
     for at, _, names in os.walk(folder):
         below = os.path.relpath(at, folder).split(os.sep)
-        below = below[1:] if below[0] == "vendor" else below
+        if below[0] == "vendor":
+            below = below[1:]
+            if below and os.path.isdir(os.path.join(folder, *below)) and any(it.endswith(".go") for it in os.listdir(os.path.join(folder, *below))):
+                continue
         place = os.path.join(into, *("inside" if it == "internal" else it for it in below))
         for name in names:
             os.makedirs(place, exist_ok=True)
