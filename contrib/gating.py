@@ -17,8 +17,8 @@ PROGRAM = os.path.join(TOP, "apigate")
 NUMBER = "(0|[1-9][0-9]*)"
 RELEASE = re.compile(r"v?%s\.%s\.%s$" % (NUMBER, NUMBER, NUMBER))
 REFUSED = 3
-# the program that runs, once it is known
-found = ""
+# the program that runs, once it is known, and what has begun to look for it
+found, early = "", None
 # what each program that reads a module may take: of the clock, and of data
 Limits = collections.namedtuple("Limits", "seconds megabytes")
 limits = Limits(600, 4096)
@@ -132,6 +132,18 @@ def check_module(folder):
         raise Stop("%s is no file; nothing was judged" % shown(path))
 
 
+def begin():
+    """Begins to look whether the program stands ready, while other things are read."""
+    global early
+    sys.path.append(os.path.join(TOP, ".ci"))
+    try:
+        import remembered
+        import repository
+        early = remembered.Early(repository.needed(["apigate"]))
+    except (ImportError, OSError):
+        pass
+
+
 def at_hand():
     """The program itself where it stands ready, so that the launcher needn't look at all sources at each run; else nothing."""
     sys.path.append(os.path.join(TOP, ".ci"))
@@ -142,7 +154,7 @@ def at_hand():
         import repository
     except ImportError:
         return ""
-    sums = remembered.digests(repository.needed(["apigate"]))
+    sums = remembered.digests(repository.needed(["apigate"]), early)
     try:
         return building.current(repository.digest_of(sums)) or delivered.program(sums, lambda text: say("apigate: " + text))
     except (delivered.Unfit, OSError):

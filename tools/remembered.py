@@ -39,6 +39,32 @@ def seen(names):
     return hashlib.sha256(marshal.dumps(sorted(found), 2)).hexdigest(), last
 
 
+class Early:
+    """What `seen` finds of these crates, in a process of its own, while this one does something else."""
+
+    def __init__(self, names):
+        self.source, sink = os.pipe()
+        self.child = os.fork()
+        if self.child == 0:
+            # without the ends of the run that it was begun in
+            try:
+                with os.fdopen(sink, "wb") as file:
+                    marshal.dump(seen(names), file)
+            finally:
+                os._exit(0)
+        os.close(sink)
+
+    def told(self):
+        """Returns it, or None where that process didn't find it."""
+        with os.fdopen(self.source, "rb") as file:
+            told = file.read()
+        os.waitpid(self.child, 0)
+        try:
+            return marshal.loads(told)
+        except (EOFError, ValueError, TypeError):
+            return None
+
+
 def before(place, names, now):
     """Returns the sums that were remembered of the same files, or None."""
     try:
@@ -50,10 +76,10 @@ def before(place, names, now):
         return None
 
 
-def digests(names):
-    """Returns what repository.digests does."""
+def digests(names, early=None):
+    """Returns what repository.digests does; early has begun to look at these crates' files, if anything has."""
     folders = places.cache(hashlib.sha256(repository.TOP.encode()).hexdigest())
-    now, last = seen(names)
+    now, last = early and early.told() or seen(names)
     for folder in folders:
         sums = before(os.path.join(folder, NAME), names, now)
         if sums:
