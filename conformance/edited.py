@@ -14,7 +14,7 @@ TOOLS = os.path.dirname(os.path.dirname(os.path.realpath(shutil.which("rt") or "
 KIT = os.path.join(TOOLS, "rlibs")
 FUNCTION = re.compile(r"^( *)(?:pub(?:\([a-z]+\))? )?fn (\w+)", re.M)
 IMPL = re.compile(r"^impl\b(.*)$", re.M)
-IMPLEMENTED = re.compile(r" *(?:(?:\w+::)*(\w+)(?:<.*>)? for )?(?:\w+::)*(\w+)")
+IMPLEMENTED = re.compile(r" *(?:(?:\w+::)*(\w+)(?:<(.*)>)? for )?(?:\w+::)*(\w+)")
 # what a proof file says whose names an edit took away, in a line that may end behind the module's name, and what the compiler says of a text that it
 # can't read
 NAMES = re.compile(r"(note: )?(\./)?proofs/.*(has no field|is not in scope|has no `|: module `[^`]*`$|was not admitted)")
@@ -37,14 +37,14 @@ def pairs(path):
 
 
 def implemented(head):
-    """The type that an `impl` is for, by its text behind this word; of a trait the prover names the type with the trait behind it."""
+    """The type that an `impl` is for, by its text behind this word; of a trait the prover names the type with the trait behind it, and what that is of."""
     depth, at = 0, 0
     for at, sign in enumerate(head.replace("->", "--")):
         depth += (sign == "<") - (sign == ">")
         if depth == 0:
             break
-    trait, name = IMPLEMENTED.match(head, at + 1 if head.startswith("<") else 0).groups()
-    return name + (trait or "")
+    trait, of, name = IMPLEMENTED.match(head, at + 1 if head.startswith("<") else 0).groups()
+    return name + (trait or "") + "".join(re.findall(r"(?<!')\b\w+", of or ""))
 
 
 def function_at(file, text, end):
