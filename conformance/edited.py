@@ -130,7 +130,13 @@ class Crate:
             return "not judged", "only a proof file fails: " + told[0]
         # a function without a proof file, of a goal of which only the search speaks
         open_goal = next((line for line in lines for it in mine if re.match(r"fn %s::(?:\w+::)*%s: .*`search` did not prove" % (self.name, it), line)), None)
-        return ("refused", open_goal) if open_goal else ("proved", "no goal fails of what it changes")
+        if open_goal:
+            return "refused", open_goal
+        # where the borrow checker doesn't cover a function, no goal of it is there to fail
+        counts = next(filter(None, (re.match(r"only=(\d+) proved=(\d+)", line) for line in lines)), None)
+        if counts and counts[1] != counts[2]:
+            return "not judged", next((line for line in lines if re.match(r"fn \S+: (no proof|not proved)", line)), counts[0])
+        return "proved", "no goal fails of what it changes"
 
     def is_about(self, line, function, texts):
         # of functions that call one another the goals begin with the function's name, as what a call requires does with that of the called one
