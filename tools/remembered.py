@@ -4,6 +4,7 @@ import hashlib
 import json
 import marshal
 import os
+import signal
 import time
 
 import places
@@ -44,14 +45,21 @@ class Early:
 
     def __init__(self, names):
         self.source, sink = os.pipe()
+        # a signal ends that process, and says nothing there
+        signals = {signal.SIGINT, signal.SIGTERM}
+        signal.pthread_sigmask(signal.SIG_BLOCK, signals)
         self.child = os.fork()
         if self.child == 0:
             # without the ends of the run that it was begun in
             try:
+                for each in signals:
+                    signal.signal(each, signal.SIG_DFL)
+                signal.pthread_sigmask(signal.SIG_UNBLOCK, signals)
                 with os.fdopen(sink, "wb") as file:
                     marshal.dump(seen(names), file)
             finally:
                 os._exit(0)
+        signal.pthread_sigmask(signal.SIG_UNBLOCK, signals)
         os.close(sink)
 
     def told(self):
