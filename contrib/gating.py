@@ -26,6 +26,8 @@ MOST = 1_000_000
 # how many threads the program may use: those of the processors that are at hand, as far as that gains something
 MOST_WORKERS = 64
 workers = min(len(os.sched_getaffinity(0)), 8) if hasattr(os, "sched_getaffinity") else 1
+# the signals by which a user ends a run
+HELD = {signal.SIGINT, signal.SIGTERM}
 # what stands behind the name of a program that was built or unpacked
 BUILT = re.compile("-([0-9a-f]{16}|linux-amd64)$")
 
@@ -107,19 +109,28 @@ def within(words, **how):
         os.setpgrp()
         bounds.bound(limits.megabytes << 20)
         resource.setrlimit(resource.RLIMIT_CORE, (0, 0))
+        for each in HELD:
+            signal.signal(each, signal.SIG_DFL)
+        signal.pthread_sigmask(signal.SIG_UNBLOCK, HELD)
 
     given = how.pop("input", None)
     source = subprocess.DEVNULL if given is None else subprocess.PIPE
-    with subprocess.Popen(words, stdin=source, stdout=subprocess.PIPE, stderr=subprocess.PIPE, preexec_fn=before, **how) as ran:
-        try:
-            ended = subprocess.CompletedProcess(words, 0, *ran.communicate(given, timeout=limits.seconds))
-        except BaseException as error:
-            with contextlib.suppress(ProcessLookupError):
-                os.killpg(ran.pid, signal.SIGKILL)
-            if not isinstance(error, subprocess.TimeoutExpired):
-                raise
-            raise Stop("%s took more than %d seconds, and was ended; nothing was judged" % (name, limits.seconds)) from None
-        ended.returncode = ran.returncode
+    # until the program is there these wait, since Python would tell of one in the process that becomes it
+    signal.pthread_sigmask(signal.SIG_BLOCK, HELD)
+    try:
+        with subprocess.Popen(words, stdin=source, stdout=subprocess.PIPE, stderr=subprocess.PIPE, preexec_fn=before, **how) as ran:
+            try:
+                signal.pthread_sigmask(signal.SIG_UNBLOCK, HELD)
+                ended = subprocess.CompletedProcess(words, 0, *ran.communicate(given, timeout=limits.seconds))
+            except BaseException as error:
+                with contextlib.suppress(ProcessLookupError):
+                    os.killpg(ran.pid, signal.SIGKILL)
+                if not isinstance(error, subprocess.TimeoutExpired):
+                    raise
+                raise Stop("%s took more than %d seconds, and was ended; nothing was judged" % (name, limits.seconds)) from None
+            ended.returncode = ran.returncode
+    finally:
+        signal.pthread_sigmask(signal.SIG_UNBLOCK, HELD)
     if ended.returncode < 0:
         raise Stop("%s was ended by signal %d; nothing was judged" % (name, -ended.returncode))
     return ended
