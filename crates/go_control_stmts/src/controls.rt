@@ -74,6 +74,7 @@ impl<'a, F: Fn(Readers, &mut Cursor<'_>, StmtPart) -> Result<StmtTree, ParseErro
     }
 
     // A `switch` behind the statement before its tag.
+    #[inline(never)]
     #[tactic(auto, unfolding(go_stmt_descent::specs::Statements::value_switch, go_cursor::specs::Reading::close, go_cursor::specs::Reading::expect))]
     fn value_switch(
         &self,
@@ -94,6 +95,7 @@ impl<'a, F: Fn(Readers, &mut Cursor<'_>, StmtPart) -> Result<StmtTree, ParseErro
     }
 
     // A type switch behind the statement before its guard.
+    #[inline(never)]
     #[tactic(auto, unfolding(go_stmt_descent::specs::Statements::type_switch, go_cursor::specs::Reading::close, go_cursor::specs::Reading::expect))]
     fn type_switch(
         &self,
@@ -156,6 +158,7 @@ impl<'a, F: Fn(Readers, &mut Cursor<'_>, StmtPart) -> Result<StmtTree, ParseErro
     }
 
     // A `for` with a condition alone, or none.
+    #[inline(never)]
     #[tactic(auto, unfolding(go_stmt_descent::specs::Statements::while_of))]
     fn while_of(&self, tokens: &mut Cursor<'_>) -> Result<StmtKind, ParseError>
         requires { ReadsLower self.now.level.now.lower.readers (F.pre self.now.level.now.below) (F.post self.now.level.now.below) }
@@ -170,6 +173,7 @@ impl<'a, F: Fn(Readers, &mut Cursor<'_>, StmtPart) -> Result<StmtTree, ParseErro
     }
 
     // A `for` with semicolons.
+    #[inline(never)]
     #[tactic(auto, unfolding(go_stmt_descent::specs::Statements::for_clauses))]
     fn for_clauses(&self, tokens: &mut Cursor<'_>) -> Result<StmtKind, ParseError>
         requires { ReadsLower self.now.level.now.lower.readers (F.pre self.now.level.now.below) (F.post self.now.level.now.below) }
@@ -188,6 +192,7 @@ impl<'a, F: Fn(Readers, &mut Cursor<'_>, StmtPart) -> Result<StmtTree, ParseErro
     }
 
     // A `for` over a range alone.
+    #[inline(never)]
     #[tactic(auto, unfolding(go_stmt_descent::specs::Statements::range_of))]
     fn range_of(&self, tokens: &mut Cursor<'_>) -> Result<StmtKind, ParseError>
         requires { ReadsLower self.now.level.now.lower.readers (F.pre self.now.level.now.below) (F.post self.now.level.now.below) }
@@ -200,6 +205,7 @@ impl<'a, F: Fn(Readers, &mut Cursor<'_>, StmtPart) -> Result<StmtTree, ParseErro
     }
 
     // A `for` that assigns what it ranges over.
+    #[inline(never)]
     #[tactic(auto, unfolding(go_stmt_descent::specs::Statements::range_assign))]
     fn range_assign(&self, tokens: &mut Cursor<'_>) -> Result<StmtKind, ParseError>
         requires { ReadsLower self.now.level.now.lower.readers (F.pre self.now.level.now.below) (F.post self.now.level.now.below) }
@@ -217,6 +223,7 @@ impl<'a, F: Fn(Readers, &mut Cursor<'_>, StmtPart) -> Result<StmtTree, ParseErro
     }
 
     // A `for` that declares what it ranges over.
+    #[inline(never)]
     #[tactic(auto, unfolding(go_stmt_descent::specs::Statements::range_define))]
     fn range_define(&self, tokens: &mut Cursor<'_>) -> Result<StmtKind, ParseError>
         requires { ReadsLower self.now.level.now.lower.readers (F.pre self.now.level.now.below) (F.post self.now.level.now.below) }

@@ -35,6 +35,7 @@ fn called(
 
 impl<'a, F: Fn(&Context<'_>, Global, usize, Part<'_>) -> Result<Answer, ExprError>> Exprs<'a, F> {
     /// A call with arguments.
+    #[inline(never)]
     pub(crate) fn call(
         &self,
         operand: &Operand,
@@ -57,6 +58,7 @@ impl<'a, F: Fn(&Context<'_>, Global, usize, Part<'_>) -> Result<Answer, ExprErro
     }
 
     /// A call whose first argument is the type of channels of an element type that can only be received from.
+    #[inline(never)]
     pub(crate) fn call_with_type(
         &self,
         operand: &Operand,

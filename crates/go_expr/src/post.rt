@@ -22,6 +22,7 @@ use go_usability::context::Context;
 use std::alloc::Global;
 
 // A selector.
+#[inline(never)]
 fn selected(
     context: &Context<'_>,
     alloc: Global,
@@ -38,6 +39,7 @@ fn selected(
 
 impl<'a, F: Fn(&Context<'_>, Global, usize, Part<'_>) -> Result<Answer, ExprError>> Exprs<'a, F> {
     // A type assertion.
+    #[inline(never)]
     fn asserted(&self, operand: &Operand, form: &Type) -> Result<(Operand, bool), ExprError>
         requires { TypesBelow self.now.literals.operations.typing.context.now self.now.literals.operations.typing.height (F.pre self.now.literals.operations.typing.below) (F.post self.now.literals.operations.typing.below) }
         ensures { Types (env_in self.now.literals.operations.typing.context.now) (HasPost (env_in self.now.literals.operations.typing.context.now) operand.now (Post-F.TypeAssertion form.now)) (type_node form.now ∷ []) result }
@@ -55,6 +57,7 @@ impl<'a, F: Fn(&Context<'_>, Global, usize, Part<'_>) -> Result<Answer, ExprErro
     }
 
     // An index, or a key of a map.
+    #[inline(never)]
     fn indexed(&self, operand: &Operand, expr: &Expr) -> Result<(Operand, bool), ExprError>
         requires { TypesBelow self.now.literals.operations.typing.context.now self.now.literals.operations.typing.height (F.pre self.now.literals.operations.typing.below) (F.post self.now.literals.operations.typing.below) }
         ensures { Types (env_in self.now.literals.operations.typing.context.now) (HasPost (env_in self.now.literals.operations.typing.context.now) operand.now (Post-F.Index expr.now)) (expression expr.now ∷ []) result }
@@ -86,6 +89,7 @@ impl<'a, F: Fn(&Context<'_>, Global, usize, Part<'_>) -> Result<Answer, ExprErro
     }
 
     // A slice by two indices.
+    #[inline(never)]
     fn sliced(
         &self,
         operand: &Operand,
@@ -110,6 +114,7 @@ impl<'a, F: Fn(&Context<'_>, Global, usize, Part<'_>) -> Result<Answer, ExprErro
     }
 
     // A slice by three indices.
+    #[inline(never)]
     fn fully_sliced(
         &self,
         operand: &Operand,

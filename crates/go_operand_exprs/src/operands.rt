@@ -53,6 +53,7 @@ impl<'a, F: Fn(Global, &mut Cursor<'_>, usize, Part) -> Result<PartTree, ParseEr
     }
 
     /// A composite literal that begins with a type's name.
+    #[inline(never)]
     #[tactic(auto, unfolding(go_descent::specs::Rules::named_composite))]
     fn named_composite(&self, tokens: &mut Cursor<'_>) -> Result<Expr, ParseError>
         requires { ReadsBelow self.now.grammar.now.height (F.pre self.now.grammar.now.below) (F.post self.now.grammar.now.below) }
@@ -76,6 +77,7 @@ impl<'a, F: Fn(Global, &mut Cursor<'_>, usize, Part) -> Result<PartTree, ParseEr
     }
 
     /// A function literal or a function type, from behind `func` on.
+    #[inline(never)]
     #[tactic(auto, unfolding(go_descent::specs::Rules::func_operand))]
     fn func_operand(&self, tokens: &mut Cursor<'_>) -> Result<Expr, ParseError>
         requires { ReadsBelow self.now.grammar.now.height (F.pre self.now.grammar.now.below) (F.post self.now.grammar.now.below) }
@@ -103,6 +105,7 @@ impl<'a, F: Fn(Global, &mut Cursor<'_>, usize, Part) -> Result<PartTree, ParseEr
     }
 
     /// A slice, an array, a map or a struct that no literal begins with.
+    #[inline(never)]
     fn type_operand(&self, tokens: &mut Cursor<'_>) -> Result<Expr, ParseError>
         requires { ReadsBelow self.now.grammar.now.height (F.pre self.now.grammar.now.below) (F.post self.now.grammar.now.below) }
         ensures { Reads (bind (rules.composite_type (levels self.now.grammar.now.height) (terminals tokens.old)) (λ t u. if begins kind.LeftBrace u then None else Some (expr.Type t, u))) result tokens.new }
@@ -115,6 +118,7 @@ impl<'a, F: Fn(Global, &mut Cursor<'_>, usize, Part) -> Result<PartTree, ParseEr
     }
 
     /// An operand that begins with a slice, an array, a map or a struct.
+    #[inline(never)]
     #[tactic(auto, unfolding(go_descent::specs::Rules::composite_operand))]
     fn composite_operand(&self, tokens: &mut Cursor<'_>) -> Result<Expr, ParseError>
         requires { ReadsBelow self.now.grammar.now.height (F.pre self.now.grammar.now.below) (F.post self.now.grammar.now.below) }
@@ -141,6 +145,7 @@ impl<'a, F: Fn(Global, &mut Cursor<'_>, usize, Part) -> Result<PartTree, ParseEr
     }
 
     /// `(<-chan T)`, from behind `chan` on.
+    #[inline(never)]
     #[tactic(auto, unfolding(go_cursor::specs::Reading::close, go_cursor::specs::Reading::expect))]
     fn paren_receive(&self, tokens: &mut Cursor<'_>) -> Result<Expr, ParseError>
         requires { ReadsBelow self.now.grammar.now.height (F.pre self.now.grammar.now.below) (F.post self.now.grammar.now.below) }
@@ -177,6 +182,7 @@ impl<'a, F: Fn(Global, &mut Cursor<'_>, usize, Part) -> Result<PartTree, ParseEr
     }
 
     /// A channel type, from behind `chan` on.
+    #[inline(never)]
     #[tactic(auto, unfolding(go_descent::specs::Rules::other_operand))]
     fn chan_operand(&self, tokens: &mut Cursor<'_>) -> Result<Expr, ParseError>
         requires { ReadsBelow self.now.grammar.now.height (F.pre self.now.grammar.now.below) (F.post self.now.grammar.now.below) }
@@ -186,6 +192,7 @@ impl<'a, F: Fn(Global, &mut Cursor<'_>, usize, Part) -> Result<PartTree, ParseEr
     }
 
     /// An interface type, from behind `interface` on.
+    #[inline(never)]
     #[tactic(auto, unfolding(go_descent::specs::Rules::other_operand))]
     fn interface_operand(&self, tokens: &mut Cursor<'_>) -> Result<Expr, ParseError>
         requires { ReadsBelow self.now.grammar.now.height (F.pre self.now.grammar.now.below) (F.post self.now.grammar.now.below) }
@@ -195,6 +202,7 @@ impl<'a, F: Fn(Global, &mut Cursor<'_>, usize, Part) -> Result<PartTree, ParseEr
     }
 
     /// An operand that begins with `[`.
+    #[inline(never)]
     fn bracket_operand(&self, tokens: &mut Cursor<'_>) -> Result<Expr, ParseError>
         requires { ReadsBelow self.now.grammar.now.height (F.pre self.now.grammar.now.below) (F.post self.now.grammar.now.below) }
         ensures { Reads (if begins kind.Ellipsis (drop 1 (terminals tokens.old)) then rules.array_operand (levels self.now.grammar.now.height) (drop 1 (terminals tokens.old)) else rules.composite_operand (levels self.now.grammar.now.height) (terminals tokens.old)) result tokens.new }

@@ -1,5 +1,5 @@
 //! Operators: a prefix operator, and chains of operands by precedence.
-ghost use Rattle.std.specs.Prelude.{◌≡◌, [], IfOk, Some};
+ghost use Rattle.std.specs.Prelude.{◌≡◌, [], IfOk, Some, false};
 ghost use Rattle.go_syntax.specs.declared.expression.Expr.TheVariants as expr;
 ghost use Rattle.go_syntax.specs.declared.token.TokenKind.TheVariants as kind;
 ghost use Rattle.go_syntax.specs.grammar.Grammar as grammar;
@@ -9,6 +9,7 @@ ghost use Rattle.go_descent.specs.Parts.{ReadsBelow};
 ghost use Rattle.go_cursor.specs.Reading.{bind, run, step_of};
 ghost use Rattle.go_cursor.specs.Reads.{Reads};
 ghost use Rattle.go_descent.specs.Rules as rules;
+ghost use Rattle.go_operator_exprs.specs.Chains.{EndsOperands, and_after, and_behind, compare_after, compare_behind, or_after, or_behind, product_after, sum_after, sum_behind};
 ghost use Rattle.go_operator_exprs.specs.Primary.{ReadsPrimary};
 
 use go_base::list::List;
@@ -119,6 +120,43 @@ fn comparison_of(sign: TokenKind) -> Option<CompareOp>
         TokenKind::Greater => Some(CompareOp::Greater),
         TokenKind::GreaterEqual => Some(CompareOp::GreaterEqual),
         _ => None,
+    }
+}
+
+/// Whether an operator is next that can stand behind an operand.
+fn operator_follows(sign: Option<TokenKind>) -> bool
+    ensures { result ≡ false → EndsOperands sign }
+{
+    match sign {
+        None => false,
+        Some(sign) => is_operator(sign),
+    }
+}
+
+fn is_operator(sign: TokenKind) -> bool
+    ensures { result ≡ false → EndsOperands (Some sign) }
+{
+    match sign {
+        TokenKind::Add => true,
+        TokenKind::Subtract => true,
+        TokenKind::Multiply => true,
+        TokenKind::Divide => true,
+        TokenKind::Remainder => true,
+        TokenKind::And => true,
+        TokenKind::Or => true,
+        TokenKind::Xor => true,
+        TokenKind::ShiftLeft => true,
+        TokenKind::ShiftRight => true,
+        TokenKind::AndNot => true,
+        TokenKind::LogicalAnd => true,
+        TokenKind::LogicalOr => true,
+        TokenKind::Equal => true,
+        TokenKind::NotEqual => true,
+        TokenKind::Less => true,
+        TokenKind::LessEqual => true,
+        TokenKind::Greater => true,
+        TokenKind::GreaterEqual => true,
+        _ => false,
     }
 }
 
@@ -258,16 +296,32 @@ impl<
         Ok((operators, operands))
     }
 
+    /// Factors, whose first operand is read.
+    #[inline(never)]
+    #[tactic(auto, unfolding(crate::specs::Chains::product_after))]
+    fn product_chain(
+        &self,
+        composite: bool,
+        first: Expr,
+        tokens: &mut Cursor<'_>,
+    ) -> Result<Expr, ParseError>
+        requires parts { ReadsBelow self.now.grammar.now.height (F.pre self.now.grammar.now.below) (F.post self.now.grammar.now.below) }
+        requires primary { ReadsPrimary self.now.grammar.now.height (P.pre self.now.primary) (P.post self.now.primary) }
+        ensures { Reads (product_after composite (levels self.now.grammar.now.height) first (terminals tokens.old)) result tokens.new }
+    {
+        let first = HeldExpr::new(first);
+        let (operators, others) = self.products(composite, tokens)?;
+        Ok(product_of(self.grammar.alloc, first.take(), operators, others)?)
+    }
+
     /// Factors.
-    #[tactic(auto, unfolding(go_descent::specs::Rules::product_expr, go_descent::specs::Rules::chain_of))]
     fn product_expr(&self, composite: bool, tokens: &mut Cursor<'_>) -> Result<Expr, ParseError>
         requires parts { ReadsBelow self.now.grammar.now.height (F.pre self.now.grammar.now.below) (F.post self.now.grammar.now.below) }
         requires primary { ReadsPrimary self.now.grammar.now.height (P.pre self.now.primary) (P.post self.now.primary) }
         ensures { Reads (rules.product_expr composite (levels self.now.grammar.now.height) (terminals tokens.old)) result tokens.new }
     {
-        let first = HeldExpr::new(self.unary_expr(composite, tokens)?);
-        let (operators, others) = self.products(composite, tokens)?;
-        Ok(product_of(self.grammar.alloc, first.take(), operators, others)?)
+        let first = self.unary_expr(composite, tokens)?;
+        self.product_chain(composite, first, tokens)
     }
 
     /// The operators and terms that follow.
@@ -295,16 +349,48 @@ impl<
         Ok((operators, operands))
     }
 
+    /// A sum whose first term is read.
+    #[inline(never)]
+    #[tactic(auto, unfolding(crate::specs::Chains::sum_behind))]
+    fn sum_rest(
+        &self,
+        composite: bool,
+        first: Expr,
+        tokens: &mut Cursor<'_>,
+    ) -> Result<Expr, ParseError>
+        requires parts { ReadsBelow self.now.grammar.now.height (F.pre self.now.grammar.now.below) (F.post self.now.grammar.now.below) }
+        requires primary { ReadsPrimary self.now.grammar.now.height (P.pre self.now.primary) (P.post self.now.primary) }
+        ensures { Reads (sum_behind composite (levels self.now.grammar.now.height) first (terminals tokens.old)) result tokens.new }
+    {
+        let first = HeldExpr::new(first);
+        let (operators, others) = self.sums(composite, tokens)?;
+        Ok(sum_of(self.grammar.alloc, first.take(), operators, others)?)
+    }
+
+    /// Terms, whose first operand is read.
+    #[tactic(auto, unfolding(crate::specs::Chains::sum_after))]
+    fn sum_chain(
+        &self,
+        composite: bool,
+        first: Expr,
+        tokens: &mut Cursor<'_>,
+    ) -> Result<Expr, ParseError>
+        requires parts { ReadsBelow self.now.grammar.now.height (F.pre self.now.grammar.now.below) (F.post self.now.grammar.now.below) }
+        requires primary { ReadsPrimary self.now.grammar.now.height (P.pre self.now.primary) (P.post self.now.primary) }
+        ensures { Reads (sum_after composite (levels self.now.grammar.now.height) first (terminals tokens.old)) result tokens.new }
+    {
+        let first = self.product_chain(composite, first, tokens)?;
+        self.sum_rest(composite, first, tokens)
+    }
+
     /// Terms.
-    #[tactic(auto, unfolding(go_descent::specs::Rules::sum_expr, go_descent::specs::Rules::chain_of))]
     fn sum_expr(&self, composite: bool, tokens: &mut Cursor<'_>) -> Result<Expr, ParseError>
         requires parts { ReadsBelow self.now.grammar.now.height (F.pre self.now.grammar.now.below) (F.post self.now.grammar.now.below) }
         requires primary { ReadsPrimary self.now.grammar.now.height (P.pre self.now.primary) (P.post self.now.primary) }
         ensures { Reads (rules.sum_expr composite (levels self.now.grammar.now.height) (terminals tokens.old)) result tokens.new }
     {
-        let first = HeldExpr::new(self.product_expr(composite, tokens)?);
-        let (operators, others) = self.sums(composite, tokens)?;
-        Ok(sum_of(self.grammar.alloc, first.take(), operators, others)?)
+        let first = self.unary_expr(composite, tokens)?;
+        self.sum_chain(composite, first, tokens)
     }
 
     /// The comparisons and operands that follow.
@@ -332,16 +418,48 @@ impl<
         Ok((operators, operands))
     }
 
+    /// Comparisons whose first operand is read.
+    #[inline(never)]
+    #[tactic(auto, unfolding(crate::specs::Chains::compare_behind))]
+    fn compare_rest(
+        &self,
+        composite: bool,
+        first: Expr,
+        tokens: &mut Cursor<'_>,
+    ) -> Result<Expr, ParseError>
+        requires parts { ReadsBelow self.now.grammar.now.height (F.pre self.now.grammar.now.below) (F.post self.now.grammar.now.below) }
+        requires primary { ReadsPrimary self.now.grammar.now.height (P.pre self.now.primary) (P.post self.now.primary) }
+        ensures { Reads (compare_behind composite (levels self.now.grammar.now.height) first (terminals tokens.old)) result tokens.new }
+    {
+        let first = HeldExpr::new(first);
+        let (operators, others) = self.comparisons(composite, tokens)?;
+        Ok(compare_of(self.grammar.alloc, first.take(), operators, others)?)
+    }
+
+    /// Operands of comparisons, whose first operand is read.
+    #[tactic(auto, unfolding(crate::specs::Chains::compare_after))]
+    fn compare_chain(
+        &self,
+        composite: bool,
+        first: Expr,
+        tokens: &mut Cursor<'_>,
+    ) -> Result<Expr, ParseError>
+        requires parts { ReadsBelow self.now.grammar.now.height (F.pre self.now.grammar.now.below) (F.post self.now.grammar.now.below) }
+        requires primary { ReadsPrimary self.now.grammar.now.height (P.pre self.now.primary) (P.post self.now.primary) }
+        ensures { Reads (compare_after composite (levels self.now.grammar.now.height) first (terminals tokens.old)) result tokens.new }
+    {
+        let first = self.sum_chain(composite, first, tokens)?;
+        self.compare_rest(composite, first, tokens)
+    }
+
     /// Operands of comparisons.
-    #[tactic(auto, unfolding(go_descent::specs::Rules::compare_expr, go_descent::specs::Rules::chain_of))]
     fn compare_expr(&self, composite: bool, tokens: &mut Cursor<'_>) -> Result<Expr, ParseError>
         requires parts { ReadsBelow self.now.grammar.now.height (F.pre self.now.grammar.now.below) (F.post self.now.grammar.now.below) }
         requires primary { ReadsPrimary self.now.grammar.now.height (P.pre self.now.primary) (P.post self.now.primary) }
         ensures { Reads (rules.compare_expr composite (levels self.now.grammar.now.height) (terminals tokens.old)) result tokens.new }
     {
-        let first = HeldExpr::new(self.sum_expr(composite, tokens)?);
-        let (operators, others) = self.comparisons(composite, tokens)?;
-        Ok(compare_of(self.grammar.alloc, first.take(), operators, others)?)
+        let first = self.unary_expr(composite, tokens)?;
+        self.compare_chain(composite, first, tokens)
     }
 
     /// The operands that follow, each after `&&`.
@@ -361,16 +479,48 @@ impl<
         Ok(operands)
     }
 
+    /// A chain of `&&` whose first operand is read.
+    #[inline(never)]
+    #[tactic(auto, unfolding(crate::specs::Chains::and_behind))]
+    fn and_rest(
+        &self,
+        composite: bool,
+        first: Expr,
+        tokens: &mut Cursor<'_>,
+    ) -> Result<Expr, ParseError>
+        requires parts { ReadsBelow self.now.grammar.now.height (F.pre self.now.grammar.now.below) (F.post self.now.grammar.now.below) }
+        requires primary { ReadsPrimary self.now.grammar.now.height (P.pre self.now.primary) (P.post self.now.primary) }
+        ensures { Reads (and_behind composite (levels self.now.grammar.now.height) first (terminals tokens.old)) result tokens.new }
+    {
+        let first = HeldExpr::new(first);
+        let others = self.ands(composite, tokens)?;
+        Ok(and_of(self.grammar.alloc, first.take(), others)?)
+    }
+
+    /// Operands of `&&`, whose first operand is read.
+    #[tactic(auto, unfolding(crate::specs::Chains::and_after))]
+    fn and_chain(
+        &self,
+        composite: bool,
+        first: Expr,
+        tokens: &mut Cursor<'_>,
+    ) -> Result<Expr, ParseError>
+        requires parts { ReadsBelow self.now.grammar.now.height (F.pre self.now.grammar.now.below) (F.post self.now.grammar.now.below) }
+        requires primary { ReadsPrimary self.now.grammar.now.height (P.pre self.now.primary) (P.post self.now.primary) }
+        ensures { Reads (and_after composite (levels self.now.grammar.now.height) first (terminals tokens.old)) result tokens.new }
+    {
+        let first = self.compare_chain(composite, first, tokens)?;
+        self.and_rest(composite, first, tokens)
+    }
+
     /// Operands of `&&`.
-    #[tactic(auto, unfolding(go_descent::specs::Rules::and_expr, go_descent::specs::Rules::plain_chain))]
     fn and_expr(&self, composite: bool, tokens: &mut Cursor<'_>) -> Result<Expr, ParseError>
         requires parts { ReadsBelow self.now.grammar.now.height (F.pre self.now.grammar.now.below) (F.post self.now.grammar.now.below) }
         requires primary { ReadsPrimary self.now.grammar.now.height (P.pre self.now.primary) (P.post self.now.primary) }
         ensures { Reads (rules.and_expr composite (levels self.now.grammar.now.height) (terminals tokens.old)) result tokens.new }
     {
-        let first = HeldExpr::new(self.compare_expr(composite, tokens)?);
-        let others = self.ands(composite, tokens)?;
-        Ok(and_of(self.grammar.alloc, first.take(), others)?)
+        let first = self.unary_expr(composite, tokens)?;
+        self.and_chain(composite, first, tokens)
     }
 
     /// The operands that follow, each after `||`.
@@ -390,15 +540,50 @@ impl<
         Ok(operands)
     }
 
+    /// A chain of `||` whose first operand is read.
+    #[inline(never)]
+    #[tactic(auto, unfolding(crate::specs::Chains::or_behind))]
+    fn or_rest(
+        &self,
+        composite: bool,
+        first: Expr,
+        tokens: &mut Cursor<'_>,
+    ) -> Result<Expr, ParseError>
+        requires parts { ReadsBelow self.now.grammar.now.height (F.pre self.now.grammar.now.below) (F.post self.now.grammar.now.below) }
+        requires primary { ReadsPrimary self.now.grammar.now.height (P.pre self.now.primary) (P.post self.now.primary) }
+        ensures { Reads (or_behind composite (levels self.now.grammar.now.height) first (terminals tokens.old)) result tokens.new }
+    {
+        let first = HeldExpr::new(first);
+        let others = self.ors(composite, tokens)?;
+        Ok(or_of(self.grammar.alloc, first.take(), others)?)
+    }
+
+    /// An expression, whose first operand is read.
+    #[tactic(auto, unfolding(crate::specs::Chains::or_after))]
+    fn or_chain(
+        &self,
+        composite: bool,
+        first: Expr,
+        tokens: &mut Cursor<'_>,
+    ) -> Result<Expr, ParseError>
+        requires parts { ReadsBelow self.now.grammar.now.height (F.pre self.now.grammar.now.below) (F.post self.now.grammar.now.below) }
+        requires primary { ReadsPrimary self.now.grammar.now.height (P.pre self.now.primary) (P.post self.now.primary) }
+        ensures { Reads (or_after composite (levels self.now.grammar.now.height) first (terminals tokens.old)) result tokens.new }
+    {
+        let first = self.and_chain(composite, first, tokens)?;
+        self.or_rest(composite, first, tokens)
+    }
+
     /// An expression.
-    #[tactic(auto, unfolding(go_descent::specs::Rules::expr_of, go_descent::specs::Rules::plain_chain))]
     pub fn expr(&self, composite: bool, tokens: &mut Cursor<'_>) -> Result<Expr, ParseError>
         requires parts { ReadsBelow self.now.grammar.now.height (F.pre self.now.grammar.now.below) (F.post self.now.grammar.now.below) }
         requires primary { ReadsPrimary self.now.grammar.now.height (P.pre self.now.primary) (P.post self.now.primary) }
         ensures { Reads (rules.expr_of composite (levels self.now.grammar.now.height) (terminals tokens.old)) result tokens.new }
     {
-        let first = HeldExpr::new(self.and_expr(composite, tokens)?);
-        let others = self.ors(composite, tokens)?;
-        Ok(or_of(self.grammar.alloc, first.take(), others)?)
+        let first = self.unary_expr(composite, tokens)?;
+        if !operator_follows(tokens.sign()) {
+            return Ok(first);
+        }
+        self.or_chain(composite, first, tokens)
     }
 }

@@ -106,6 +106,7 @@ impl<'a, F: Fn(Global, &mut Cursor<'_>, usize, Part) -> Result<PartTree, ParseEr
     }
 
     /// A call whose first argument is `<-chan T`, from behind `chan` on.
+    #[inline(never)]
     #[tactic(auto, unfolding(go_descent::specs::Rules::call_end, go_cursor::specs::Reading::close))]
     fn receive_call(&self, tokens: &mut Cursor<'_>) -> Result<Post, ParseError>
         requires { ReadsBelow self.now.grammar.now.height (F.pre self.now.grammar.now.below) (F.post self.now.grammar.now.below) }
@@ -187,6 +188,7 @@ impl<'a, F: Fn(Global, &mut Cursor<'_>, usize, Part) -> Result<PartTree, ParseEr
     }
 
     /// An index or a slice, from behind `[` on.
+    #[inline(never)]
     #[tactic(auto, unfolding(go_descent::specs::Rules::index))]
     fn index(&self, tokens: &mut Cursor<'_>) -> Result<Post, ParseError>
         requires { ReadsBelow self.now.grammar.now.height (F.pre self.now.grammar.now.below) (F.post self.now.grammar.now.below) }
@@ -202,6 +204,7 @@ impl<'a, F: Fn(Global, &mut Cursor<'_>, usize, Part) -> Result<PartTree, ParseEr
     }
 
     /// A selector or a type assertion, from behind `.` on.
+    #[inline(never)]
     #[tactic(auto, unfolding(go_descent::specs::Rules::selector, go_cursor::specs::Reading::close, go_cursor::specs::Reading::expect))]
     fn selector(&self, tokens: &mut Cursor<'_>) -> Result<Post, ParseError>
         requires { ReadsBelow self.now.grammar.now.height (F.pre self.now.grammar.now.below) (F.post self.now.grammar.now.below) }
@@ -247,6 +250,7 @@ impl<'a, F: Fn(Global, &mut Cursor<'_>, usize, Part) -> Result<PartTree, ParseEr
     }
 
     /// All that follows here.
+    #[inline(never)]
     pub fn posts(&self, tokens: &mut Cursor<'_>) -> Result<HeldPosts, ParseError>
         requires { ReadsBelow self.now.grammar.now.height (F.pre self.now.grammar.now.below) (F.post self.now.grammar.now.below) }
         ensures { Reads (run (step_of (rules.post_item (levels self.now.grammar.now.height))) [] (terminals tokens.old)) result tokens.new }

@@ -121,6 +121,7 @@ impl<'a, F: Fn(Readers, &mut Cursor<'_>, StmtPart) -> Result<StmtTree, ParseErro
     }
 
     // A clause without values, from behind `default` on.
+    #[inline(never)]
     #[tactic(auto, unfolding(go_stmt_descent::specs::Statements::default_case))]
     fn default_case(&self, tokens: &mut Cursor<'_>) -> Result<Case, ParseError>
         requires { ReadsLower self.now.level.now.lower.readers (F.pre self.now.level.now.below) (F.post self.now.level.now.below) }
@@ -180,6 +181,7 @@ impl<'a, F: Fn(Readers, &mut Cursor<'_>, StmtPart) -> Result<StmtTree, ParseErro
     }
 
     // A clause without types, from behind `default` on.
+    #[inline(never)]
     #[tactic(auto, unfolding(go_stmt_descent::specs::Statements::default_type_case))]
     fn default_type_case(&self, tokens: &mut Cursor<'_>) -> Result<TypeCase, ParseError>
         requires { ReadsLower self.now.level.now.lower.readers (F.pre self.now.level.now.below) (F.post self.now.level.now.below) }
@@ -225,6 +227,7 @@ impl<'a, F: Fn(Readers, &mut Cursor<'_>, StmtPart) -> Result<StmtTree, ParseErro
     }
 
     // A communication as a statement.
+    #[inline(never)]
     fn communication(&self, tokens: &mut Cursor<'_>) -> Result<HeldStmt, ParseError>
         ensures { Reads (bind (waits.communication_at self.now.level.now.lower.readers.height (terminals tokens.old)) (λ k u. Some (statement (start_of (terminals tokens.old)) k, u))) result tokens.new }
     {
@@ -249,6 +252,7 @@ impl<'a, F: Fn(Readers, &mut Cursor<'_>, StmtPart) -> Result<StmtTree, ParseErro
     }
 
     // A clause without communication, from behind `default` on.
+    #[inline(never)]
     #[tactic(auto, unfolding(go_stmt_descent::specs::Statements::default_select_case))]
     fn default_select_case(&self, tokens: &mut Cursor<'_>) -> Result<SelectCase, ParseError>
         requires { ReadsLower self.now.level.now.lower.readers (F.pre self.now.level.now.below) (F.post self.now.level.now.below) }

@@ -57,6 +57,7 @@ pub struct Words {
 
 impl Words {
     /// Constants, from behind `const` on.
+    #[inline(never)]
     #[tactic(auto, unfolding(go_stmt_descent::specs::Statements::const_stmt))]
     pub fn const_stmt(&self, tokens: &mut Cursor<'_>) -> Result<StmtKind, ParseError>
         ensures { Reads (rules.const_stmt self.now.lower.readers.height (terminals tokens.old)) result tokens.new }
@@ -67,6 +68,7 @@ impl Words {
     }
 
     /// Variables, from behind `var` on.
+    #[inline(never)]
     #[tactic(auto, unfolding(go_stmt_descent::specs::Statements::var_stmt))]
     pub fn var_stmt(&self, tokens: &mut Cursor<'_>) -> Result<StmtKind, ParseError>
         ensures { Reads (rules.var_stmt self.now.lower.readers.height (terminals tokens.old)) result tokens.new }
@@ -93,6 +95,7 @@ impl Words {
     }
 
     /// A `return`, from behind the keyword on.
+    #[inline(never)]
     #[tactic(auto, unfolding(go_stmt_descent::specs::Statements::return_stmt))]
     pub fn return_stmt(&self, tokens: &mut Cursor<'_>) -> Result<StmtKind, ParseError>
         ensures { Reads (rules.return_stmt self.now.lower.readers.height (terminals tokens.old)) result tokens.new }
@@ -108,6 +111,7 @@ impl Words {
     }
 
     /// A `break`, from behind the keyword on.
+    #[inline(never)]
     #[tactic(auto, unfolding(go_stmt_descent::specs::Statements::break_stmt))]
     pub fn break_stmt(&self, tokens: &mut Cursor<'_>) -> Result<StmtKind, ParseError>
         ensures { Reads (rules.break_stmt (terminals tokens.old)) result tokens.new }
@@ -116,6 +120,7 @@ impl Words {
     }
 
     /// A `continue`, from behind the keyword on.
+    #[inline(never)]
     #[tactic(auto, unfolding(go_stmt_descent::specs::Statements::continue_stmt))]
     pub fn continue_stmt(&self, tokens: &mut Cursor<'_>) -> Result<StmtKind, ParseError>
         ensures { Reads (rules.continue_stmt (terminals tokens.old)) result tokens.new }
@@ -124,6 +129,7 @@ impl Words {
     }
 
     /// A `goto`, from behind the keyword on.
+    #[inline(never)]
     #[tactic(auto, unfolding(go_stmt_descent::specs::Statements::goto_stmt))]
     pub fn goto_stmt(&self, tokens: &mut Cursor<'_>) -> Result<StmtKind, ParseError>
         ensures { Reads (rules.goto_stmt (terminals tokens.old)) result tokens.new }

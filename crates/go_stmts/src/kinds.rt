@@ -27,6 +27,7 @@ pub struct Kinds<'a, F> {
 
 impl<'a, F: Fn(Readers, &mut Cursor<'_>, StmtPart) -> Result<StmtTree, ParseError>> Kinds<'a, F> {
     // A statement with a label.
+    #[inline(never)]
     #[tactic(auto, unfolding(go_stmt_descent::specs::Statements::labeled))]
     fn labeled(&self, tokens: &mut Cursor<'_>) -> Result<StmtKind, ParseError>
         requires { ReadsLower self.now.level.now.lower.readers (F.pre self.now.level.now.below) (F.post self.now.level.now.below) }
@@ -40,6 +41,7 @@ impl<'a, F: Fn(Readers, &mut Cursor<'_>, StmtPart) -> Result<StmtTree, ParseErro
     }
 
     // A block as a statement.
+    #[inline(never)]
     #[tactic(auto, unfolding(go_stmt_descent::specs::Statements::block_stmt))]
     fn block_stmt(&self, tokens: &mut Cursor<'_>) -> Result<StmtKind, ParseError>
         requires { ReadsLower self.now.level.now.lower.readers (F.pre self.now.level.now.below) (F.post self.now.level.now.below) }
@@ -50,6 +52,7 @@ impl<'a, F: Fn(Readers, &mut Cursor<'_>, StmtPart) -> Result<StmtTree, ParseErro
     }
 
     // A statement that no keyword and no `{` begins.
+    #[inline(never)]
     #[tactic(auto, unfolding(go_stmt_descent::specs::Statements::plain))]
     fn plain(&self, tokens: &mut Cursor<'_>) -> Result<StmtKind, ParseError>
         requires { ReadsLower self.now.level.now.lower.readers (F.pre self.now.level.now.below) (F.post self.now.level.now.below) }
@@ -149,6 +152,7 @@ impl<'a, F: Fn(Readers, &mut Cursor<'_>, StmtPart) -> Result<StmtTree, ParseErro
     }
 
     /// A statement.
+    #[inline(never)]
     #[tactic(auto, unfolding(go_stmt_descent::specs::Statements::stmt_of))]
     pub fn stmt(&self, tokens: &mut Cursor<'_>) -> Result<HeldStmt, ParseError>
         requires { ReadsLower self.now.level.now.lower.readers (F.pre self.now.level.now.below) (F.post self.now.level.now.below) }
@@ -161,6 +165,7 @@ impl<'a, F: Fn(Readers, &mut Cursor<'_>, StmtPart) -> Result<StmtTree, ParseErro
     }
 
     /// The `if` or the block that follows `else`.
+    #[inline(never)]
     #[tactic(auto, unfolding(go_stmt_descent::specs::Statements::branch_of))]
     pub fn branch(&self, tokens: &mut Cursor<'_>) -> Result<HeldStmt, ParseError>
         requires { ReadsLower self.now.level.now.lower.readers (F.pre self.now.level.now.below) (F.post self.now.level.now.below) }

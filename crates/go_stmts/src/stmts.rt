@@ -63,6 +63,7 @@ fn flat_stmt(readers: &Readers, tokens: &mut Cursor<'_>) -> Result<HeldStmt, Par
 }
 
 /// A part without parts of its own.
+#[inline(never)]
 pub(crate) fn flat_part(
     readers: &Readers,
     tokens: &mut Cursor<'_>,

@@ -1,0 +1,27 @@
+use Rattle.std.proofs.Common.{List, subst, sym}
+use Rattle.go_syntax.specs.declared.expression.Expr.{Expr}
+use Rattle.go_syntax.specs.grammar.Terminals.{Terminal, terminals}
+use Rattle.go_cursor.specs.Reading.{Found}
+use Rattle.go_cursor.specs.Reads.{Reads}
+use Rattle.go_descent.specs.Levels.{levels}
+use Rattle.go_descent.specs.Rules.{Parts, sum_expr, unary_expr}
+use Rattle.go_descent.proofs.Chains.{handed}
+use Rattle.go_operator_exprs.specs.Chains.{sum_after}
+use Rattle.go_operator_exprs.proofs.Chained.{follows, nothing_follows, sum_is}
+use Rattle.go_operator_exprs.proofs.operators.OperatorExprs.sum_expr.Goals as goal
+
+pub returns-in_err-first : goal.returns-in_err-first
+returns-in_err-first g c =
+    let b = c.args.composite in
+    let l : Parts = levels c.args.self.now.grammar.now.height in
+    let ts : List Terminal = terminals c.args.tokens.now in
+    handed (sum_expr b l ts) (unary_expr b l ts) c.in_err-first.field-0.0 c.from_residual.result c.unary_expr.new.tokens c.unary_expr.new.tokens c.from_residual.ensures.1 c.in_err-first.ensures
+    (nothing_follows (sum_expr b l ts) (unary_expr b l ts) (sum_after b l) (sum_is b l ts))
+
+pub returns : goal.returns
+returns g c =
+    let b = c.args.composite in
+    let l : Parts = levels c.args.self.now.grammar.now.height in
+    let ts : List Terminal = terminals c.args.tokens.now in
+    subst (λ (f : Found Expr). Reads f c.sum_chain.result c.sum_chain.new.tokens)
+    (sym (follows (sum_expr b l ts) (unary_expr b l ts) (sum_after b l) (sum_is b l ts) c.in_ok-first.first (terminals c.unary_expr.new.tokens) c.in_ok-first.ensures)) c.sum_chain.ensures
