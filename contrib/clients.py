@@ -24,9 +24,7 @@ class Found:
 
 def told(folder, tree, std, platforms):
     """What is said of a client over a tree on each platform: nothing where it is typed in profile, a place where it isn't, or a text."""
-    # on several platforms one thread, which takes over what it typed before, ends sooner than several
-    most = 1 if "," in platforms else gating.MOST_WORKERS
-    status, report, fault = gating.told(["vet", "--new", tree, "--client", folder, *gating.common(std, platforms, most)])
+    status, report, fault = gating.told(["vet", "--new", tree, "--client", folder, *gating.common(std, platforms)])
     if status > 1:
         return fault.strip()
     found = {}

@@ -192,9 +192,9 @@ def told(words):
     return ran.returncode, ran.stdout.decode(), ran.stderr.decode(errors="replace")
 
 
-def common(std, platforms, most=MOST_WORKERS):
-    """The words of each mode that reads trees, with at most so many threads."""
-    return ["--std", std, "--platforms", platforms, "--workers", str(min(workers, most))]
+def common(std, platforms):
+    """The words of each mode that reads trees."""
+    return ["--std", std, "--platforms", platforms, "--workers", str(workers)]
 
 
 def promised(std, platforms, old):
