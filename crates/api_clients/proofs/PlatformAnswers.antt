@@ -24,14 +24,14 @@ taken_at (q ∷ qs) (suc k) (suc m) h = taken_at qs k m (omega (arith, h))
 module _ (barred : List (List ℕ)) (tree std_tree client : Tree) where
   -- ---- how many packages
 
-  abbrev Counts : List Platform → ℕ → Type 0
+  abbrev pub Counts : List Platform → ℕ → Type 0
   Counts ps n = CountsPackages barred tree std_tree client ps n
 
-  skip_all : (ps : List Platform) → Counts ps 0
+  pub skip_all : (ps : List Platform) → Counts ps 0
   skip_all [] = count_none
   skip_all (p ∷ ps) = count_more 0 no_package (skip_all ps)
 
-  counts_then : (p : Platform) (ps : List Platform) (k m : ℕ) → Counts (p ∷ []) k → Counts ps m → Counts (p ∷ ps) (k + m)
+  pub counts_then : (p : Platform) (ps : List Platform) (k m : ℕ) → Counts (p ∷ []) k → Counts ps m → Counts (p ∷ ps) (k + m)
   counts_then p ps k m (count_more here i count_none) d = let e : here + m ≡ here + 0 + m = omega arith in subst (Counts (p ∷ ps)) e (count_more here i d)
 
   -- no package is counted where nothing is typed
@@ -119,11 +119,14 @@ module _ (barred : List (List ℕ)) (tree std_tree client : Tree) where
     pub count_all : CountsAtMost barred tree std_tree client ps before now
     count_all = (t.count, subst (Counts ps) (omega arith) (t.counts 0 (subst (λ (w : List Platform). Counts w 0) (sym (drop_past i ps h)) count_none)), t.counted)
 
+  pub many_taken : (ps : List Platform) (i : ℕ) (given : List ClientAnswer) (before now : ℕ) → i < length ps → TakenTo ps i given before now → length given ≡ i
+  many_taken ps i given before now within t = told_length (take i ps) given t.told ∙ length_take i ps (omega (arith, within))
+
   -- what is told on the next platform, where an earlier one is alike
   pub alike_earlier : (ps : List Platform) (ns : List ℕ) → AreFirsts (files_of (Some client) tree std_tree) ps ns → (i : ℕ) (given : List ClientAnswer) (before now : ℕ) → i < length ps → TakenTo ps i given before now → get_or ns i 0 < length given
       → IsAnsweredAlike barred tree std_tree client (platform_at ps i) (slice_get given (get_or ns i 0))
   alike_earlier ps ns firsts i given before now within t h =
-      let many : length given ≡ i = told_length (take i ps) given t.told ∙ length_take i ps (omega (arith, within)) in
+      let many = many_taken ps i given before now within t in
       let there : ToldThere (get_or (take i ps) (get_or ns i 0) platform.Linux386) (slice_get given (get_or ns i 0)) = told_there (take i ps) given (get_or ns i 0) platform.Linux386 t.told h in
       record {
         earlier = platform_at ps (get_or ns i 0);

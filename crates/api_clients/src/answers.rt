@@ -123,7 +123,8 @@ fn answer_alone<R: Threads + Sync, G: Gate + Sync, L: Copy + Send>(
     }
 }
 
-/// What is told of a client on a platform: what `vet_on_platforms` says, on it alone. A single worker that looks at several platforms takes over from the one before.
+/// What is told of a client on a platform: what `vet_on_platforms` says, on it alone. A single worker that looks at several platforms takes over from the one before;
+/// several share the packages.
 pub(crate) fn answer_on<R: Threads + Sync, G: Gate + Sync, L: Copy + Send>(
     rt: &R,
     alloc: Global,

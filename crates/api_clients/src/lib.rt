@@ -6,6 +6,7 @@ mod chain;
 pub mod clients;
 pub mod laws;
 mod next_answers;
+mod outcomes;
 mod told;
 pub mod trees;
 mod units;

@@ -10,6 +10,7 @@ ghost use Rattle.go_syntax.specs.lexical.Tokens.{IsTokens};
 
 use go_base::list::List;
 use go_base::memory::NoMemory;
+use go_base::shared::Shared;
 use go_base::text::Text;
 use go_cursor::error::ParseError;
 use go_file_blocks::blocks::file_blocks;
@@ -70,7 +71,7 @@ fn blocks_of(
 // A file with this tree, which is the outline of these bytes.
 fn outlined(
     alloc: Global,
-    bytes: &[u8],
+    bytes: &Shared<Text>,
     tree: File,
     blocks: List<LiteralBlock>,
     path: Text,
@@ -91,7 +92,7 @@ fn outlined(
 
 fn parsed_tokens(
     alloc: Global,
-    bytes: &[u8],
+    bytes: &Shared<Text>,
     tokens: &[Token],
     path: Text,
 ) -> Result<ParsedFile, FileError>
@@ -119,10 +120,10 @@ fn parsed_at(alloc: Global, file: &TreeFile, path: Text) -> Result<ParsedFile, F
     ensures ok { IfOk result (IsParsed file.now) }
     ensures cause { IfErr result (Causes (HasBadText file.now.bytes)) }
 {
-    match scan(alloc, file.bytes.bytes()) {
+    match scan(alloc, file.bytes.value().bytes()) {
         Err(LexError::NoMemory) => Err(FileError::NoMemory),
         Err(LexError::BadToken(offset)) => Err(FileError::Faulty(FileFault::BadToken(offset))),
-        Ok(tokens) => parsed_tokens(alloc, file.bytes.bytes(), tokens.items(), path),
+        Ok(tokens) => parsed_tokens(alloc, &file.bytes, tokens.items(), path),
     }
 }
 

@@ -1,6 +1,7 @@
 pub mod ByType
 pub mod Composing
 pub mod ElementValues
+pub mod FieldTables
 pub mod Indexing
 pub mod KeyNames
 pub mod KeyedFields

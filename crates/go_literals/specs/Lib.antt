@@ -1,3 +1,4 @@
 pub mod Elements
 pub mod Keys
 pub mod Structs
+pub mod inner

@@ -2,6 +2,7 @@
 #![tactic(auto)]
 
 pub mod composites;
+mod field_tables;
 mod fields;
 mod indexed;
 mod indices;

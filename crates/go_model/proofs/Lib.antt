@@ -1,5 +1,6 @@
 pub mod AddedPackages
 pub mod MethodOrder
+pub mod MethodSearch
 pub mod MoreWorlds
 pub mod Paths
 pub mod Sendable

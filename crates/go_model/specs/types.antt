@@ -2,6 +2,7 @@ pub mod Assignability
 pub mod Bounds
 pub mod Comparison
 pub mod Conversions
+pub mod DeclaredMethods
 pub mod Imports
 pub mod Members
 pub mod MethodSets

@@ -2,6 +2,7 @@
 pub mod borrowed;
 pub mod bounds;
 pub mod copy;
+pub mod declared_method;
 pub mod found;
 pub mod keyed;
 pub mod names;

@@ -4,6 +4,7 @@ ghost use Rattle.std.specs.Prelude.{length};
 use crate::asked::{FolderIndex, asked};
 use go_base::list::List;
 use go_base::memory::NoMemory;
+use go_base::shared::Shared;
 use go_base::steps::Steps;
 use go_base::text::Text;
 use go_imports::outline::Outline;
@@ -79,8 +80,8 @@ fn with_asked(
     })
 }
 
-fn outline_of(alloc: Global, bytes: &[u8]) -> Result<Option<Outline>, NoMemory> {
-    if bytes.len() as u64 > MOST_FILE_BYTES {
+fn outline_of(alloc: Global, bytes: &Shared<Text>) -> Result<Option<Outline>, NoMemory> {
+    if bytes.value().bytes().len() as u64 > MOST_FILE_BYTES {
         return Ok(None);
     }
     outline_in(alloc, bytes)
@@ -88,7 +89,7 @@ fn outline_of(alloc: Global, bytes: &[u8]) -> Result<Option<Outline>, NoMemory> 
 
 fn parsed(alloc: Global, index: &FolderIndex<'_>, file: &TreeFile) -> Result<ParsedFile, NoMemory> {
     let path = under(alloc, file.folder.bytes(), file.name.bytes())?;
-    let outline = outline_of(alloc, file.bytes.bytes())?;
+    let outline = outline_of(alloc, &file.bytes)?;
     with_asked(alloc, index, path, outline)
 }
 

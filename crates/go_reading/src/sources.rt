@@ -13,6 +13,7 @@ use crate::known::KnownOutlines;
 use crate::outlines::outline_of;
 use go_base::list::List;
 use go_base::memory::NoMemory;
+use go_base::shared::Shared;
 use go_base::text::Text;
 use go_imports::outline::Outline;
 use go_imports::package_files::SourceFile;
@@ -33,13 +34,13 @@ fn known_or_parsed(
     alloc: Global,
     known: &KnownOutlines,
     path: &Text,
-    bytes: &[u8],
+    bytes: &Shared<Text>,
 ) -> Result<Outline, SourceError>
     requires { length bytes.now ≤ 4194304 }
     ensures ok { IfOk result (IsOutlineOf bytes.now) }
     ensures cause { IfErr result (Causes (HasBadText bytes.now)) }
 {
-    match known.find(path, bytes) {
+    match known.find(path, bytes.value().bytes()) {
         Err(_) => Err(SourceError::NoMemory),
         Ok(Some(outline)) => Ok(outline),
         Ok(None) => outline_of(alloc, bytes),
@@ -57,7 +58,7 @@ fn source_at(
     ensures ok { IfOk result (IsSource file.now) }
     ensures cause { IfErr result (Causes (HasBadText file.now.bytes)) }
 {
-    match known_or_parsed(alloc, known, &path, file.bytes.bytes()) {
+    match known_or_parsed(alloc, known, &path, &file.bytes) {
         Err(error) => Err(error),
         Ok(outline) => Ok(SourceFile { path, outline }),
     }

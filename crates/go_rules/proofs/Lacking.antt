@@ -13,7 +13,7 @@ both true true h = (refl, refl)
 both true false h = absurd cc
 both false b h = absurd cc
 
-sel_is : (a b : Sel) → same_sel a b ≡ true → a ≡ b
+pub sel_is : (a b : Sel) → same_sel a b ≡ true → a ≡ b
 sel_is a b h =
     let parts = both (bytes_eq a.name b.name) (bytes_eq a.«package» b.«package») h in
     let first = same_text a.name b.name (sym parts.0) in

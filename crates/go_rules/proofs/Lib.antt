@@ -14,6 +14,7 @@ pub mod LocalRelations
 pub mod LocalResults
 pub mod LocalTerms
 pub mod LocalTypes
+pub mod MethodPlaces
 pub mod NamedEntries
 pub mod OneBuiltin
 pub mod OneForm

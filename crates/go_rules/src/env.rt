@@ -5,6 +5,8 @@ ghost use Rattle.go_rules.specs.Environments.{is_among, selector_of};
 ghost use Rattle.go_rules.specs.Meanings.{as_seen};
 ghost use Rattle.go_rules.specs.Scopes.{env_of, innermost, is_declared, is_imported, new_scopes, with_announced, with_awaited, with_defined, with_import, with_meaning, with_method};
 
+use crate::awaited::Awaited;
+use crate::defined_row::DefinedRow;
 use crate::exports::is_exported;
 use crate::imports::Imports;
 use crate::meaning::Meaning;
@@ -12,9 +14,9 @@ use crate::methods::is_lacking;
 use crate::names::Names;
 use crate::predeclared::universe;
 use crate::seen::Seen;
-use go_base::list::List;
 use go_base::memory::NoMemory;
 use go_base::text::Text;
+use go_model::types::declared_method::DeclaredMethod;
 use go_model::types::names::{Sel, TypeName};
 use go_model::types::package::{Defined, Entity, MethodOf};
 use go_model::types::table::TypeTable;
@@ -51,8 +53,8 @@ pub struct Env<'w> {
     file: u32,
     announced: Names<()>,
     declared: Names<Seen>,
-    defined: Names<Defined>,
-    awaited: Names<List<Sel>>,
+    defined: Names<DefinedRow>,
+    awaited: Names<Awaited>,
     iota: Option<u64>,
 }
 
@@ -209,7 +211,8 @@ impl Env<'_> {
         ensures err { OnErr result (self.new ≡ self.old) }
     {
         let name = Text::of(self.alloc, defined.name.bytes())?;
-        self.defined.put(name, defined)
+        let row = DefinedRow::new(self.alloc, defined)?;
+        self.defined.put(name, row)
     }
 
     /// Adds a method to the package's type of a name, after those that it has; nothing changes where no type of that name is
@@ -218,7 +221,7 @@ impl Env<'_> {
         ensures ok { OnOk result (self.new ≡ with_method self.old name.now method) }
         ensures err { OnErr result (self.new ≡ self.old) }
     {
-        self.defined.add_method(name, method)
+        self.defined.add_method(self.alloc, name, method)
     }
 
     /// Notes that the package's type of a name has a method with a selector: it is missing until a type
@@ -298,7 +301,7 @@ impl Env<'_> {
             return false;
         }
         match self.awaited.get(&name.name) {
-            Some(known) => is_lacking(known.items(), self.defined.get(&name.name), sel),
+            Some(known) => is_lacking(known, self.defined.get(&name.name), sel),
             None => false,
         }
     }
@@ -338,9 +341,22 @@ impl TypeTable for Env<'_> {
 
     fn defined(&self, name: &TypeName) -> Option<&Defined> {
         if self.path == name.path {
-            return self.defined.get(&name.name);
+            return match self.defined.get(&name.name) {
+                Some(row) => Some(row.defined()),
+                None => None,
+            };
         }
         self.world.defined(name)
+    }
+
+    fn declared(&self, name: &TypeName, sel: &Sel) -> DeclaredMethod<'_> {
+        if self.path != name.path {
+            return self.world.declared(name, sel);
+        }
+        match self.defined.get(&name.name) {
+            Some(row) => row.declared(sel),
+            None => DeclaredMethod::Absent,
+        }
     }
 }
 

@@ -1,7 +1,9 @@
 //! Rules of typing: what names mean, what an expression is, the environment that both are asked in, and their laws.
 #![tactic(auto)]
 
+mod awaited;
 pub mod blank;
+mod defined_row;
 pub mod env;
 pub mod exports;
 mod imports;
@@ -11,5 +13,6 @@ mod methods;
 mod names;
 pub mod operand;
 pub mod operators;
+mod place;
 pub mod predeclared;
 pub mod seen;

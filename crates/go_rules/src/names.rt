@@ -4,11 +4,13 @@ ghost use Rattle.go_base.specs.Keys.{item_of};
 ghost use Rattle.go_rules.specs.Names.{items_at, value_at, with_value};
 ghost use Rattle.go_rules.specs.Scopes.{added_to};
 
+use crate::awaited::Awaited;
+use crate::defined_row::DefinedRow;
 use crate::env::DeclareError;
-use go_base::list::List;
 use go_base::memory::NoMemory;
 use go_base::text::Text;
-use go_model::types::package::{Defined, MethodOf};
+use go_model::types::names::Sel;
+use go_model::types::package::MethodOf;
 use std::alloc::Global;
 use std::collections::BTreeMap;
 use std::collections::btree_map::Entry;
@@ -92,29 +94,34 @@ impl<V: Drop> Names<V> {
     }
 }
 
-impl<V: Drop> Names<List<V>> {
-    /// Adds an item to what a name has, which is a list of it where the name had nothing.
-    pub(crate) fn push(&mut self, alloc: Global, name: Text, item: V) -> Result<(), NoMemory>
-        ensures ok { OnOk result (self.new ≡ with_value self.old name (items_at self.old name ++ item ∷ [])) }
+impl Names<Awaited> {
+    /// Adds a selector to those that a name has.
+    pub(crate) fn push(&mut self, alloc: Global, name: Text, sel: Sel) -> Result<(), NoMemory>
+        ensures ok { OnOk result (self.new ≡ with_value self.old name (items_at self.old name ++ sel ∷ [])) }
         ensures err { OnErr result (self.new ≡ self.old) }
     {
-        if let Some(items) = self.entries.get_mut(&name) {
-            return items.push(item);
+        if let Some(awaited) = self.entries.get_mut(&name) {
+            return awaited.push(alloc, sel);
         }
-        let mut items = List::new(alloc);
-        items.push(item)?;
-        self.put(name, items)
+        let mut awaited = Awaited::new(alloc);
+        awaited.push(alloc, sel)?;
+        self.put(name, awaited)
     }
 }
 
-impl Names<Defined> {
+impl Names<DefinedRow> {
     /// Adds a method to the defined type of a name, after those that it has; nothing changes where there is no type of that name.
-    pub(crate) fn add_method(&mut self, name: &Text, method: MethodOf) -> Result<(), NoMemory>
+    pub(crate) fn add_method(
+        &mut self,
+        alloc: Global,
+        name: &Text,
+        method: MethodOf,
+    ) -> Result<(), NoMemory>
         ensures ok { OnOk result (self.new ≡ added_to self.old name.now method (value_at self.old name.now)) }
         ensures err { OnErr result (self.new ≡ self.old) }
     {
-        if let Some(defined) = self.entries.get_mut(name) {
-            return defined.methods.push(method);
+        if let Some(row) = self.entries.get_mut(name) {
+            return row.add_method(alloc, method);
         }
         Ok(())
     }

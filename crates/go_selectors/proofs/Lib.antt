@@ -9,5 +9,6 @@ pub mod Noting
 pub mod Owners
 pub mod OwnMethods
 pub mod Searching
+pub mod ToldMethods
 pub mod UniqueFind
 pub mod Ways

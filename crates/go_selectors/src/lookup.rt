@@ -1,8 +1,9 @@
 //! A table of types with the predeclared `error` before it.
 ghost use Rattle.std.specs.Prelude.{◌≡◌, IfOk};
 ghost use Rattle.go_model.specs.types.Tables.{entry_of};
+ghost use Rattle.go_model.specs.types.DeclaredMethods.{TellsMethod, with_sel};
 ghost use Rattle.go_model.specs.types.Terms.{is_error, error_type};
-ghost use Rattle.go_model.specs.types.Underlying.{entry, under};
+ghost use Rattle.go_model.specs.types.Underlying.{declared_methods, entry, under};
 ghost use Rattle.go_model.specs.declared.types.term.Term.{out-Term};
 
 use go_base::list::List;
@@ -10,6 +11,7 @@ use go_base::memory::NoMemory;
 use go_base::shared::Shared;
 use go_base::text::Text;
 use go_model::constants::value::Basic;
+use go_model::types::declared_method::DeclaredMethod;
 use go_model::types::names::{Sel, TypeName};
 use go_model::types::package::Defined;
 use go_model::types::table::TypeTable;
@@ -72,6 +74,18 @@ impl<'a, T: TypeTable> Lookup<'a, T> {
             return Some(self.error);
         }
         self.table.defined(name)
+    }
+
+    /// The declared method of a selector in a type itself, as far as the table tells it.
+    pub(crate) fn declared(&self, term: &Term, sel: &Sel) -> DeclaredMethod<'a>
+        ensures { TellsMethod (with_sel sel.now (declared_methods (T.lookup self.now.table.now) (out-Term term.now))) result }
+    {
+        if let Term::Named(name) = term {
+            if !is_error(name) {
+                return self.table.declared(name, sel);
+            }
+        }
+        DeclaredMethod::Absent
     }
 
     /// The underlying type; a name without an entry has none but itself.

@@ -70,7 +70,7 @@ pub fn head_of(alloc: Global, platform: Platform, file: &TreeFile) -> Result<Hea
     if !chosen(platform, file.name.bytes(), None) {
         return Ok(Head::LeftOut);
     }
-    match header(alloc, file.bytes.bytes()) {
+    match header(alloc, file.bytes.value().bytes()) {
         Err(error) => of_error(platform, file, error),
         Ok(header) => Ok(of_header(platform, file, header)),
     }

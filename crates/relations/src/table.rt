@@ -2,7 +2,8 @@
 ghost use Rattle.relations.specs.Entries.{held};
 
 use go_base::text::Text;
-use go_model::types::names::TypeName;
+use go_model::types::declared_method::DeclaredMethod;
+use go_model::types::names::{Sel, TypeName};
 use go_model::types::package::Defined;
 use go_model::types::table::TypeTable;
 use indexmap::IndexMap;
@@ -45,5 +46,9 @@ impl TypeTable for Table {
     fn defined(&self, name: &TypeName) -> Option<&Defined> {
         let package = self.packages.get(&name.path)?;
         package.get(&name.name)
+    }
+
+    fn declared(&self, _: &TypeName, _: &Sel) -> DeclaredMethod<'_> {
+        DeclaredMethod::Unknown
     }
 }

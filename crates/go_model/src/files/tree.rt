@@ -1,5 +1,6 @@
 //! Trees of Go files as they were read, and the limits that a tree keeps.
 use go_base::list::List;
+use go_base::shared::Shared;
 use go_base::text::Text;
 
 /// A limit on what is read of one tree.
@@ -40,8 +41,8 @@ pub struct TreeFile {
     pub folder: Text,
     /// Its name in the folder.
     pub name: Text,
-    /// What it holds: at most [`MOST_FILE_BYTES`].
-    pub bytes: Text,
+    /// What it holds: at most [`MOST_FILE_BYTES`]. An outline of the file owns it too.
+    pub bytes: Shared<Text>,
 }
 
 /// A tree of Go files, ordered by folder and then by name.

@@ -5,8 +5,9 @@ ghost use Rattle.go_base.specs.Keys.{first_with, item_of};
 ghost use Rattle.go_base.specs.Keys.{placed};
 ghost use Rattle.go_model.specs.worlds.Worlds.{IsPackage, IsWorld, with_package, table_of, path_of, object_in};
 
+use crate::types::declared_method::{DeclaredMethod, find_method};
 use crate::types::keyed::{find_key, place_for};
-use crate::types::names::TypeName;
+use crate::types::names::{Sel, TypeName};
 use crate::types::package::{Defined, Object, Package};
 use crate::types::table::TypeTable;
 use go_base::memory::NoMemory;
@@ -140,6 +141,16 @@ impl TypeTable for World {
         match self.package(name.path.bytes()) {
             Some(found) => found.defined_type(name.name.bytes()),
             None => None,
+        }
+    }
+
+    fn declared(&self, name: &TypeName, sel: &Sel) -> DeclaredMethod<'_> {
+        match self.package(name.path.bytes()) {
+            Some(found) => match found.defined_type(name.name.bytes()) {
+                Some(defined) => find_method(defined.methods.items(), sel),
+                None => DeclaredMethod::Absent,
+            },
+            None => DeclaredMethod::Absent,
         }
     }
 }
