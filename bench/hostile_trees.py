@@ -72,8 +72,8 @@ one_file("elements of a literal", "var X = []int{", lambda n: "1,", lambda last:
 one_file("keys of an array's literal", "var X = [...]int{", lambda n: "%d:1," % n, lambda last: "}\n")
 one_file("keys of a map's literal", "var X = map[int]int{", lambda n: "%d:1," % n, lambda last: "}\n")
 one_file("arguments", "func f(...int) int\nvar X = f(1", lambda n: ",1", lambda last: ")\n")
-tree("keys of a struct's literal")(lambda share: module("package p\ntype T struct {\n" + "".join("f%d int\n" % n for n in range(20000 // share)) + "}\nvar X = T{\n" + "".join(
-    "f%d: 1,\n" % n for n in range(20000 // share)) + "}\n"))
+tree("keys of a struct's literal")(lambda share: module("package p\ntype T struct {\n" + "".join("f%d int\n" % n for n in range(96000 // share)) + "}\nvar X = T{\n" + "".join(
+    "f%d: 1,\n" % n for n in range(96000 // share)) + "}\n"))
 
 # declarations
 one_file("constants of a group", "const (\nA = iota\n", lambda n: "a%d\n" % n, lambda last: ")\n")
@@ -110,7 +110,7 @@ tree("2,000 interfaces that all embed each other", "features", (3,))(lambda shar
 tree("promoted methods of a chain", "features", (0, 6))(lambda share: module("package p\ntype T0 struct{}\nfunc (T0) M0()\n" + "".join(
     "type T%d struct{ T%d }\nfunc (T%d) M%d()\n" % (n, n - 1, n, n) for n in range(1, 4000 // share))))
 tree("selected methods of a type")(lambda share: module("package p\ntype T int\nvar t T\n" + "".join(
-    "func (T) M%d()\nvar v%d = t.M%d\n" % (n, n, n) for n in range(16000 // share))))
+    "func (T) M%d()\nvar v%d = t.M%d\n" % (n, n, n) for n in range(96000 // share))))
 
 # files and packages
 tree("files of one folder")(lambda share: {"new/go.mod": "module m\n", **{"new/p/f%d.go" % n: "package p\nconst C%d = 1\n" % n for n in range(FILES // share)}})

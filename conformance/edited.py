@@ -13,7 +13,7 @@ import repository
 TOOLS = os.path.dirname(os.path.dirname(os.path.realpath(shutil.which("rt") or "rt")))
 KIT = os.path.join(TOOLS, "rlibs")
 FUNCTION = re.compile(r"^( *)(?:pub(?:\([a-z]+\))? )?fn (\w+)", re.M)
-IMPL = re.compile(r"^impl\b(.*)$", re.M)
+IMPL = re.compile(r"^impl\b([^{]*)", re.M)
 IMPLEMENTED = re.compile(r" *(?:(?:\w+::)*(\w+)(?:<(.*)>)? for )?(?:\w+::)*(\w+)")
 # what a proof file says whose names an edit took away, in a line that may end behind the module's name, and what the compiler says of a text that it
 # can't read

@@ -2,7 +2,7 @@
 import resource
 import signal
 
-# The deepest source takes 3.3 MiB of the stack, and the program with its library takes 4 MiB of addresses before it holds anything.
+# The deepest source takes 3.0 MiB of the stack, and the program with its library takes 4 MiB of addresses before it holds anything.
 STACK, KEPT = 8 << 20, 12 << 20
 NONE = resource.RLIM_INFINITY
 
