@@ -82,18 +82,18 @@ impl Lost {
     {
         match self {
             Lost::Package => Ok(Lost::Package),
-            Lost::Name(name) => Ok(Lost::Name(Text::of(alloc, name.bytes())?)),
+            Lost::Name(name) => Ok(Lost::Name(name.copy()?)),
             Lost::Removed => Ok(Lost::Removed),
             Lost::Kind(old, new) => Ok(Lost::Kind(*old, *new)),
             Lost::Constant(path, old, new) => Ok(Lost::Constant(
-                Text::of(alloc, path.bytes())?,
+                path.copy()?,
                 old.copy(alloc)?,
                 new.copy(alloc)?,
             )),
             Lost::Type(old, new) => Ok(Lost::Type(old.copy(alloc)?, new.copy(alloc)?)),
             Lost::Underlying(old, new) => Ok(Lost::Underlying(old.copy(alloc)?, new.copy(alloc)?)),
-            Lost::Field(name) => Ok(Lost::Field(Text::of(alloc, name.bytes())?)),
-            Lost::Selectable(name) => Ok(Lost::Selectable(Text::of(alloc, name.bytes())?)),
+            Lost::Field(name) => Ok(Lost::Field(name.copy()?)),
+            Lost::Selectable(name) => Ok(Lost::Selectable(name.copy()?)),
             Lost::Comparable => Ok(Lost::Comparable),
             Lost::Sealing => Ok(Lost::Sealing),
             Lost::InterfaceMethod(sel) => Ok(Lost::InterfaceMethod(sel.copy(alloc)?)),
@@ -125,7 +125,7 @@ pub(crate) fn push(
 ) -> Result<(), NoMemory>
     ensures { OnOk result (breaks.new.items ≡ breaks.old.items ++ broken owner.now lost ∷ []) }
 {
-    let owner = Text::of(alloc, owner.bytes())?;
+    let owner = owner.copy()?;
     breaks.push(Break { owner, lost })?;
     Ok(())
 }

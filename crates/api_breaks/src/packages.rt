@@ -64,7 +64,7 @@ fn push_constant(
     if keeps_constant(&before.entity, &after.entity) {
         return Ok(());
     }
-    let of = Text::of(alloc, path.bytes())?;
+    let of = path.copy()?;
     let old = before.entity.copy(alloc)?;
     let new = after.entity.copy(alloc)?;
     push_of(alloc, path, before, Lost::Constant(of, old, new), breaks)?;
@@ -128,7 +128,7 @@ fn push_renamed(
     if is_same(&after.name, &before.name) {
         return Ok(());
     }
-    let name = Text::of(alloc, after.name.bytes())?;
+    let name = after.name.copy()?;
     push(alloc, path, Lost::Name(name), breaks)?;
     Ok(())
 }

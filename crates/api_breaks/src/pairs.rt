@@ -22,7 +22,6 @@ use api_correspond::matching::types_match;
 use api_correspond::publics::are_of_module;
 use go_base::list::List;
 use go_base::memory::NoMemory;
-use go_base::text::Text;
 use go_model::types::names::Sel;
 use go_model::types::package::Defined;
 use go_model::types::term::{Field, Term};
@@ -175,7 +174,7 @@ fn push_field(
     if has_field(after, places, &field.sel) {
         return Ok(());
     }
-    let name = Text::of(alloc, field.sel.name.bytes())?;
+    let name = field.sel.name.copy()?;
     losses.push(Lost::Field(name))?;
     Ok(())
 }

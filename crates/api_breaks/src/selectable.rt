@@ -13,7 +13,6 @@ use crate::pairs::are_structs;
 use api_correspond::embedded::{deep_fields, is_exported};
 use api_correspond::levels::under;
 use go_base::memory::NoMemory;
-use go_base::text::Text;
 use go_model::types::found::Found;
 use go_model::types::names::Sel;
 use go_model::types::package::Defined;
@@ -67,7 +66,7 @@ fn keeps_pointer(before: bool, after: Option<bool>) -> bool
 fn push_name(alloc: Global, sel: &Sel, losses: &mut Vec<Lost>) -> Result<(), NoMemory>
     ensures { OnOk result (losses.new.items ≡ losses.old.items ++ lost.Selectable sel.now.name ∷ []) }
 {
-    let name = Text::of(alloc, sel.name.bytes())?;
+    let name = sel.name.copy()?;
     losses.push(Lost::Selectable(name))?;
     Ok(())
 }

@@ -238,5 +238,5 @@ pub fn pair_code(alloc: Global, pair: &TypePair) -> Result<Text, NoMemory>
     let mut out = Vec::new(alloc);
     put_term(&mut out, &pair.old)?;
     put_term(&mut out, &pair.new)?;
-    Ok(Text::from_vec(out))
+    Text::from_vec(alloc, out)
 }

@@ -129,5 +129,5 @@ pub fn qualified(alloc: Global, path: &Text, name: &Text) -> Result<Text, NoMemo
     bytes.extend_from_slice(path.bytes())?;
     bytes.push(b'.')?;
     bytes.extend_from_slice(name.bytes())?;
-    Ok(Text::from_vec(bytes))
+    Text::from_vec(alloc, bytes)
 }

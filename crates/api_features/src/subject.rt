@@ -71,7 +71,7 @@ pub(crate) fn add(
     let line = Line {
         path: Text::of(alloc, of.path)?,
         context: None,
-        rest: Text::from_vec(rest),
+        rest: Text::from_vec(alloc, rest)?,
     };
     lines.add(alloc, line)?;
     Ok(())

@@ -13,9 +13,9 @@ fn broken_copied(alloc: Global, broken: &Broken) -> Result<Broken, NoMemory>
     ensures { IfOk result (λ copy. copy ≡ broken.now) }
 {
     Ok(Broken {
-        owner: Text::of(alloc, broken.owner.bytes())?,
+        owner: broken.owner.copy()?,
         rule: broken.rule,
-        subject: Text::of(alloc, broken.subject.bytes())?,
+        subject: broken.subject.copy()?,
     })
 }
 
@@ -56,7 +56,7 @@ pub(crate) fn verdict_at(
 fn text_copied(alloc: Global, text: &Text) -> Result<Text, NoMemory>
     ensures { IfOk result (λ copy. copy ≡ text.now) }
 {
-    Text::of(alloc, text.bytes())
+    text.copy()
 }
 
 fn texts_copied(alloc: Global, texts: &[Text]) -> Result<List<Text>, NoMemory>

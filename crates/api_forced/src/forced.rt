@@ -88,7 +88,7 @@ fn push_owned(
 ) -> Result<(), NoMemory>
     ensures { OnOk result (all.new ≡ all.old ++ record { owner = owner.now; old = pair.now.old; new = pair.now.new } ∷ []) }
 {
-    let owner = Text::of(alloc, owner.bytes())?;
+    let owner = owner.copy()?;
     let old = pair.old.copy(alloc)?;
     let new = pair.new.copy(alloc)?;
     all.push(OwnedPair { owner, old, new })

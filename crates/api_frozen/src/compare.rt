@@ -23,7 +23,7 @@ fn plain_line(alloc: Global, path: &[u8], rest: &[u8]) -> Result<Text, NoMemory>
     line.extend_from_slice(path)?;
     line.extend_from_slice(b", ")?;
     line.extend_from_slice(rest)?;
-    Ok(Text::from_vec(line))
+    Text::from_vec(alloc, line)
 }
 
 // The line without its context, where it is a feature line in one.
@@ -74,7 +74,7 @@ fn add_loss(
     if !is_missing(alloc, held, exceptions, text)? {
         return Ok(());
     }
-    let line = Text::of(alloc, text.bytes())?;
+    let line = text.copy()?;
     lines.add(Signed { lost: true, line })?;
     Ok(())
 }

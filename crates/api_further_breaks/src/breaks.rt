@@ -49,7 +49,7 @@ fn push_loss(
 ) -> Result<(), NoMemory>
     ensures { OnOk result (Grows (IsOfLost owner.now lost.now) breaks.old.items breaks.new.items) }
 {
-    let owner = Text::of(alloc, owner.bytes())?;
+    let owner = owner.copy()?;
     let lost = lost.copy(alloc)?;
     breaks.push(Break { owner, lost })?;
     Ok(())

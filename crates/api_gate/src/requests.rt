@@ -33,13 +33,13 @@ use std::thread::Threads;
 fn modules_of(alloc: Global, inputs: &Inputs) -> Result<List<Text>, NoMemory>
     ensures { IfOk result (λ modules. modules ≡ modules_of inputs.now) }
 {
-    let path = Text::of(alloc, inputs.tree.module.bytes())?;
+    let path = inputs.tree.module.copy()?;
     let mut modules = List::new(alloc);
     modules.push(path)?;
     let Some(old) = &inputs.old_tree else {
         return Ok(modules);
     };
-    let path = Text::of(alloc, old.module.bytes())?;
+    let path = old.module.copy()?;
     modules.push(path)?;
     Ok(modules)
 }

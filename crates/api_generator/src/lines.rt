@@ -122,7 +122,7 @@ pub(crate) fn old_file(alloc: Global, seed: u64, number: u64) -> Result<Text, No
 {
     let mut lines = first_lines(alloc, seed, number)?;
     push_method(&mut lines, seed, number)?;
-    Ok(Text::from_vec(lines))
+    Text::from_vec(alloc, lines)
 }
 
 /// The new file of a package.
@@ -132,5 +132,5 @@ pub(crate) fn new_file(alloc: Global, seed: u64, number: u64) -> Result<Text, No
 {
     let mut lines = first_lines(alloc, seed, number)?;
     push_last(&mut lines, seed, number, draw(seed, number, 2) % 4)?;
-    Ok(Text::from_vec(lines))
+    Text::from_vec(alloc, lines)
 }

@@ -16,7 +16,7 @@ fn file_path(alloc: Global, root: &[u8], number: u64) -> Result<Text, NoMemory>
     path.extend_from_slice(b"/p")?;
     push_number(&mut path, number)?;
     path.extend_from_slice(b"/a.go")?;
-    Ok(Text::from_vec(path))
+    Text::from_vec(alloc, path)
 }
 
 fn file_at(alloc: Global, root: &[u8], number: u64, bytes: Text) -> Result<FilePair, NoMemory>
@@ -34,7 +34,7 @@ fn module_file(alloc: Global, root: &[u8]) -> Result<FilePair, NoMemory>
     let mut path = Vec::from_slice(alloc, root)?;
     path.extend_from_slice(b"/go.mod")?;
     Ok(FilePair {
-        path: Text::from_vec(path),
+        path: Text::from_vec(alloc, path)?,
         bytes: Text::of(alloc, b"module g\n")?,
     })
 }

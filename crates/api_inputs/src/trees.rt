@@ -89,7 +89,7 @@ pub(crate) fn std_tree<F: Files>(
     match root {
         Some(root) => loaded_std(alloc, files, root.bytes()),
         None => Ok(Tree {
-            module: Text::from_vec(Vec::new(alloc)),
+            module: Text::empty(),
             files: List::new(alloc),
         }),
     }

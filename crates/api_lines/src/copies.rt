@@ -5,7 +5,6 @@ ghost use Rattle.api_lines.specs.Lines.{in_context};
 use crate::line::Line;
 use go_base::list::List;
 use go_base::memory::NoMemory;
-use go_base::text::Text;
 use go_model::files::platform::Platform;
 use std::alloc::Global;
 
@@ -18,9 +17,9 @@ pub(crate) fn line_in(
     ensures { IfOk result (λ copy. copy ≡ in_context context line.now) }
 {
     Ok(Line {
-        path: Text::of(alloc, line.path.bytes())?,
+        path: line.path.copy()?,
         context,
-        rest: Text::of(alloc, line.rest.bytes())?,
+        rest: line.rest.copy()?,
     })
 }
 

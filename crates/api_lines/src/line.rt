@@ -58,7 +58,7 @@ impl Line {
         push_context(&mut line, self.context)?;
         line.extend_from_slice(b", ")?;
         line.extend_from_slice(rest)?;
-        Ok(Text::from_vec(line))
+        Text::from_vec(alloc, line)
     }
 
     /// The order of two lines by their texts, which are printed where it isn't known without.

@@ -71,7 +71,7 @@ impl Texts {
     {
         let mut texts = Texts::new(alloc);
         for text in all {
-            texts.add(Text::of(alloc, text.bytes())?)?;
+            texts.add(text.copy()?)?;
         }
         Ok(texts)
     }

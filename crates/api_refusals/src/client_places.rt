@@ -19,5 +19,5 @@ pub fn client_place(
 {
     let mut text = Vec::from_slice(alloc, path)?;
     push_place(&mut text, bytes_at(client, path), offset)?;
-    Ok(Text::from_vec(text))
+    Text::from_vec(alloc, text)
 }

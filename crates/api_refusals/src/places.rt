@@ -153,7 +153,7 @@ pub(crate) fn bytes_at<'a>(files: &'a [TreeFile], path: &[u8]) -> &'a [u8]
 {
     for file in files {
         if is_at(file, path) {
-            return file.bytes.value().bytes();
+            return file.bytes.bytes();
         }
     }
     b""

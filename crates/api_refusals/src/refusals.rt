@@ -50,7 +50,7 @@ fn named(alloc: Global, root: Root, path: &[u8], what: &[u8]) -> Result<Text, No
 {
     let mut text = root.file_name(alloc, path)?;
     text.extend_from_slice(what)?;
-    Ok(Text::from_vec(text))
+    Text::from_vec(alloc, text)
 }
 
 // A place in a file.
@@ -87,7 +87,7 @@ fn placed(
 {
     let mut text = place_in(alloc, tree, std_tree, client, root, path, offset)?;
     text.extend_from_slice(what)?;
-    Ok(Text::from_vec(text))
+    Text::from_vec(alloc, text)
 }
 
 fn file_text(
@@ -124,7 +124,7 @@ fn joined(alloc: Global, path: &[u8], what: &[u8]) -> Result<Text, NoMemory>
 {
     let mut text = Vec::from_slice(alloc, path)?;
     text.extend_from_slice(what)?;
-    Ok(Text::from_vec(text))
+    Text::from_vec(alloc, text)
 }
 
 fn unit_text(

@@ -77,7 +77,7 @@ fn skipped_with(
     add_names(&mut text, skipped.names.items())?;
     text.extend_from_slice(b": ")?;
     add_why(&mut text, &skipped.cause)?;
-    Ok(Text::from_vec(text))
+    Text::from_vec(alloc, text)
 }
 
 // The text of one more, and its file as it is counted then.

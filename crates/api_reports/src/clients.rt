@@ -31,7 +31,7 @@ impl ClientAnswer {
             ClientAnswer::InProfile => Ok(ClientAnswer::InProfile),
             ClientAnswer::OutsideProfile => Ok(ClientAnswer::OutsideProfile),
             ClientAnswer::UntypedAt(place) => {
-                let place = Text::of(alloc, place.bytes())?;
+                let place = place.copy()?;
                 Ok(ClientAnswer::UntypedAt(place))
             }
         }
@@ -89,7 +89,7 @@ pub fn clients_text(
     for (platform, answer) in platforms.iter().zip(answers) {
         add_platform(&mut text, *platform, answer)?;
     }
-    Ok(Text::from_vec(text))
+    Text::from_vec(alloc, text)
 }
 
 /// Whether the client is untyped on one of the platforms.

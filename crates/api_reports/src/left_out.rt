@@ -52,7 +52,7 @@ pub fn skipped_text(
     for (platform, omitted) in platforms.iter().zip(left_out) {
         add_platform(&mut text, *platform, omitted)?;
     }
-    Ok(Text::from_vec(text))
+    Text::from_vec(alloc, text)
 }
 
 fn add_count_line(

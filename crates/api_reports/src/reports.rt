@@ -26,7 +26,7 @@ pub fn features_text(alloc: Global, lines: &[Line]) -> Result<Text, NoMemory>
     for line in lines {
         add_feature(alloc, &mut text, line)?;
     }
-    Ok(Text::from_vec(text))
+    Text::from_vec(alloc, text)
 }
 
 // The sign in front of a lost line, or of a new one.
@@ -53,7 +53,7 @@ pub fn signed_text(alloc: Global, lines: &[Signed]) -> Result<Text, NoMemory>
     for line in lines {
         add_signed(&mut text, line)?;
     }
-    Ok(Text::from_vec(text))
+    Text::from_vec(alloc, text)
 }
 
 /// Whether a line is lost.

@@ -131,7 +131,7 @@ pub fn judge_text(
     add_verdicts(alloc, &mut text, platforms, verdicts)?;
     add_counted(&mut text, platforms, left_out)?;
     add_class(&mut text, class(verdicts))?;
-    Ok(Text::from_vec(text))
+    Text::from_vec(alloc, text)
 }
 
 /// How many declarations were left out of the trees on each platform, which has what was left out in the same place, and then the line of
@@ -147,7 +147,7 @@ pub fn counted_class_text(
     let mut text = Vec::new(alloc);
     add_counted(&mut text, platforms, left_out)?;
     add_class(&mut text, class)?;
-    Ok(Text::from_vec(text))
+    Text::from_vec(alloc, text)
 }
 
 /// The text of a class: its line.
@@ -156,5 +156,5 @@ pub fn class_text(alloc: Global, class: Class) -> Result<Text, NoMemory>
 {
     let mut text = Vec::new(alloc);
     add_class(&mut text, class)?;
-    Ok(Text::from_vec(text))
+    Text::from_vec(alloc, text)
 }

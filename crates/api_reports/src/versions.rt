@@ -45,5 +45,5 @@ pub fn version_text(alloc: Global, last: &[u8], next: Release) -> Result<Text, N
     text.extend_from_slice(v_of(last))?;
     add_release(&mut text, next)?;
     text.push(b'\n')?;
-    Ok(Text::from_vec(text))
+    Text::from_vec(alloc, text)
 }

@@ -29,7 +29,7 @@ impl Broken {
         text.extend_from_slice(self.rule.name())?;
         text.extend_from_slice(b" ")?;
         text.extend_from_slice(self.subject.bytes())?;
-        Ok(Text::from_vec(text))
+        Text::from_vec(alloc, text)
     }
 }
 

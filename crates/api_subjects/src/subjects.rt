@@ -33,7 +33,7 @@ fn sort_change(alloc: Global, before: Sort, after: Sort) -> Result<Text, NoMemor
     let mut out = Vec::from_slice(alloc, sort_text(before))?;
     out.extend_from_slice(b" to ")?;
     out.extend_from_slice(sort_text(after))?;
-    Ok(Text::from_vec(out))
+    Text::from_vec(alloc, out)
 }
 
 // Appends a constant of the package of a path: its type or kind, and its value.
@@ -72,7 +72,7 @@ fn constant_change(
     push_constant(&mut out, old, path, before)?;
     out.extend_from_slice(b" to ")?;
     push_constant(&mut out, new, path, after)?;
-    Ok(Text::from_vec(out))
+    Text::from_vec(alloc, out)
 }
 
 fn type_text(alloc: Global, term: &Term) -> Result<Text, NoMemory>
@@ -80,7 +80,7 @@ fn type_text(alloc: Global, term: &Term) -> Result<Text, NoMemory>
 {
     let mut out = Vec::new(alloc);
     push_type(&mut out, term)?;
-    Ok(Text::from_vec(out))
+    Text::from_vec(alloc, out)
 }
 
 fn type_change(alloc: Global, before: &Term, after: &Term) -> Result<Text, NoMemory>
@@ -90,7 +90,7 @@ fn type_change(alloc: Global, before: &Term, after: &Term) -> Result<Text, NoMem
     push_type(&mut out, before)?;
     out.extend_from_slice(b" to ")?;
     push_type(&mut out, after)?;
-    Ok(Text::from_vec(out))
+    Text::from_vec(alloc, out)
 }
 
 // A method by its name, behind the path of its package where it isn't exported.
@@ -99,7 +99,7 @@ fn sel_text(alloc: Global, sel: &Sel) -> Result<Text, NoMemory>
 {
     let mut out = Vec::new(alloc);
     push_name(&mut out, sel.package.bytes(), sel.name.bytes())?;
-    Ok(Text::from_vec(out))
+    Text::from_vec(alloc, out)
 }
 
 /// The subject of what is lost where `new` takes the place of `old`.
@@ -113,7 +113,7 @@ pub(crate) fn subject(
 {
     match lost {
         Lost::Package => Ok(Text::of(alloc, b"-")?),
-        Lost::Name(name) => Ok(Text::of(alloc, name.bytes())?),
+        Lost::Name(name) => Ok(name.copy()?),
         Lost::Removed => Ok(Text::of(alloc, b"-")?),
         Lost::Kind(before, after) => sort_change(alloc, *before, *after),
         Lost::Constant(path, before, after) => {
@@ -121,8 +121,8 @@ pub(crate) fn subject(
         }
         Lost::Type(before, after) => type_change(alloc, before, after),
         Lost::Underlying(before, after) => type_change(alloc, before, after),
-        Lost::Field(name) => Ok(Text::of(alloc, name.bytes())?),
-        Lost::Selectable(name) => Ok(Text::of(alloc, name.bytes())?),
+        Lost::Field(name) => Ok(name.copy()?),
+        Lost::Selectable(name) => Ok(name.copy()?),
         Lost::Comparable => Ok(Text::of(alloc, b"-")?),
         Lost::Sealing => Ok(Text::of(alloc, b"unexported methods")?),
         Lost::InterfaceMethod(sel) => sel_text(alloc, sel),

@@ -8,7 +8,6 @@ use crate::rule::Rule;
 use crate::subjects::subject;
 use api_breaks::broken::{Break, Lost};
 use go_base::memory::NoMemory;
-use go_base::text::Text;
 use go_model::types::world::World;
 use std::alloc::Global;
 
@@ -38,7 +37,7 @@ fn rule_of(lost: &Lost) -> Rule
 pub fn told(alloc: Global, old: &World, new: &World, broken: &Break) -> Result<Broken, NoMemory>
     ensures { IfOk result (IsTold old.now new.now broken.now) }
 {
-    let owner = Text::of(alloc, broken.owner.bytes())?;
+    let owner = broken.owner.copy()?;
     let subject = subject(alloc, old, new, &broken.lost)?;
     Ok(Broken {
         owner,

@@ -59,7 +59,7 @@ pub fn fault_line(alloc: Global, subject: &[u8], what: &[u8]) -> Result<Text, No
     line.extend_from_slice(b": ")?;
     line.extend_from_slice(what)?;
     line.extend_from_slice(b"\n")?;
-    Ok(Text::from_vec(line))
+    Text::from_vec(alloc, line)
 }
 
 fn limit_text(name: LimitName) -> &'static [u8]
@@ -144,7 +144,7 @@ pub fn not_release_line(alloc: Global, version: &[u8]) -> Result<Text, NoMemory>
     let mut line = Vec::from_slice(alloc, b"apigate: version ")?;
     line.extend_from_slice(version)?;
     line.extend_from_slice(b" is not a release\n")?;
-    Ok(Text::from_vec(line))
+    Text::from_vec(alloc, line)
 }
 
 /// The fault line of a version, as it is written, whose number to raise is the last one.
@@ -154,5 +154,5 @@ pub fn no_version_line(alloc: Global, version: &[u8]) -> Result<Text, NoMemory>
     let mut line = Vec::from_slice(alloc, b"apigate: no version follows ")?;
     line.extend_from_slice(version)?;
     line.extend_from_slice(b"\n")?;
-    Ok(Text::from_vec(line))
+    Text::from_vec(alloc, line)
 }

@@ -96,7 +96,7 @@ fn add_unit(
 ) -> Result<(), NoMemory>
     ensures { OnOk result (packages.new.items ≡ with_lines unit.now.path (skipped_texts tree.now std_tree.now unit.now (all_skipped skipped.now)) packages.old.items) }
 {
-    let path = Text::of(alloc, unit.path.bytes())?;
+    let path = unit.path.copy()?;
     let lines = skipped_texts(alloc, tree, std_tree, unit, skipped)?;
     add_package(packages, path, lines)
 }

@@ -5,6 +5,7 @@ use crate::heading::Copies;
 use crate::made::add_made;
 use anyhow::bail;
 use go_base::list::List;
+use go_base::memory::NoMemory;
 use go_base::text::Text;
 use go_outside::memory_files::FilePair;
 use std::alloc::{AllocError, Global};
@@ -167,12 +168,25 @@ fn name_of(alloc: Global, piece: &Piece) -> anyhow::Result<Vec<u8>> {
     }
 }
 
-fn add_file(pairs: &mut List<FilePair>, path: Vec<u8>, bytes: Vec<u8>) -> Result<(), AllocError> {
-    let pair = FilePair {
-        path: Text::from_vec(path),
-        bytes: Text::from_vec(bytes),
-    };
-    match pairs.push(pair) {
+fn push_file(
+    alloc: Global,
+    pairs: &mut List<FilePair>,
+    path: Vec<u8>,
+    bytes: Vec<u8>,
+) -> Result<(), NoMemory> {
+    pairs.push(FilePair {
+        path: Text::from_vec(alloc, path)?,
+        bytes: Text::from_vec(alloc, bytes)?,
+    })
+}
+
+fn add_file(
+    alloc: Global,
+    pairs: &mut List<FilePair>,
+    path: Vec<u8>,
+    bytes: Vec<u8>,
+) -> Result<(), AllocError> {
+    match push_file(alloc, pairs, path, bytes) {
         Ok(()) => Ok(()),
         Err(_) => Err(AllocError),
     }
@@ -200,7 +214,7 @@ fn add_numbered_files(
         let mut bytes = Vec::new(alloc);
         add_numbered(alloc, &mut bytes, &template.text, number)?;
         bytes.extend_from_slice(&template.more)?;
-        add_file(pairs, path, bytes)?;
+        add_file(alloc, pairs, path, bytes)?;
     }
     Ok(())
 }
@@ -224,7 +238,7 @@ fn add_files(
         add_numbered_files(alloc, pairs, &template, first, last)?;
         return Ok(());
     }
-    add_file(pairs, name, content(alloc, pieces, row)?)?;
+    add_file(alloc, pairs, name, content(alloc, pieces, row)?)?;
     Ok(())
 }
 

@@ -59,7 +59,7 @@ fn front(alloc: Global, pair: FilePair, len: u64) -> anyhow::Result<FilePair> {
     first.truncate(len as usize);
     Ok(FilePair {
         path,
-        bytes: Text::from_vec(first),
+        bytes: Text::from_vec(alloc, first)?,
     })
 }
 

@@ -46,7 +46,7 @@ pub fn archives_at<R: Runtime + AllocGlobal>(rt: &R, path: &str) -> anyhow::Resu
 /// The text of an archive.
 pub fn archive_at<R: Runtime + AllocGlobal>(rt: &R, path: &str) -> anyhow::Result<String> {
     let text = HostFiles::new(rt).read(rt.alloc(), path.as_bytes(), MOST_BYTES)?;
-    match String::from_utf8(text.into_vec()?) {
+    match String::from_utf8(Vec::from_slice(rt.alloc(), text.bytes())?) {
         Ok(text) => Ok(text),
         Err(_) => bail!("not UTF-8"),
     }

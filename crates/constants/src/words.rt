@@ -130,13 +130,13 @@ fn bytes(alloc: Global, digits: &str) -> Result<Vec<u8>, Refusal> {
 
 fn text(alloc: Global, word: &str) -> Result<Value, Refusal> {
     let Some((digits, count)) = word.split_once('*') else {
-        return Ok(Value::Str(Text::from_vec(bytes(alloc, word)?)));
+        return Ok(Value::Str(Text::from_vec(alloc, bytes(alloc, word)?)?));
     };
     let piece = bytes(alloc, digits)?;
     match count.parse::<usize>() {
         Ok(count) if count <= 65_536 => {
             let whole = piece.repeat(alloc, count)?;
-            Ok(Value::Str(Text::from_vec(whole)))
+            Ok(Value::Str(Text::from_vec(alloc, whole)?))
         }
         _ => Err(Refusal::NotAnOperation),
     }

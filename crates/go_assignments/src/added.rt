@@ -13,7 +13,7 @@ pub fn add(env: &mut Env<'_>, alloc: Global, name: &Text, seen: Seen) -> Result<
     ensures ok { IfOk result (AddsName env.old name.now seen env.new) }
     ensures err { OnErr result (env.new ≡ env.old) }
 {
-    let copy = Text::of(alloc, name.bytes())?;
+    let copy = name.copy()?;
     match env.declare(copy, seen) {
         Ok(()) => Ok(true),
         Err(DeclareError::Already) => Ok(false),

@@ -6,4 +6,5 @@ pub mod Growing
 pub mod Keys
 pub mod Keywords
 pub mod Lists
+pub mod Texts
 pub mod formers

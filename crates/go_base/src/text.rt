@@ -1,5 +1,5 @@
 //! A text: bytes that a contract sees as a list, compared and ordered byte by byte.
-ghost use Rattle.std.specs.Prelude.{◌≡◌, ◌∷◌, [], IfOk, Some, refl, bytes_eq};
+ghost use Rattle.std.specs.Prelude.{◌≡◌, ◌∷◌, [], IfOk, IfSome, Some, refl, bytes_eq};
 ghost use Rattle.std.specs.Ordering.{nat_cmp};
 ghost use Rattle.std.specs.Cmp.{partial_equiv_from_equiv};
 ghost use Rattle.std.specs.Cmp.Lexicographic.{slice_cmp, bytes_decides, nat_list_eq_equiv, nat_list_cmp_total, texts_po, texts_ties};
@@ -7,48 +7,154 @@ ghost use Rattle.std.proofs.Common.{ap};
 
 use crate::memory::NoMemory;
 use crate::order::order;
-use smallvec::SmallVec;
+use crate::shared::Shared;
 use std::alloc::Global;
 use std::cmp::Ordering;
 use std::hash::{Hash, Hasher};
 use std::marker::Model;
 
-/// Bytes, which need not be UTF-8. Up to 16 of them, as most names have, stand in the value itself.
+/// How many bytes stand in the value itself.
+const SHORT: usize = 14;
+
+/// The bytes of a short text.
+#[derive(Debug, Drop)]
+struct Short {
+    len: u8,
+    bytes: [u8; SHORT],
+}
+
+impl Model for Short {
+    ghost use Rattle.std.specs.Prelude.{◌≡◌, ◌≤◌, List, ℕ, length, take};
+
+    ghost Value = { List ℕ };
+
+    ghost view = { λ s. take s.len s.bytes };
+
+    ghost invariant = { λ s. (s.len ≤ 14) × (length s.bytes ≡ 14) };
+}
+
+impl Short {
+    /// These bytes, where they are few.
+    fn of(bytes: &[u8]) -> Option<Short>
+        ensures { IfSome result (λ s. s ≡ bytes.now) }
+    {
+        let len = u8::try_from(bytes.len()).ok()?;
+        if bytes.len() > SHORT {
+            return None;
+        }
+        let mut held = [0u8; SHORT];
+        held[..bytes.len()].copy_from_slice(bytes);
+        Some(Short { len, bytes: held })
+    }
+
+    /// The same bytes once more.
+    fn copy(&self) -> Short
+        ensures { result ≡ self.now }
+    {
+        Short {
+            len: self.len,
+            bytes: self.bytes,
+        }
+    }
+
+    /// The bytes.
+    fn bytes(&self) -> &[u8]
+        ensures { result.now ≡ self.now }
+    {
+        &self.bytes[..usize::from(self.len)]
+    }
+}
+
+/// Where the bytes of a text stand: in the value itself, or in a vector that its copies have in common with it.
+#[derive(Debug)]
+enum Held {
+    Short(Short),
+    Common(Shared<Vec<u8>>),
+}
+
+impl Drop for Held {
+    fn drop(self) {
+        match self {
+            Held::Short(_) => (),
+            Held::Common(_) => (),
+        }
+    }
+}
+
+/// Bytes, which need not be UTF-8. Up to 14 of them, as most names have, stand in the value itself. A longer text has
+/// them in common with its copies: nothing writes to a text.
 #[derive(Debug)]
 pub struct Text {
-    bytes: SmallVec<u8, 16>,
+    held: Held,
 }
 
 impl Drop for Text {
     fn drop(self) {
-        let Text { bytes: _ } = self;
+        let Text { held: _ } = self;
     }
 }
 
 impl Model for Text {
     ghost use Rattle.std.specs.Prelude.{List, ℕ};
+    ghost use Rattle.go_base.specs.Texts.{held_bytes};
 
     ghost Value = { List ℕ };
 
-    ghost view = { λ t. t.bytes.items };
+    ghost view = { λ t. held_bytes t.held };
 }
 
 impl Text {
+    /// The text of no bytes.
+    pub fn empty() -> Text
+        ensures { result ≡ [] }
+    {
+        Text {
+            held: Held::Short(Short {
+                len: 0,
+                bytes: [0; SHORT],
+            }),
+        }
+    }
+
     /// The text of these bytes, copied.
     pub fn of(alloc: Global, bytes: &[u8]) -> Result<Text, NoMemory>
         ensures { IfOk result (λ text. text ≡ bytes.now) }
     {
-        Ok(Text {
-            bytes: SmallVec::from_slice(alloc, bytes)?,
-        })
+        match Short::of(bytes) {
+            Some(short) => Ok(Text {
+                held: Held::Short(short),
+            }),
+            None => Ok(Text {
+                held: Held::Common(Shared::new(alloc, Vec::from_slice(alloc, bytes)?)?),
+            }),
+        }
     }
 
     /// The text of these bytes, which are moved.
-    pub fn from_vec(bytes: Vec<u8>) -> Text
-        ensures { result ≡ bytes.items }
+    pub fn from_vec(alloc: Global, bytes: Vec<u8>) -> Result<Text, NoMemory>
+        ensures { IfOk result (λ text. text ≡ bytes.items) }
     {
-        Text {
-            bytes: SmallVec::from_vec(bytes),
+        match Short::of(bytes.as_slice()) {
+            Some(short) => Ok(Text {
+                held: Held::Short(short),
+            }),
+            None => Ok(Text {
+                held: Held::Common(Shared::new(alloc, bytes)?),
+            }),
+        }
+    }
+
+    /// The same text once more, which takes no memory. `NoMemory` means that no more owners of its bytes can be counted.
+    pub fn copy(&self) -> Result<Text, NoMemory>
+        ensures { IfOk result (λ text. text ≡ self.now) }
+    {
+        match &self.held {
+            Held::Short(short) => Ok(Text {
+                held: Held::Short(short.copy()),
+            }),
+            Held::Common(bytes) => Ok(Text {
+                held: Held::Common(bytes.share()?),
+            }),
         }
     }
 
@@ -56,15 +162,10 @@ impl Text {
     pub fn bytes(&self) -> &[u8]
         ensures { result.now ≡ self.now }
     {
-        self.bytes.as_slice()
-    }
-
-    /// The bytes, in a vector that has room for more.
-    pub fn into_vec(self) -> Result<Vec<u8>, NoMemory>
-        ensures { IfOk result (λ bytes. bytes.items ≡ self) }
-    {
-        let Text { bytes } = self;
-        Ok(bytes.into_vec()?)
+        match &self.held {
+            Held::Short(short) => short.bytes(),
+            Held::Common(bytes) => bytes.value().as_slice(),
+        }
     }
 }
 

@@ -10,7 +10,6 @@ ghost use Rattle.go_syntax.specs.lexical.Tokens.{IsTokens};
 
 use go_base::list::List;
 use go_base::memory::NoMemory;
-use go_base::shared::Shared;
 use go_base::text::Text;
 use go_cursor::error::ParseError;
 use go_file_blocks::blocks::file_blocks;
@@ -71,7 +70,7 @@ fn blocks_of(
 // A file with this tree, which is the outline of these bytes.
 fn outlined(
     alloc: Global,
-    bytes: &Shared<Text>,
+    bytes: &Text,
     tree: File,
     blocks: List<LiteralBlock>,
     path: Text,
@@ -92,7 +91,7 @@ fn outlined(
 
 fn parsed_tokens(
     alloc: Global,
-    bytes: &Shared<Text>,
+    bytes: &Text,
     tokens: &[Token],
     path: Text,
 ) -> Result<ParsedFile, FileError>
@@ -120,7 +119,7 @@ fn parsed_at(alloc: Global, file: &TreeFile, path: Text) -> Result<ParsedFile, F
     ensures ok { IfOk result (IsParsed file.now) }
     ensures cause { IfErr result (Causes (HasBadText file.now.bytes)) }
 {
-    match scan(alloc, file.bytes.value().bytes()) {
+    match scan(alloc, file.bytes.bytes()) {
         Err(LexError::NoMemory) => Err(FileError::NoMemory),
         Err(LexError::BadToken(offset)) => Err(FileError::Faulty(FileFault::BadToken(offset))),
         Ok(tokens) => parsed_tokens(alloc, &file.bytes, tokens.items(), path),

@@ -37,9 +37,9 @@ fn name_in_file(alloc: Global, import: &Import) -> Result<Text, NoMemory>
     ensures { IfOk result (λ name. name ≡ name_in_file import.now) }
 {
     match &import.written {
-        Some(name) => Text::of(alloc, name.bytes()),
+        Some(name) => name.copy(),
         None => match &import.package_name {
-            Some(name) => Text::of(alloc, name.bytes()),
+            Some(name) => name.copy(),
             None => Text::of(alloc, assumed_name(import.path.bytes())),
         },
     }
@@ -50,7 +50,7 @@ fn named_import(alloc: Global, import: &Import) -> Result<NamedImport, NoMemory>
 {
     Ok(NamedImport {
         name: name_in_file(alloc, import)?,
-        path: Text::of(alloc, import.path.bytes())?,
+        path: import.path.copy()?,
         place: import.place,
     })
 }

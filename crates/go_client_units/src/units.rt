@@ -56,7 +56,7 @@ fn name_of(alloc: Global, files: &[UnitFile]) -> Result<Text, NoMemory>
     requires alike { IsNamedAlike files.now }
     ensures { IfOk result (UnitFilesAreNamed files.now) }
 {
-    Text::of(alloc, files[0].outline.value().package.text.bytes())
+    files[0].outline.value().package.text.copy()
 }
 
 // The unit of a client with these files.

@@ -21,7 +21,7 @@ use std::alloc::Global;
 pub fn mixed_names(alloc: Global, folder: &Folder) -> UnitError
     ensures { IsMixed folder.now result }
 {
-    match Text::of(alloc, folder.path.bytes()) {
+    match folder.path.copy() {
         Err(_) => UnitError::NoMemory,
         Ok(path) => UnitError::MixedNames(path),
     }
@@ -31,7 +31,7 @@ pub fn mixed_names(alloc: Global, folder: &Folder) -> UnitError
 pub fn refused(alloc: Global, folder: &Folder, file: Text, fault: FileFault) -> UnitError
     ensures { IsRefused folder.now file fault result }
 {
-    match Text::of(alloc, folder.path.bytes()) {
+    match folder.path.copy() {
         Err(_) => UnitError::NoMemory,
         Ok(path) => UnitError::File(FileAt { path, file }, fault),
     }
@@ -40,7 +40,7 @@ pub fn refused(alloc: Global, folder: &Folder, file: Text, fault: FileFault) -> 
 fn internal_in(alloc: Global, folder: &Folder, file: Text, place: u32) -> UnitError
     ensures { IsInternal folder.now file place result }
 {
-    match Text::of(alloc, folder.path.bytes()) {
+    match folder.path.copy() {
         Err(_) => UnitError::NoMemory,
         Ok(path) => UnitError::InternalUse(FileAt { path, file }, place),
     }

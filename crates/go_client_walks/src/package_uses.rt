@@ -23,7 +23,7 @@ fn copied(alloc: Global, text: &Option<Text>) -> Result<Option<Text>, NoMemory>
 {
     match text {
         None => Ok(None),
-        Some(text) => Ok(Some(Text::of(alloc, text.bytes())?)),
+        Some(text) => Ok(Some(text.copy()?)),
     }
 }
 
@@ -32,7 +32,7 @@ fn written_name(alloc: Global, name: &Option<Name>) -> Result<Option<Text>, NoMe
 {
     match name {
         None => Ok(None),
-        Some(name) => Ok(Some(Text::of(alloc, name.text.bytes())?)),
+        Some(name) => Ok(Some(name.text.copy()?)),
     }
 }
 
@@ -65,7 +65,7 @@ fn import_of(
     Ok(Import {
         written: written_name(alloc, &spec.name)?,
         package_name: imported_name(alloc, module_path, folders, from_std, spec.path.bytes())?,
-        path: Text::of(alloc, spec.path.bytes())?,
+        path: spec.path.copy()?,
         place: spec.place,
     })
 }

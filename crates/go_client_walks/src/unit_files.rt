@@ -36,8 +36,8 @@ fn used_import(
         import.path.bytes(),
     );
     Ok(UsedImport {
-        name: Text::of(alloc, import.name.bytes())?,
-        path: Text::of(alloc, import.path.bytes())?,
+        name: import.name.copy()?,
+        path: import.path.copy()?,
         found: place.is_some(),
         place: import.place,
     })
@@ -131,7 +131,7 @@ fn add_needed(
     if !import.found {
         return Ok(());
     }
-    needed.insert(Text::of(alloc, import.path.bytes())?)?;
+    needed.insert(import.path.copy()?)?;
     Ok(())
 }
 
@@ -185,7 +185,7 @@ pub fn name_of(alloc: Global, files: &[PackageFile]) -> Result<Text, NoMemory>
     requires alike { AreAlike files.now }
     ensures { IfOk result (PackageFilesAreNamed files.now) }
 {
-    Text::of(alloc, files[0].outline.value().package.text.bytes())
+    files[0].outline.value().package.text.copy()
 }
 
 /// The unit of these files, which stand in a folder.
@@ -216,7 +216,7 @@ pub(crate) fn unit(
     )?;
     let needs = needed(alloc, files.items())?;
     Ok(Unit {
-        path: Text::of(alloc, folder.path.bytes())?,
+        path: folder.path.copy()?,
         name,
         from_std: folder.from_std,
         files,

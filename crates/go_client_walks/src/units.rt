@@ -14,7 +14,6 @@ use crate::unit_files::{unit, unit_files};
 use crate::unit_graph::{needs, packages_in};
 use go_base::list::List;
 use go_base::memory::NoMemory;
-use go_base::text::Text;
 use go_imports::order::{OrderError, canonical_order};
 use go_units::folder::Folder;
 use go_units::package_uses::PackageFile;
@@ -35,7 +34,7 @@ pub struct WalkedClient {
 fn cycle(alloc: Global, folder: &Folder) -> UnitError
     ensures { IsCycleOf folder.now result }
 {
-    match Text::of(alloc, folder.path.bytes()) {
+    match folder.path.copy() {
         Err(_) => UnitError::NoMemory,
         Ok(path) => UnitError::Cycle(path),
     }

@@ -44,7 +44,7 @@ fn joined(alloc: Global, left: &[u8], right: &[u8]) -> Result<Text, NoMemory>
 {
     let mut bytes = Vec::from_slice(alloc, left)?;
     bytes.extend_from_slice(right)?;
-    Ok(Text::from_vec(bytes))
+    Text::from_vec(alloc, bytes)
 }
 
 /// Two texts, one after the other, where they are no longer than a constant's and of the kind.

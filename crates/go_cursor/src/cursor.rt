@@ -114,7 +114,7 @@ fn literal_of(alloc: Global, token: &Token) -> Result<Option<Literal>, NoMemory>
         (TokenKind::ImagLit, TokenValue::Nothing) => Ok(Some(Literal::Imaginary)),
         (TokenKind::RuneLit, TokenValue::Rune(rune)) => Ok(Some(Literal::Rune(*rune))),
         (TokenKind::StrLit, TokenValue::Str(text)) => {
-            Ok(Some(Literal::Str(Text::of(alloc, text.bytes())?)))
+            Ok(Some(Literal::Str(text.copy()?)))
         }
         _ => Ok(None),
     }
@@ -126,7 +126,7 @@ fn string_of(alloc: Global, token: &Token) -> Result<Option<(Text, u32)>, NoMemo
 {
     match (token.kind, &token.value) {
         (TokenKind::StrLit, TokenValue::Str(text)) => {
-            Ok(Some((Text::of(alloc, text.bytes())?, token.start)))
+            Ok(Some((text.copy()?, token.start)))
         }
         _ => Ok(None),
     }
@@ -141,7 +141,7 @@ fn name_of(alloc: Global, token: &Token) -> Result<Option<Name>, NoMemory>
     }
     match &token.value {
         TokenValue::Ident(text) => Ok(Some(Name {
-            text: Text::of(alloc, text.bytes())?,
+            text: text.copy()?,
             place: token.start,
         })),
         _ => Ok(None),

@@ -35,7 +35,7 @@ fn own_name(env: &Env<'_>, alloc: Global, name: &Text) -> Result<TypeName, NoMem
 {
     Ok(TypeName {
         path: Text::of(alloc, env.path())?,
-        name: Text::of(alloc, name.bytes())?,
+        name: name.copy()?,
     })
 }
 

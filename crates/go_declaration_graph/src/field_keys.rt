@@ -29,7 +29,7 @@ fn key_of(alloc: Global, name: &Name) -> Result<FieldKey, NoMemory>
 {
     Ok(FieldKey {
         place: name.place,
-        text: Text::of(alloc, name.text.bytes())?,
+        text: name.text.copy()?,
     })
 }
 

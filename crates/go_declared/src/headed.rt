@@ -108,7 +108,7 @@ impl HeadedText {
     {
         Ok(HeadedText {
             head: head(text.bytes()),
-            text: Text::of(alloc, text.bytes())?,
+            text: text.copy()?,
         })
     }
 

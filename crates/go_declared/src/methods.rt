@@ -91,7 +91,7 @@ impl DeclaredMethods {
     fn put(&mut self, alloc: Global, name: &Text, rows: List<MethodRow>) -> Result<(), NoMemory>
         ensures { OnOk result (self.new ≡ with_value self.old name.now rows) }
     {
-        let key = Text::of(alloc, name.bytes())?;
+        let key = name.copy()?;
         self.entries.insert(key, rows)?;
         Ok(())
     }

@@ -70,7 +70,7 @@ impl Namesakes {
     ) -> Result<(), NoMemory>
         ensures { OnOk result (self.new ≡ with_value self.old type_name.now rows) }
     {
-        let key = Text::of(alloc, type_name.bytes())?;
+        let key = type_name.copy()?;
         self.entries.insert(key, rows)?;
         Ok(())
     }

@@ -80,14 +80,18 @@ impl<'a, F: Fn(&Context<'_>, Global, usize, Part<'_>) -> Result<Answer, ExprErro
                 )?;
                 Ok((operand, false))
             }
-            Expr::FuncLit(signature, _) => self.literals.operations.function(signature),
-            Expr::Composite(form, elements) => self.literals.composite(form, elements.items()),
-            Expr::CompositeArray(form, elements) => {
-                self.literals.composite_array(form, elements.items())
+            Expr::FuncLit(signature, _) => self.literals.operations.function(signature.value()),
+            Expr::Composite(form, elements) => {
+                self.literals.composite(form.value(), elements.items())
             }
-            Expr::Type(form) => self.literals.operations.type_operand(form),
+            Expr::CompositeArray(form, elements) => {
+                self.literals.composite_array(form.value(), elements.items())
+            }
+            Expr::Type(form) => self.literals.operations.type_operand(form.value()),
             Expr::Paren(inner) => self.literals.operations.typing.expr_below(inner.value()),
-            Expr::ParenReceiveChan(element) => self.literals.operations.channel_operand(element),
+            Expr::ParenReceiveChan(element) => {
+                self.literals.operations.channel_operand(element.value())
+            }
         }
     }
 

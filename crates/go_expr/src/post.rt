@@ -7,6 +7,7 @@ ghost use Rattle.go_syntax.specs.declared.expression.Post.{Post-F, out-Post};
 ghost use Rattle.go_type_terms.specs.Answers.{Tells, Types, TypesBelow, env_in};
 
 use crate::exprs::Exprs;
+use go_base::boxed::Box;
 use go_elements::assertions::assertion;
 use go_elements::elements::index;
 use go_elements::selections::select;
@@ -75,13 +76,13 @@ impl<'a, F: Fn(&Context<'_>, Global, usize, Part<'_>) -> Result<Answer, ExprErro
     }
 
     // An index that may be left out.
-    fn optional_index(&self, expr: &Option<Expr>) -> Result<(Option<Operand>, bool), ExprError>
+    fn optional_index(&self, expr: &Option<Box<Expr>>) -> Result<(Option<Operand>, bool), ExprError>
         requires { TypesBelow self.now.literals.operations.typing.context.now self.now.literals.operations.typing.height (F.pre self.now.literals.operations.typing.below) (F.post self.now.literals.operations.typing.below) }
         ensures { Types (env_in self.now.literals.operations.typing.context.now) (HasWhere (env_in self.now.literals.operations.typing.context.now) expr.now) (optional expression expr.now) result }
     {
         match expr {
             Some(expr) => {
-                let (operand, loud) = self.literals.operations.typing.expr_below(expr)?;
+                let (operand, loud) = self.literals.operations.typing.expr_below(expr.value())?;
                 Ok((Some(operand), loud))
             }
             None => Ok((None, false)),
@@ -93,8 +94,8 @@ impl<'a, F: Fn(&Context<'_>, Global, usize, Part<'_>) -> Result<Answer, ExprErro
     fn sliced(
         &self,
         operand: &Operand,
-        low: &Option<Expr>,
-        high: &Option<Expr>,
+        low: &Option<Box<Expr>>,
+        high: &Option<Box<Expr>>,
     ) -> Result<(Operand, bool), ExprError>
         requires { TypesBelow self.now.literals.operations.typing.context.now self.now.literals.operations.typing.height (F.pre self.now.literals.operations.typing.below) (F.post self.now.literals.operations.typing.below) }
         ensures { Types (env_in self.now.literals.operations.typing.context.now) (HasPost (env_in self.now.literals.operations.typing.context.now) operand.now (Post-F.«Post::Slice» low.now high.now)) (optional expression low.now ++ optional expression high.now) result }
@@ -118,7 +119,7 @@ impl<'a, F: Fn(&Context<'_>, Global, usize, Part<'_>) -> Result<Answer, ExprErro
     fn fully_sliced(
         &self,
         operand: &Operand,
-        low: &Option<Expr>,
+        low: &Option<Box<Expr>>,
         high: &Expr,
         bound: &Expr,
     ) -> Result<(Operand, bool), ExprError>
@@ -156,13 +157,15 @@ impl<'a, F: Fn(&Context<'_>, Global, usize, Part<'_>) -> Result<Answer, ExprErro
                 )?;
                 Ok((result, false))
             }
-            Post::TypeAssertion(form) => self.asserted(operand, form),
-            Post::Index(expr) => self.indexed(operand, expr),
+            Post::TypeAssertion(form) => self.asserted(operand, form.value()),
+            Post::Index(expr) => self.indexed(operand, expr.value()),
             Post::Slice(low, high) => self.sliced(operand, low, high),
-            Post::FullSlice(low, high, bound) => self.fully_sliced(operand, low, high, bound),
+            Post::FullSlice(low, high, bound) => {
+                self.fully_sliced(operand, low, high.value(), bound.value())
+            }
             Post::Call(exprs, dots) => self.call(operand, exprs.items(), *dots),
             Post::CallReceiveChan(element, exprs, dots) => {
-                self.call_with_type(operand, element, exprs.items(), *dots)
+                self.call_with_type(operand, element.value(), exprs.items(), *dots)
             }
         }
     }

@@ -62,7 +62,7 @@ pub(crate) fn ask<'a>(
     ensures { OnOk result (AsksAlso files.now questions.old questions.new) }
 {
     for file in files {
-        let constraint = constraint_of(alloc, file.bytes.value().bytes())?;
+        let constraint = constraint_of(alloc, file.bytes.bytes())?;
         questions.push(Question { file, constraint })?;
     }
     Ok(())

@@ -4,6 +4,7 @@ ghost use Rattle.go_function_literals.specs.Places as places;
 ghost use Rattle.go_function_literals.specs.Places.{element_places, expr_places, exprs_places, field_places, interface_places, joined, parameter_places, post_places, result_places, signature_places, type_places, value_places};
 
 use crate::place::{LiteralPlace, below};
+use go_base::boxed::Box;
 use go_base::list::List;
 use go_base::memory::NoMemory;
 use go_syntax::body::BodyRange;
@@ -60,16 +61,16 @@ pub fn add_expr(found: &mut List<LiteralPlace>, expr: &Expr, height: usize) -> R
             add_literal(found, *body, below(height))
         }
         Expr::Composite(type_, elements) => {
-            add_type(found, type_, below(height))?;
+            add_type(found, type_.value(), below(height))?;
             add_elements(found, elements.items(), below(below(height)))
         }
         Expr::CompositeArray(type_, elements) => {
-            add_type(found, type_, below(height))?;
+            add_type(found, type_.value(), below(height))?;
             add_elements(found, elements.items(), below(below(height)))
         }
-        Expr::Type(type_) => add_type(found, type_, height),
+        Expr::Type(type_) => add_type(found, type_.value(), height),
         Expr::Paren(inner) => add_expr(found, inner.value(), below(height)),
-        Expr::ParenReceiveChan(type_) => add_type(found, type_, below(height)),
+        Expr::ParenReceiveChan(type_) => add_type(found, type_.value(), below(height)),
     }
 }
 
@@ -103,6 +104,21 @@ pub fn add_optional_expr(
     }
 }
 
+/// The same of a bound of a slice.
+#[cycle(places)]
+fn add_bound(
+    found: &mut List<LiteralPlace>,
+    expr: &Option<Box<Expr>>,
+    height: usize,
+) -> Result<(), NoMemory>
+    ensures { OnOk result (found.new ≡ found.old ++ places.optional_expr expr.now height) }
+{
+    match expr {
+        None => Ok(()),
+        Some(expr) => add_expr(found, expr.value(), height),
+    }
+}
+
 #[cycle(places)]
 fn add_posts(found: &mut List<LiteralPlace>, posts: &[Post], height: usize) -> Result<(), NoMemory>
     ensures { OnOk result (found.new ≡ found.old ++ joined (map post_places posts.now) height) }
@@ -119,20 +135,20 @@ fn add_post(found: &mut List<LiteralPlace>, post: &Post, height: usize) -> Resul
 {
     match post {
         Post::Selector(_) => Ok(()),
-        Post::TypeAssertion(type_) => add_type(found, type_, below(height)),
-        Post::Index(index) => add_expr(found, index, below(height)),
+        Post::TypeAssertion(type_) => add_type(found, type_.value(), below(height)),
+        Post::Index(index) => add_expr(found, index.value(), below(height)),
         Post::Slice(low, high) => {
-            add_optional_expr(found, low, below(height))?;
-            add_optional_expr(found, high, below(height))
+            add_bound(found, low, below(height))?;
+            add_bound(found, high, below(height))
         }
         Post::FullSlice(low, high, bound) => {
-            add_optional_expr(found, low, below(height))?;
-            add_expr(found, high, below(height))?;
-            add_expr(found, bound, below(height))
+            add_bound(found, low, below(height))?;
+            add_expr(found, high.value(), below(height))?;
+            add_expr(found, bound.value(), below(height))
         }
         Post::Call(arguments, _) => add_exprs(found, arguments.items(), below(height)),
         Post::CallReceiveChan(type_, arguments, _) => {
-            add_type(found, type_, below(height))?;
+            add_type(found, type_.value(), below(height))?;
             add_exprs(found, arguments.items(), below(height))
         }
     }

@@ -11,7 +11,7 @@ use std::marker::Model;
 
 // The tree of an outline, and its bytes.
 struct Outlined {
-    bytes: Shared<Text>,
+    bytes: Text,
     tree: File,
 }
 
@@ -56,11 +56,11 @@ fn are_same(bytes: &[u8], others: &[u8]) -> bool
 
 impl Outline {
     /// The outline of these bytes, of which it is one more owner.
-    pub fn new(alloc: Global, bytes: &Shared<Text>, tree: File) -> Result<Outline, NoMemory>
+    pub fn new(alloc: Global, bytes: &Text, tree: File) -> Result<Outline, NoMemory>
         requires { IsOneOutlineOf bytes.now tree }
         ensures { IfOk result (λ o. o ≡ tree) }
     {
-        let bytes = bytes.share()?;
+        let bytes = bytes.copy()?;
         Ok(Outline {
             inner: Shared::new(alloc, Outlined { bytes, tree })?,
         })
@@ -86,7 +86,7 @@ impl Outline {
     pub fn is_of(&self, bytes: &[u8]) -> bool
         ensures { result ≡ true → IsOutlineOf bytes.now self.now }
     {
-        are_same(self.inner.value().bytes.value().bytes(), bytes)
+        are_same(self.inner.value().bytes.bytes(), bytes)
     }
 
     /// Whether it is known as the same as another one, since both are of the same bytes.
@@ -94,8 +94,8 @@ impl Outline {
         ensures { result ≡ true → self.now ≡ other.now }
     {
         are_same(
-            self.inner.value().bytes.value().bytes(),
-            other.inner.value().bytes.value().bytes(),
+            self.inner.value().bytes.bytes(),
+            other.inner.value().bytes.bytes(),
         )
     }
 }

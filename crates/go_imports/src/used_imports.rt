@@ -45,7 +45,7 @@ fn add_names(alloc: Global, set: &mut BTreeSet<Text>, names: &[Name]) -> Result<
     ensures { OnOk result (Grows (IsNameIn names.now) set.old.keys set.new.keys) }
 {
     for name in names {
-        add_text(set, Text::of(alloc, name.text.bytes())?)?;
+        add_text(set, name.text.copy()?)?;
     }
     Ok(())
 }
@@ -72,7 +72,7 @@ fn add_types(alloc: Global, set: &mut BTreeSet<Text>, specs: &[TypeSpec]) -> Res
     ensures { OnOk result (Grows (IsTypeNameIn specs.now) set.old.keys set.new.keys) }
 {
     for spec in specs {
-        add_text(set, Text::of(alloc, spec.name.text.bytes())?)?;
+        add_text(set, spec.name.text.copy()?)?;
     }
     Ok(())
 }
@@ -82,7 +82,7 @@ fn add_func(alloc: Global, set: &mut BTreeSet<Text>, func: &Func) -> Result<(), 
 {
     match &func.receiver {
         Some(_) => Ok(()),
-        None => add_text(set, Text::of(alloc, func.name.text.bytes())?),
+        None => add_text(set, func.name.text.copy()?),
     }
 }
 
@@ -139,7 +139,7 @@ fn add_reference(
     if !is_qualifier(declared, reference) {
         return Ok(());
     }
-    add_text(set, Text::of(alloc, reference.name.text.bytes())?)
+    add_text(set, reference.name.text.copy()?)
 }
 
 fn add_references(
@@ -201,7 +201,7 @@ fn add_scope_name(alloc: Global, set: &mut BTreeSet<Text>, import: &Import) -> R
     ensures { OnOk result (Grows (IsScopeName import.now) set.old.keys set.new.keys) }
 {
     match scope_name(import) {
-        Some(name) => add_text(set, Text::of(alloc, name.bytes())?),
+        Some(name) => add_text(set, name.copy()?),
         None => Ok(()),
     }
 }
@@ -221,7 +221,7 @@ fn named_as(alloc: Global, name: &[u8], import: &Import) -> Result<NamedImport, 
 {
     Ok(NamedImport {
         name: Text::of(alloc, name)?,
-        path: Text::of(alloc, import.path.bytes())?,
+        path: import.path.copy()?,
         place: import.place,
     })
 }

@@ -172,10 +172,10 @@ fn push_expr<'a>(
 {
     match expr {
         Expr::Composite(form, elements) => {
-            push_composite(context, alloc, form, elements.items(), keys)
+            push_composite(context, alloc, form.value(), elements.items(), keys)
         }
         Expr::CompositeArray(form, elements) => {
-            push_composite_array(context, alloc, form, elements.items(), keys)
+            push_composite_array(context, alloc, form.value(), elements.items(), keys)
         }
         _ => Ok(()),
     }

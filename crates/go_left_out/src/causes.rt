@@ -43,7 +43,7 @@ fn first_name(alloc: Global, names: &[Name]) -> Result<Text, NoMemory>
     ensures { IfOk result (λ name. name ≡ first_name names.now) }
 {
     match names.first() {
-        Some(name) => Text::of(alloc, name.text.bytes()),
+        Some(name) => name.text.copy(),
         None => Text::of(alloc, &[]),
     }
 }

@@ -36,7 +36,7 @@ fn copied(alloc: Global, names: &[Name]) -> Result<List<Text>, NoMemory>
 {
     let mut copied = List::new(alloc);
     for name in names {
-        copied.push(Text::of(alloc, name.text.bytes())?)?;
+        copied.push(name.text.copy()?)?;
     }
     Ok(copied)
 }

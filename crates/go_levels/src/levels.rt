@@ -51,7 +51,7 @@ pub fn levels(alloc: Global, units: &Units) -> Result<List<usize>, NoMemory>
     let all = units.packages.items();
     for unit in all {
         let level = level_above(&known, unit.needs.items(), count);
-        known.put(Text::of(alloc, unit.path.bytes())?, level)?;
+        known.put(unit.path.copy()?, level)?;
         levels.push(level)?;
         count += 1;
     }

@@ -106,7 +106,7 @@ pub fn string_bytes(alloc: Global, inner: &[u8]) -> Result<Text, NoMemory>
         push_meaning(&mut out, c.meaning)?;
         at += c.len;
     }
-    Ok(Text::from_vec(out))
+    Text::from_vec(alloc, out)
 }
 
 fn push_meaning(out: &mut Vec<u8>, meaning: Meaning) -> Result<(), NoMemory>
@@ -131,5 +131,5 @@ pub fn raw_bytes(alloc: Global, inner: &[u8]) -> Result<Text, NoMemory>
         .copied()
         .filter(|b| *b != b'\r')
         .collect(alloc)?;
-    Ok(Text::from_vec(bytes))
+    Text::from_vec(alloc, bytes)
 }

@@ -23,7 +23,10 @@ fn literal_of(expr: &Expr) -> Option<Literal<'_>>
     ensures { form_in result ≡ literal_here (node_of (Tree.Expr expr.entry)) }
 {
     match expr {
-        Expr::FuncLit(signature, body) => Some(Literal { signature, body }),
+        Expr::FuncLit(signature, body) => Some(Literal {
+            signature: signature.value(),
+            body,
+        }),
         _ => None,
     }
 }

@@ -111,9 +111,8 @@ fn load_files<F: Files>(
         Ok(found) => found,
         Err(error) => return Err(error),
     };
-    let none = Text::from_vec(Vec::new(alloc));
     Ok(Tree {
-        module: none,
+        module: Text::empty(),
         files: found,
     })
 }

@@ -112,7 +112,7 @@ pub(crate) fn joined(alloc: Global, first: &[u8], second: &[u8]) -> Result<Text,
     bytes.extend_from_slice(first)?;
     bytes.push(b'/')?;
     bytes.extend_from_slice(second)?;
-    Ok(Text::from_vec(bytes))
+    Text::from_vec(alloc, bytes)
 }
 
 /// The path of an entry of a folder, below the root of the tree.

@@ -64,7 +64,7 @@ fn add_name(
     ensures { OnOk result (Grows (IsNameOf wanted entry.now) names.old.keys names.new.keys) }
 {
     if entry.kind == EntryKind::File && is_wanted(wanted, entry.name.bytes()) {
-        return insert(names, Text::of(alloc, entry.name.bytes())?);
+        return insert(names, entry.name.copy()?);
     }
     Ok(())
 }
@@ -425,7 +425,7 @@ pub(crate) fn walk<F: Files>(
         files: List::new(alloc),
         counts: Counts::new(),
     };
-    if let Err(_) = insert(&mut pending, Text::from_vec(Vec::new(alloc))) {
+    if let Err(_) = insert(&mut pending, Text::empty()) {
         return Err(LoadError::NoMemory);
     }
     for _ in 0..u64::MAX {

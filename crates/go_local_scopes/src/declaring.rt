@@ -11,7 +11,6 @@ ghost use Rattle.go_syntax.specs.declared.types.Signature.{out-Signature};
 use crate::slots::{push_locals, push_signature};
 use go_base::list::List;
 use go_base::memory::NoMemory;
-use go_base::text::Text;
 use go_model::types::term::Signature as Signed;
 use go_rules::blank::is_blank;
 use go_rules::env::{DeclareError, Env};
@@ -31,7 +30,7 @@ fn declare_other(
     ensures kept { Kept env.old env.new }
     ensures declared { is_blank_of name.now.text ≡ false → IfOk result (λ b. Reaches b (Declares env.old.opened (Some name.now ∷ []) (seen.now ∷ [])) env.new.opened) }
 {
-    let text = Text::of(alloc, name.text.bytes())?;
+    let text = name.text.copy()?;
     let meaning = seen.meaning().copy(alloc)?;
     match env.declare(text, meaning) {
         Ok(()) => Ok(true),

@@ -6,7 +6,6 @@ ghost use Rattle.go_new_scopes.specs.inner.Announced.{with_declarations, with_na
 ghost use Rattle.go_typings.specs.Declarations.{names_of};
 
 use go_base::memory::NoMemory;
-use go_base::text::Text;
 use go_declarations::form::Form;
 use go_declarations::listing::Declaration;
 use go_declared::names::DeclaredNames;
@@ -26,7 +25,7 @@ fn announce_name(
     if names.get(&name.text).is_none() {
         return Ok(());
     }
-    env.announce(Text::of(alloc, name.text.bytes())?)
+    env.announce(name.text.copy()?)
 }
 
 fn announce_names(

@@ -27,7 +27,7 @@ fn await_method(
         return Ok(());
     }
     let sel = env.selector(name)?;
-    let type_name = Text::of(alloc, type_name.bytes())?;
+    let type_name = type_name.copy()?;
     env.await_method(type_name, sel)
 }
 

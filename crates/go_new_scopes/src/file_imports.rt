@@ -22,7 +22,7 @@ fn had_path(alloc: Global, import: &UsedImport) -> Result<Text, NoMemory>
     ensures { IfOk result (λ path. path ≡ had_path (import_of import.now)) }
 {
     if import.found {
-        Text::of(alloc, import.path.bytes())
+        import.path.copy()
     } else {
         Text::of(alloc, b"".as_slice())
     }
@@ -40,7 +40,7 @@ fn add_import(
     if is_init(&import.name) {
         return Ok(());
     }
-    let name = Text::of(alloc, import.name.bytes())?;
+    let name = import.name.copy()?;
     let path = had_path(alloc, import)?;
     match env.import(file, name, path) {
         Ok(()) => Ok(()),

@@ -21,7 +21,7 @@ fn type_object(alloc: Global, path: &[u8], name: &Text) -> Result<Seen, NoMemory
 {
     let own = TypeName {
         path: Text::of(alloc, path)?,
-        name: Text::of(alloc, name.bytes())?,
+        name: name.copy()?,
     };
     Ok(Seen::Object(Entity::TypeOf(Term::Named(own))))
 }
@@ -32,7 +32,7 @@ fn declare_type(env: &mut Env<'_>, alloc: Global, name: &Text) -> Result<(), NoM
     ensures { OnOk result (env.new ≡ record env.old { declared = with_type env.old.path env.old.declared name.now }) }
 {
     let object = type_object(alloc, env.path(), name)?;
-    let name = Text::of(alloc, name.bytes())?;
+    let name = name.copy()?;
     match env.declare(name, object) {
         Ok(()) => Ok(()),
         Err(DeclareError::Already) => Ok(()),

@@ -11,7 +11,6 @@ use crate::awaited_methods::await_methods;
 use crate::file_imports::add_files;
 use crate::own_types::declare_types;
 use go_base::memory::NoMemory;
-use go_base::text::Text;
 use go_declared::package::PackageTables;
 use go_model::types::world::World;
 use go_rules::env::Env;
@@ -35,7 +34,7 @@ pub fn new_scopes<'w>(
     requires tables { AreTables tables.now }
     ensures { IfOk result (Keeps (record { world = world.now; bits = bits; profile = profile }) (source_of unit.now) (λ number. None)) }
 {
-    let path = Text::of(alloc, unit.path.bytes())?;
+    let path = unit.path.copy()?;
     let mut env = Env::new(alloc, world, path, bits, profile);
     add_files(&mut env, alloc, unit.files.items())?;
     announce(&mut env, alloc, tables.names, tables.declarations)?;

@@ -17,7 +17,7 @@ use std::collections::BTreeSet;
 fn add_new(alloc: Global, names: &mut BTreeSet<Text>, name: &Text) -> Result<bool, NoMemory>
     ensures { IfOk result (Adds names.old.keys name.now names.new.keys) }
 {
-    let text = Text::of(alloc, name.bytes())?;
+    let text = name.copy()?;
     let is_new = names.insert(text)?;
     Ok(is_new)
 }

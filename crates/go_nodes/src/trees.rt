@@ -10,6 +10,7 @@ ghost use Rattle.go_syntax.specs.declared.types.InterfaceElem.{out-InterfaceElem
 ghost use Rattle.go_syntax.specs.declared.types.«Type».{«out-Type» as out-Typ};
 
 use crate::tree::Tree;
+use go_base::boxed::Box;
 use go_base::memory::NoMemory;
 use go_syntax::expression::{Element, ElementValue, Expr, Post};
 use go_syntax::types::{FieldDecl, FuncResult, InterfaceElem, ParameterDecl, Signature, Type};
@@ -73,11 +74,11 @@ impl<'a> Trees<'a> {
         self.push_exprs(others)
     }
 
-    fn push_optional(&mut self, expr: &'a Option<Expr>) -> Result<(), NoMemory>
+    fn push_optional(&mut self, expr: &'a Option<Box<Expr>>) -> Result<(), NoMemory>
         ensures { OnOk result (nodes_in self.new ≡ nodes_in self.old ++ optional expression expr.now) }
     {
         match expr {
-            Some(expr) => self.push(Tree::Expr(expr)),
+            Some(expr) => self.push(Tree::Expr(expr.value())),
             None => Ok(()),
         }
     }
@@ -201,12 +202,16 @@ impl<'a> Trees<'a> {
             }
             Expr::Literal(_) => Ok(()),
             Expr::Name(_) => Ok(()),
-            Expr::FuncLit(signature, _) => self.push(Tree::Signature(signature)),
-            Expr::Composite(form, elements) => self.push_literal_parts(form, elements.items()),
-            Expr::CompositeArray(form, elements) => self.push_literal_parts(form, elements.items()),
-            Expr::Type(form) => self.push(Tree::Type(form)),
+            Expr::FuncLit(signature, _) => self.push(Tree::Signature(signature.value())),
+            Expr::Composite(form, elements) => {
+                self.push_literal_parts(form.value(), elements.items())
+            }
+            Expr::CompositeArray(form, elements) => {
+                self.push_literal_parts(form.value(), elements.items())
+            }
+            Expr::Type(form) => self.push(Tree::Type(form.value())),
             Expr::Paren(inner) => self.push(Tree::Expr(inner.value())),
-            Expr::ParenReceiveChan(element) => self.push(Tree::Type(element)),
+            Expr::ParenReceiveChan(element) => self.push(Tree::Type(element.value())),
         }
     }
 
@@ -215,20 +220,20 @@ impl<'a> Trees<'a> {
     {
         match post {
             Post::Selector(_) => Ok(()),
-            Post::TypeAssertion(form) => self.push(Tree::Type(form)),
-            Post::Index(expr) => self.push(Tree::Expr(expr)),
+            Post::TypeAssertion(form) => self.push(Tree::Type(form.value())),
+            Post::Index(expr) => self.push(Tree::Expr(expr.value())),
             Post::Slice(low, high) => {
                 self.push_optional(low)?;
                 self.push_optional(high)
             }
             Post::FullSlice(low, high, bound) => {
                 self.push_optional(low)?;
-                self.push(Tree::Expr(high))?;
-                self.push(Tree::Expr(bound))
+                self.push(Tree::Expr(high.value()))?;
+                self.push(Tree::Expr(bound.value()))
             }
             Post::Call(exprs, _) => self.push_exprs(exprs.items()),
             Post::CallReceiveChan(element, exprs, _) => {
-                self.push(Tree::Type(element))?;
+                self.push(Tree::Type(element.value()))?;
                 self.push_exprs(exprs.items())
             }
         }

@@ -19,8 +19,8 @@ use go_cursor::names::type_name;
 use go_cursor::skipping::is_composite;
 use go_descent::grammar::{Grammar, Part, PartTree};
 use go_syntax::expression::Expr;
-use go_syntax::held::expression::{HeldExpr, boxed_expr};
-use go_syntax::held::types::{HeldSignature, HeldType, boxed_signature};
+use go_syntax::held::expression::{HeldExpr, boxed_expr, composite, composite_array, type_expr};
+use go_syntax::held::types::{HeldSignature, HeldType, boxed_signature, boxed_type};
 use go_syntax::token::TokenKind;
 use go_syntax::types::Type;
 use go_type_exprs::types::TypeExprs;
@@ -61,7 +61,7 @@ impl<'a, F: Fn(Global, &mut Cursor<'_>, usize, Part) -> Result<PartTree, ParseEr
     {
         let name = type_name(self.grammar.alloc, tokens)?;
         let elements = self.grammar.literal_value_below(tokens)?;
-        Ok(Expr::Composite(Type::Named(name), elements))
+        Ok(composite(self.grammar.alloc, Type::Named(name), elements)?)
     }
 
     /// A name, or a composite literal that begins with one where that may stand here.
@@ -85,13 +85,12 @@ impl<'a, F: Fn(Global, &mut Cursor<'_>, usize, Part) -> Result<PartTree, ParseEr
     {
         let signature = HeldSignature::new(self.grammar.signature_below(tokens)?);
         if !tokens.begins(TokenKind::LeftBrace) {
-            return Ok(Expr::Type(Type::Func(boxed_signature(
-                self.grammar.alloc,
-                signature.take(),
-            )?)));
+            let signature = boxed_signature(self.grammar.alloc, signature.take())?;
+            return Ok(type_expr(self.grammar.alloc, Type::Func(signature))?);
         }
         let body = self.grammar.body_below(tokens)?;
-        Ok(Expr::FuncLit(signature.take(), body))
+        let signature = boxed_signature(self.grammar.alloc, signature.take())?;
+        Ok(Expr::FuncLit(signature, body))
     }
 
     /// A composite literal that begins with a slice, an array, a map or a struct.
@@ -101,7 +100,7 @@ impl<'a, F: Fn(Global, &mut Cursor<'_>, usize, Part) -> Result<PartTree, ParseEr
     {
         let type_ = HeldType::new(self.grammar.composite_type_below(tokens)?);
         let elements = self.grammar.literal_value_below(tokens)?;
-        Ok(Expr::Composite(type_.take(), elements))
+        Ok(composite(self.grammar.alloc, type_.take(), elements)?)
     }
 
     /// A slice, an array, a map or a struct that no literal begins with.
@@ -114,7 +113,7 @@ impl<'a, F: Fn(Global, &mut Cursor<'_>, usize, Part) -> Result<PartTree, ParseEr
         if tokens.begins(TokenKind::LeftBrace) {
             return Err(ParseError::Syntax);
         }
-        Ok(Expr::Type(type_.take()))
+        Ok(type_expr(self.grammar.alloc, type_.take())?)
     }
 
     /// An operand that begins with a slice, an array, a map or a struct.
@@ -141,7 +140,7 @@ impl<'a, F: Fn(Global, &mut Cursor<'_>, usize, Part) -> Result<PartTree, ParseEr
         tokens.expect(TokenKind::RightBracket)?;
         let element = HeldType::new(self.grammar.type_below(tokens)?);
         let elements = self.grammar.literal_value_below(tokens)?;
-        Ok(Expr::CompositeArray(element.take(), elements))
+        Ok(composite_array(self.grammar.alloc, element.take(), elements)?)
     }
 
     /// `(<-chan T)`, from behind `chan` on.
@@ -153,7 +152,7 @@ impl<'a, F: Fn(Global, &mut Cursor<'_>, usize, Part) -> Result<PartTree, ParseEr
     {
         let element = HeldType::new(self.grammar.type_below(tokens)?);
         tokens.expect(TokenKind::RightParen)?;
-        Ok(Expr::ParenReceiveChan(element.take()))
+        Ok(Expr::ParenReceiveChan(boxed_type(self.grammar.alloc, element.take())?))
     }
 
     /// An expression in parentheses, from behind `(` on.
@@ -188,7 +187,7 @@ impl<'a, F: Fn(Global, &mut Cursor<'_>, usize, Part) -> Result<PartTree, ParseEr
         requires { ReadsBelow self.now.grammar.now.height (F.pre self.now.grammar.now.below) (F.post self.now.grammar.now.below) }
         ensures { Reads (rules.other_operand (rules.chan_type (levels self.now.grammar.now.height)) (terminals tokens.old)) result tokens.new }
     {
-        Ok(Expr::Type(self.types().chan_type(tokens)?))
+        Ok(type_expr(self.grammar.alloc, self.types().chan_type(tokens)?)?)
     }
 
     /// An interface type, from behind `interface` on.
@@ -198,7 +197,7 @@ impl<'a, F: Fn(Global, &mut Cursor<'_>, usize, Part) -> Result<PartTree, ParseEr
         requires { ReadsBelow self.now.grammar.now.height (F.pre self.now.grammar.now.below) (F.post self.now.grammar.now.below) }
         ensures { Reads (rules.other_operand (rules.interface_type (levels self.now.grammar.now.height)) (terminals tokens.old)) result tokens.new }
     {
-        Ok(Expr::Type(self.types().interface_type(tokens)?))
+        Ok(type_expr(self.grammar.alloc, self.types().interface_type(tokens)?)?)
     }
 
     /// An operand that begins with `[`.

@@ -26,7 +26,7 @@ fn text(alloc: Global, text: &Text) -> Result<Operand, ExprError>
     if text.bytes().len() > LONGEST_TEXT {
         return Err(ExprError::Untyped);
     }
-    let copied = Text::of(alloc, text.bytes())?;
+    let copied = text.copy()?;
     Ok(untyped(Untyped::StrKind, Value::Str(copied)))
 }
 

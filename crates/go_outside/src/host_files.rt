@@ -157,7 +157,10 @@ fn read<R: Runtime + AllocGlobal>(
             if bytes.len() as u64 > limit {
                 return Err(FilesError::TooLarge);
             }
-            Ok(Text::from_vec(bytes))
+            match Text::from_vec(alloc, bytes) {
+                Ok(text) => Ok(text),
+                Err(_) => Err(FilesError::NoMemory),
+            }
         }
     }
 }

@@ -88,7 +88,7 @@ impl MemoryFiles {
         let pairs = sorted(pairs)?;
         match clash::first_clash(alloc, &pairs)? {
             None => Ok(MemoryFiles { pairs }),
-            Some(at) => Err(MemoryFilesError::Clash(Text::of(alloc, pairs[at].path.bytes())?)),
+            Some(at) => Err(MemoryFilesError::Clash(pairs[at].path.copy()?)),
         }
     }
 }

@@ -49,7 +49,7 @@ fn declare(env: &mut Env<'_>, alloc: Global, name: &Text, object: &Entity) -> Re
     ensures ok { OnOk result (env.new ≡ record env.old { declared = with_new env.old.declared name.now (as_object (Some object.now)) }) }
     ensures same { setting_of env.new ≡ setting_of env.old }
 {
-    let name = Text::of(alloc, name.bytes())?;
+    let name = name.copy()?;
     let seen = Seen::Object(object.copy(alloc)?);
     match env.declare(name, seen) {
         Err(DeclareError::NoMemory) => Err(NoMemory),

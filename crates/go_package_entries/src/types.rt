@@ -38,7 +38,7 @@ fn defined(
     ensures { IfOk result (λ d. d ≡ record { name = name.now; underlying = underlying.now; methods = shown_of (entries_of grown.entry) (declarations_of tables.now.declarations.now) env.now.path tables.now.namesakes name.now (items_at tables.now.methods.now name.now) }) }
 {
     Ok(Defined {
-        name: Text::of(alloc, name.bytes())?,
+        name: name.copy()?,
         underlying: underlying.copy(alloc)?,
         methods: shown_methods(env, alloc, tables, grown, name)?,
     })

@@ -70,7 +70,7 @@ fn defined(
     ensures { IfOk result (IsSorted (record { name = name.now; underlying = term.now; methods = had_methods (source_of unit.now) (entries_at had.now) name.now })) }
 {
     Ok(Defined {
-        name: Text::of(alloc, name.bytes())?,
+        name: name.copy()?,
         underlying: term.copy(alloc)?,
         methods: sorted_methods(alloc, unit, declarations, methods, name, had)?,
     })

@@ -55,7 +55,7 @@ fn owner(alloc: Global, path: &Text, name: &[u8]) -> Result<Text, NoMemory>
     if is_exported(name) {
         Text::of(alloc, &[])
     } else {
-        Text::of(alloc, path.bytes())
+        path.copy()
     }
 }
 

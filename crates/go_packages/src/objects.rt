@@ -29,8 +29,8 @@ fn own_type(alloc: Global, path: &Text, name: &Text) -> Result<Entity, NoMemory>
     ensures { IfOk result (λ own. own ≡ Entity.TypeOf (own_type path.now name.now)) }
 {
     Ok(Entity::TypeOf(Term::Named(TypeName {
-        path: Text::of(alloc, path.bytes())?,
-        name: Text::of(alloc, name.bytes())?,
+        path: path.copy()?,
+        name: name.copy()?,
     })))
 }
 
@@ -118,7 +118,7 @@ fn push_object(
     match entity {
         None => Ok(()),
         Some(entity) => objects.push(Object {
-            name: Text::of(alloc, name.bytes())?,
+            name: name.copy()?,
             entity,
         }),
     }

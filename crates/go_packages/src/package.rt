@@ -13,7 +13,6 @@ use crate::defined::defined_types;
 use crate::objects::objects;
 use go_base::memory::NoMemory;
 use go_base::shared::Shared;
-use go_base::text::Text;
 use go_declared::package::PackageTables;
 use go_entries::had::HadEntries;
 use go_model::types::package::Package;
@@ -46,8 +45,8 @@ pub fn package(
     let shared_objects = Shared::new(alloc, objects)?;
     let shared_defined = Shared::new(alloc, defined)?;
     Ok(Package {
-        path: Text::of(alloc, unit.path.bytes())?,
-        name: Text::of(alloc, unit.name.bytes())?,
+        path: unit.path.copy()?,
+        name: unit.name.copy()?,
         from_std: unit.from_std,
         objects: shared_objects,
         defined: shared_defined,

@@ -1,6 +1,5 @@
 //! What follows operands: selectors, type assertions, indices, slices and calls.
 ghost use Rattle.std.specs.Prelude.{◌≡◌, []};
-ghost use Rattle.go_syntax.specs.declared.expression.Expr.{Expr};
 ghost use Rattle.go_syntax.specs.declared.expression.Post.TheVariants as post;
 ghost use Rattle.go_syntax.specs.declared.token.TokenKind.TheVariants as kind;
 ghost use Rattle.go_syntax.specs.grammar.Symbols.{begins};
@@ -17,32 +16,28 @@ use go_cursor::cursor::Cursor;
 use go_cursor::error::ParseError;
 use go_cursor::looks::begins_type_switch;
 use go_descent::grammar::{Grammar, Part, PartTree};
-use go_syntax::expression::{Expr, Post};
-use go_syntax::held::expression::{HeldExpr, HeldExprs, HeldPosts};
-use go_syntax::held::types::HeldType;
+use go_syntax::expression::Post;
+use go_syntax::held::expression::{
+    HeldExpr, HeldExprs, HeldPosts, boxed_expr, full_slice_post, slice_post,
+};
+use go_syntax::held::types::{HeldType, boxed_type};
 use go_syntax::token::TokenKind;
 use std::alloc::Global;
 
-/// The expression, moved out.
-fn taken(held: Option<HeldExpr>) -> Option<Expr>
-    ensures { result ≡ held }
-{
-    match held {
-        None => None,
-        Some(tree) => Some(tree.take()),
-    }
-}
-
 /// The end of an index, which has to be there.
 #[tactic(auto, unfolding(go_cursor::specs::Reading::close, go_cursor::specs::Reading::expect))]
-fn index_of(tokens: &mut Cursor<'_>, index: Option<HeldExpr>) -> Result<Post, ParseError>
+fn index_of(
+    alloc: Global,
+    tokens: &mut Cursor<'_>,
+    index: Option<HeldExpr>,
+) -> Result<Post, ParseError>
     ensures { Reads (rules.index_of index (terminals tokens.old)) result tokens.new }
 {
     match index {
         None => Err(ParseError::Syntax),
         Some(index) => {
             tokens.expect(TokenKind::RightBracket)?;
-            Ok(Post::Index(index.take()))
+            Ok(Post::Index(boxed_expr(alloc, index.take())?))
         }
     }
 }
@@ -115,7 +110,8 @@ impl<'a, F: Fn(Global, &mut Cursor<'_>, usize, Part) -> Result<PartTree, ParseEr
         let element = HeldType::new(self.grammar.type_below(tokens)?);
         let arguments = self.more_exprs(tokens, HeldExprs::new(self.grammar.alloc))?;
         let spread = self.call_end(tokens)?;
-        Ok(Post::CallReceiveChan(element.take(), arguments.take(), spread))
+        let element = boxed_type(self.grammar.alloc, element.take())?;
+        Ok(Post::CallReceiveChan(element, arguments.take(), spread))
     }
 
     /// A call, from behind `(` on.
@@ -163,7 +159,7 @@ impl<'a, F: Fn(Global, &mut Cursor<'_>, usize, Part) -> Result<PartTree, ParseEr
             Some(high) => {
                 let max = HeldExpr::new(self.grammar.expr_below(tokens)?);
                 tokens.expect(TokenKind::RightBracket)?;
-                Ok(Post::FullSlice(taken(low), high.take(), max.take()))
+                Ok(full_slice_post(self.grammar.alloc, low, high, max)?)
             }
         }
     }
@@ -184,7 +180,7 @@ impl<'a, F: Fn(Global, &mut Cursor<'_>, usize, Part) -> Result<PartTree, ParseEr
             return self.full_slice(tokens, low, high);
         }
         tokens.expect(TokenKind::RightBracket)?;
-        Ok(Post::Slice(taken(low), taken(high)))
+        Ok(slice_post(self.grammar.alloc, low, high)?)
     }
 
     /// An index or a slice, from behind `[` on.
@@ -196,7 +192,7 @@ impl<'a, F: Fn(Global, &mut Cursor<'_>, usize, Part) -> Result<PartTree, ParseEr
     {
         let low = self.bound(tokens)?;
         if !tokens.begins(TokenKind::Colon) {
-            return index_of(tokens, low);
+            return index_of(self.grammar.alloc, tokens, low);
         }
         tokens.advance();
         let high = self.bound(tokens)?;
@@ -219,7 +215,7 @@ impl<'a, F: Fn(Global, &mut Cursor<'_>, usize, Part) -> Result<PartTree, ParseEr
         tokens.expect(TokenKind::LeftParen)?;
         let type_ = HeldType::new(self.grammar.type_below(tokens)?);
         tokens.expect(TokenKind::RightParen)?;
-        Ok(Post::TypeAssertion(type_.take()))
+        Ok(Post::TypeAssertion(boxed_type(self.grammar.alloc, type_.take())?))
     }
 
     /// What follows here, if anything does.

@@ -20,7 +20,7 @@ impl<'a> FolderIndex<'a> {
     pub(crate) fn of(alloc: Global, folders: &'a [Folder]) -> Result<FolderIndex<'a>, NoMemory> {
         let mut numbers = BTreeMap::new(alloc);
         for (number, folder) in folders.iter().enumerate() {
-            numbers.insert(Text::of(alloc, folder.path.bytes())?, number)?;
+            numbers.insert(folder.path.copy()?, number)?;
         }
         Ok(FolderIndex { folders, numbers })
     }
@@ -29,10 +29,10 @@ impl<'a> FolderIndex<'a> {
 // The name that an import of a folder has in its file.
 fn name_of(alloc: Global, folder: &Folder, import: &ImportSpec) -> Result<Text, NoMemory> {
     if let Some(name) = &import.name {
-        return Text::of(alloc, name.text.bytes());
+        return name.text.copy();
     }
     if let Some(name) = &folder.package_name {
-        return Text::of(alloc, name.bytes());
+        return name.copy();
     }
     Text::of(alloc, assumed_name(import.path.bytes()))
 }

@@ -4,7 +4,6 @@ ghost use Rattle.std.specs.Prelude.{length};
 use crate::asked::{FolderIndex, asked};
 use go_base::list::List;
 use go_base::memory::NoMemory;
-use go_base::shared::Shared;
 use go_base::steps::Steps;
 use go_base::text::Text;
 use go_imports::outline::Outline;
@@ -80,8 +79,8 @@ fn with_asked(
     })
 }
 
-fn outline_of(alloc: Global, bytes: &Shared<Text>) -> Result<Option<Outline>, NoMemory> {
-    if bytes.value().bytes().len() as u64 > MOST_FILE_BYTES {
+fn outline_of(alloc: Global, bytes: &Text) -> Result<Option<Outline>, NoMemory> {
+    if bytes.bytes().len() as u64 > MOST_FILE_BYTES {
         return Ok(None);
     }
     outline_in(alloc, bytes)

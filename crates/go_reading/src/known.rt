@@ -35,7 +35,7 @@ impl KnownOutlines {
     }
 
     fn add_file(&mut self, alloc: Global, file: &UnitFile) -> Result<(), NoMemory> {
-        let path = Text::of(alloc, file.path.bytes())?;
+        let path = file.path.copy()?;
         let outline = file.outline.share()?;
         self.know(path, outline)
     }

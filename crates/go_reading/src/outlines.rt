@@ -7,7 +7,6 @@ ghost use Rattle.go_syntax.specs.lexical.Tokens.{IsTokens};
 use crate::sources::SourceError;
 use go_base::list::List;
 use go_base::memory::NoMemory;
-use go_base::shared::Shared;
 use go_base::text::Text;
 use go_imports::outline::Outline;
 use go_lex::error::LexError;
@@ -21,7 +20,7 @@ use go_units::reader::FileFault;
 use std::alloc::Global;
 
 // The tree with the bytes of which it is the outline.
-fn outlined(alloc: Global, bytes: &Shared<Text>, tree: File) -> Result<Outline, SourceError>
+fn outlined(alloc: Global, bytes: &Text, tree: File) -> Result<Outline, SourceError>
     requires { IsOutlineOf bytes.now tree }
     ensures ok { IfOk result (λ o. o ≡ tree) }
     ensures cause { IfErr result IsNoMemory }
@@ -35,7 +34,7 @@ fn outlined(alloc: Global, bytes: &Shared<Text>, tree: File) -> Result<Outline, 
 }
 
 // The outline of bytes with these tokens, which are given up.
-fn parse(alloc: Global, bytes: &Shared<Text>, tokens: List<Token>) -> Result<Outline, SourceError>
+fn parse(alloc: Global, bytes: &Text, tokens: List<Token>) -> Result<Outline, SourceError>
     requires { IsTokens bytes.now tokens }
     ensures ok { IfOk result (IsOutlineOf bytes.now) }
     ensures cause { IfErr result (Causes (HasBadTokens tokens)) }
@@ -48,12 +47,12 @@ fn parse(alloc: Global, bytes: &Shared<Text>, tokens: List<Token>) -> Result<Out
 }
 
 /// The outline of a file.
-pub(crate) fn outline_of(alloc: Global, bytes: &Shared<Text>) -> Result<Outline, SourceError>
+pub(crate) fn outline_of(alloc: Global, bytes: &Text) -> Result<Outline, SourceError>
     requires { length bytes.now ≤ 4194304 }
     ensures ok { IfOk result (IsOutlineOf bytes.now) }
     ensures cause { IfErr result (Causes (HasBadText bytes.now)) }
 {
-    match scan(alloc, bytes.value().bytes()) {
+    match scan(alloc, bytes.bytes()) {
         Err(LexError::NoMemory) => Err(SourceError::NoMemory),
         Err(LexError::BadToken(offset)) => Err(SourceError::Faulty(FileFault::BadToken(offset))),
         Ok(tokens) => parse(alloc, bytes, tokens),
@@ -61,7 +60,7 @@ pub(crate) fn outline_of(alloc: Global, bytes: &Shared<Text>) -> Result<Outline,
 }
 
 /// The outline of these bytes, where they are those of a file in the grammar.
-pub fn outline_in(alloc: Global, bytes: &Shared<Text>) -> Result<Option<Outline>, NoMemory>
+pub fn outline_in(alloc: Global, bytes: &Text) -> Result<Option<Outline>, NoMemory>
     requires { length bytes.now ≤ 4194304 }
     ensures { IfOk result (λ found. IfSome found (IsOutlineOf bytes.now)) }
 {

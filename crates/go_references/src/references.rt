@@ -4,10 +4,10 @@ ghost use Rattle.go_base.specs.Keys.{item_of};
 ghost use Rattle.go_references.specs.References as references;
 ghost use Rattle.go_references.specs.References.{joined, expr_refs, exprs_refs, post_refs, post_refs_of, element_refs, value_refs, type_refs, signature_refs, result_refs, parameter_refs, field_refs, interface_refs};
 
+use go_base::boxed::Box;
 use go_base::list::List;
 use go_base::memory::NoMemory;
 use go_base::operator::PrefixOperator;
-use go_base::text::Text;
 use go_syntax::declaration::{ConstSpec, Decl, Func, TypeSpec, VarSpec};
 use go_syntax::expression::{Element, ElementValue, Expr, Post};
 use go_syntax::name::{Name, QualifiedName};
@@ -98,7 +98,7 @@ fn copy(alloc: Global, name: &Name) -> Result<Name, NoMemory>
     ensures { IfOk result (λ n. n ≡ name.now) }
 {
     Ok(Name {
-        text: Text::of(alloc, name.text.bytes())?,
+        text: name.text.copy()?,
         place: name.place,
     })
 }
@@ -223,17 +223,17 @@ fn add_expr<'a>(
         }
         Expr::Literal(_) => Ok(()),
         Expr::Name(name) => add_name(refs, name, false, at),
-        Expr::FuncLit(signature, _) => add_signature(refs, signature, at),
+        Expr::FuncLit(signature, _) => add_signature(refs, signature.value(), at),
         Expr::Composite(type_, elements) => {
-            add_type(refs, type_, at)?;
+            add_type(refs, type_.value(), at)?;
             add_elements(refs, elements.items(), at)
         }
         Expr::CompositeArray(type_, elements) => {
-            add_type(refs, type_, at)?;
+            add_type(refs, type_.value(), at)?;
             add_elements(refs, elements.items(), at)
         }
-        Expr::Type(type_) => add_type(refs, type_, at),
-        Expr::ParenReceiveChan(type_) => add_type(refs, type_, behind(at)),
+        Expr::Type(type_) => add_type(refs, type_.value(), at),
+        Expr::ParenReceiveChan(type_) => add_type(refs, type_.value(), behind(at)),
     }
 }
 
@@ -254,14 +254,14 @@ fn add_exprs<'a>(
 #[cycle(references)]
 fn add_optional<'a>(
     refs: &mut List<Reference<'a>>,
-    expr: &'a Option<Expr>,
+    expr: &'a Option<Box<Expr>>,
     at: Position,
 ) -> Result<(), NoMemory>
     ensures { OnOk result (refs.new ≡ refs.old ++ references.optional_expr expr.now at) }
 {
     match expr {
         None => Ok(()),
-        Some(expr) => add_expr(refs, expr, at),
+        Some(expr) => add_expr(refs, expr.value(), at),
     }
 }
 
@@ -308,20 +308,20 @@ fn add_post<'a>(
 {
     match post {
         Post::Selector(_) => Ok(()),
-        Post::TypeAssertion(type_) => add_type(refs, type_, at),
-        Post::Index(index) => add_expr(refs, index, at),
+        Post::TypeAssertion(type_) => add_type(refs, type_.value(), at),
+        Post::Index(index) => add_expr(refs, index.value(), at),
         Post::Slice(low, high) => {
             add_optional(refs, low, at)?;
             add_optional(refs, high, at)
         }
         Post::FullSlice(low, high, bound) => {
             add_optional(refs, low, at)?;
-            add_expr(refs, high, at)?;
-            add_expr(refs, bound, at)
+            add_expr(refs, high.value(), at)?;
+            add_expr(refs, bound.value(), at)
         }
         Post::Call(arguments, _) => add_exprs(refs, arguments.items(), at),
         Post::CallReceiveChan(type_, arguments, _) => {
-            add_type(refs, type_, behind(at))?;
+            add_type(refs, type_.value(), behind(at))?;
             add_exprs(refs, arguments.items(), at)
         }
     }

@@ -210,7 +210,7 @@ impl Env<'_> {
         ensures ok { OnOk result (self.new ≡ with_defined self.old defined) }
         ensures err { OnErr result (self.new ≡ self.old) }
     {
-        let name = Text::of(self.alloc, defined.name.bytes())?;
+        let name = defined.name.copy()?;
         let row = DefinedRow::new(self.alloc, defined)?;
         self.defined.put(name, row)
     }

@@ -36,7 +36,7 @@ impl Meaning<'_> {
                 Ok(Seen::LocalConst(term.copy(alloc)?, value.copy(alloc)?))
             }
             Meaning::Object(entity) => Ok(Seen::Object(entity.copy(alloc)?)),
-            Meaning::Import(path) => Ok(Seen::Import(Text::of(alloc, path.bytes())?)),
+            Meaning::Import(path) => Ok(Seen::Import(path.copy()?)),
             Meaning::Universe(predeclared) => Ok(Seen::Universe(predeclared)),
         }
     }

@@ -3,20 +3,19 @@ use denote.Param.Send.{sendable}
 use Rattle.std.specs.Thread.{IsSend, IsSync}
 use Rattle.go_base.proofs.shared.Shared.TheSendSync as shares
 use Rattle.go_base.proofs.text.Text.TheSendSync as text
-use Rattle.go_base.specs.contracts.text.Text as text_row
 use Rattle.go_imports.specs.contracts.outline.Outline as outline
 use Rattle.go_imports.specs.contracts.outline.Outlined as outlined
 use Rattle.go_sendable.proofs.Files.{file_field_send, file_field_sync}
 
 outlined_send : IsSend outlined.the_row
 outlined_send =
-    let t = shares.the_send text_row.the_row text.the_send text.the_sync in
+    let t = text.the_send in
     let f = file_field_send in
     search sendable depth 20
 
 outlined_sync : IsSync outlined.the_row
 outlined_sync =
-    let t = shares.the_sync text_row.the_row text.the_send text.the_sync in
+    let t = text.the_sync in
     let f = file_field_sync in
     search sendable depth 20
 

@@ -23,15 +23,15 @@ pub enum Expr {
     Literal(Literal),
     Name(Name),
     /// The body, whose statements stand outside of this tree.
-    FuncLit(Signature, BodyRange),
-    Composite(Type, List<Element>),
+    FuncLit(Box<Signature>, BodyRange),
+    Composite(Box<Type>, List<Element>),
     /// The element type of `[...]T`, and the elements.
-    CompositeArray(Type, List<Element>),
+    CompositeArray(Box<Type>, List<Element>),
     /// A type literal.
-    Type(Type),
+    Type(Box<Type>),
     Paren(Box<Expr>),
     /// The element type of `(<-chan T)`, the one type in parentheses that no expression begins.
-    ParenReceiveChan(Type),
+    ParenReceiveChan(Box<Type>),
 }
 
 /// What follows an operand.
@@ -39,14 +39,14 @@ pub enum Expr {
 #[derive(Drop)]
 pub enum Post {
     Selector(Name),
-    TypeAssertion(Type),
-    Index(Expr),
-    Slice(Option<Expr>, Option<Expr>),
-    FullSlice(Option<Expr>, Expr, Expr),
+    TypeAssertion(Box<Type>),
+    Index(Box<Expr>),
+    Slice(Option<Box<Expr>>, Option<Box<Expr>>),
+    FullSlice(Option<Box<Expr>>, Box<Expr>, Box<Expr>),
     /// The arguments, and whether `...` follows them.
     Call(List<Expr>, bool),
     /// A call whose first argument is `<-chan T`, with the element type and the other arguments.
-    CallReceiveChan(Type, List<Expr>, bool),
+    CallReceiveChan(Box<Type>, List<Expr>, bool),
 }
 
 /// A literal of one token.

@@ -14,7 +14,6 @@ use crate::parts::parts_of;
 use go_base::boxed::Box;
 use go_base::list::List;
 use go_base::memory::NoMemory;
-use go_base::text::Text;
 use go_model::files::build::{Constraint, ConstraintPart};
 use std::alloc::Global;
 
@@ -80,7 +79,7 @@ impl<F: Fn(Global, &mut Cursor<'_>, usize) -> Result<Constraint, TagError>> Gram
         match parts.peek() {
             Some(ConstraintPart::Tag(name)) => {
                 parts.advance();
-                Ok(Constraint::Tag(Text::of(self.alloc, name.bytes())?))
+                Ok(Constraint::Tag(name.copy()?))
             }
             Some(ConstraintPart::Open) => {
                 parts.advance();

@@ -22,7 +22,7 @@ pub struct TakenUnits<'a> {
 fn numbers_of(alloc: Global, units: &[Unit]) -> Result<BTreeMap<Text, usize>, NoMemory> {
     let mut numbers = BTreeMap::new(alloc);
     for (number, unit) in units.iter().enumerate() {
-        let path = Text::of(alloc, unit.path.bytes())?;
+        let path = unit.path.copy()?;
         numbers.insert(path, number)?;
     }
     Ok(numbers)
@@ -75,7 +75,7 @@ impl<'a> TakenUnits<'a> {
                 if !takes_over(self.earlier, &self.taken, unit, number) {
                     return Ok(None);
                 }
-                self.taken.insert(Text::of(alloc, unit.path.bytes())?)?;
+                self.taken.insert(unit.path.copy()?)?;
                 Ok(Some(number))
             }
         }

@@ -70,7 +70,7 @@ pub fn head_of(alloc: Global, platform: Platform, file: &TreeFile) -> Result<Hea
     if !chosen(platform, file.name.bytes(), None) {
         return Ok(Head::LeftOut);
     }
-    match header(alloc, file.bytes.value().bytes()) {
+    match header(alloc, file.bytes.bytes()) {
         Err(error) => of_error(platform, file, error),
         Ok(header) => Ok(of_header(platform, file, header)),
     }
@@ -121,7 +121,7 @@ pub(crate) fn package_name(
 {
     match first_name(files) {
         None => Ok(None),
-        Some(name) => Ok(Some(Text::of(alloc, name.bytes())?)),
+        Some(name) => Ok(Some(name.copy()?)),
     }
 }
 

@@ -12,7 +12,6 @@ use crate::heads::{Head, HeadedFile};
 use crate::outlines::outline_of;
 use go_base::list::List;
 use go_base::memory::NoMemory;
-use go_base::shared::Shared;
 use go_base::text::Text;
 use go_imports::outline::Outline;
 use go_imports::package_files::SourceFile;
@@ -34,13 +33,13 @@ fn known_or_parsed(
     alloc: Global,
     known: &KnownOutlines,
     path: &Text,
-    bytes: &Shared<Text>,
+    bytes: &Text,
 ) -> Result<Outline, SourceError>
     requires { length bytes.now ≤ 4194304 }
     ensures ok { IfOk result (IsOutlineOf bytes.now) }
     ensures cause { IfErr result (Causes (HasBadText bytes.now)) }
 {
-    match known.find(path, bytes.value().bytes()) {
+    match known.find(path, bytes.bytes()) {
         Err(_) => Err(SourceError::NoMemory),
         Ok(Some(outline)) => Ok(outline),
         Ok(None) => outline_of(alloc, bytes),

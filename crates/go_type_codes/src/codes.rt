@@ -236,5 +236,5 @@ pub fn type_code(alloc: Global, term: &Term) -> Result<Text, NoMemory>
 {
     let mut out = Vec::new(alloc);
     put_term(&mut out, term)?;
-    Ok(Text::from_vec(out))
+    Text::from_vec(alloc, out)
 }

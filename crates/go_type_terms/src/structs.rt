@@ -30,7 +30,7 @@ fn tag_of(alloc: Global, tag: &Option<Text>) -> Result<Text, NoMemory>
     ensures { IfOk result (λ text. text ≡ tag_of tag.now) }
 {
     match tag {
-        Some(text) => Text::of(alloc, text.bytes()),
+        Some(text) => text.copy(),
         None => Text::of(alloc, b""),
     }
 }

@@ -18,7 +18,7 @@ use std::alloc::Global;
 fn mixed_names(alloc: Global, folder: &Folder) -> UnitError
     ensures { IsMixed folder.now result }
 {
-    match Text::of(alloc, folder.path.bytes()) {
+    match folder.path.copy() {
         Err(_) => UnitError::NoMemory,
         Ok(path) => UnitError::MixedNames(path),
     }
@@ -28,7 +28,7 @@ fn mixed_names(alloc: Global, folder: &Folder) -> UnitError
 pub(crate) fn refused(alloc: Global, folder: &Folder, file: Text, fault: FileFault) -> UnitError
     ensures { IsRefused folder.now file fault result }
 {
-    match Text::of(alloc, folder.path.bytes()) {
+    match folder.path.copy() {
         Err(_) => UnitError::NoMemory,
         Ok(path) => UnitError::File(FileAt { path, file }, fault),
     }
@@ -37,7 +37,7 @@ pub(crate) fn refused(alloc: Global, folder: &Folder, file: Text, fault: FileFau
 fn internal_in(alloc: Global, folder: &Folder, file: Text, place: u32) -> UnitError
     ensures { IsInternal folder.now file place result }
 {
-    match Text::of(alloc, folder.path.bytes()) {
+    match folder.path.copy() {
         Err(_) => UnitError::NoMemory,
         Ok(path) => UnitError::InternalUse(FileAt { path, file }, place),
     }

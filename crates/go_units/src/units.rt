@@ -17,14 +17,13 @@ use crate::unit_graph::{needs, packages_in};
 use crate::unit_list::Units;
 use go_base::list::List;
 use go_base::memory::NoMemory;
-use go_base::text::Text;
 use go_imports::order::{OrderError, canonical_order};
 use std::alloc::Global;
 
 fn cycle(alloc: Global, folder: &Folder) -> UnitError
     ensures { IsCycleOf folder.now result }
 {
-    match Text::of(alloc, folder.path.bytes()) {
+    match folder.path.copy() {
         Err(_) => UnitError::NoMemory,
         Ok(path) => UnitError::Cycle(path),
     }

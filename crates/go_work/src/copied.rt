@@ -12,7 +12,7 @@ fn copied_names(alloc: Global, names: &[Text]) -> Result<List<Text>, NoMemory>
 {
     let mut copied = List::with_room(alloc, names.len())?;
     for name in names {
-        copied.push(Text::of(alloc, name.bytes())?)?;
+        copied.push(name.copy()?)?;
     }
     Ok(copied)
 }
@@ -24,7 +24,7 @@ fn copied_cause(alloc: Global, cause: &Cause) -> Result<Cause, NoMemory>
         Cause::Number => Ok(Cause::Number),
         Cause::ConstantType => Ok(Cause::ConstantType),
         Cause::ImportNotFound => Ok(Cause::ImportNotFound),
-        Cause::By(name) => Ok(Cause::By(Text::of(alloc, name.bytes())?)),
+        Cause::By(name) => Ok(Cause::By(name.copy()?)),
     }
 }
 

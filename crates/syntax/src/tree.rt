@@ -201,22 +201,22 @@ pub fn push_expr(alloc: Global, out: &mut Vec<u8>, expr: &Expr) -> Result<(), Al
         Expr::Name(name) => push_name(alloc, out, name),
         Expr::FuncLit(signature, body) => {
             push_word(out, " (function")?;
-            push_signature(alloc, out, signature)?;
+            push_signature(alloc, out, signature.value())?;
             push_body(alloc, out, body)?;
             push_word(out, ")")
         }
         Expr::Composite(type_, elements) => {
             push_word(out, " (composite")?;
-            push_type(alloc, out, type_)?;
+            push_type(alloc, out, type_.value())?;
             push_elements(alloc, out, elements.items())
         }
         Expr::CompositeArray(type_, elements) => {
             push_word(out, " (composite-array")?;
-            push_type(alloc, out, type_)?;
+            push_type(alloc, out, type_.value())?;
             push_elements(alloc, out, elements.items())
         }
-        Expr::Type(type_) => push_labelled(alloc, out, " (type", type_),
-        Expr::ParenReceiveChan(type_) => push_labelled(alloc, out, " (paren-receive", type_),
+        Expr::Type(type_) => push_labelled(alloc, out, " (type", type_.value()),
+        Expr::ParenReceiveChan(type_) => push_labelled(alloc, out, " (paren-receive", type_.value()),
     }
 }
 
@@ -233,10 +233,10 @@ pub fn push_exprs(alloc: Global, out: &mut Vec<u8>, exprs: &[Expr]) -> Result<()
 fn push_optional_expr(
     alloc: Global,
     out: &mut Vec<u8>,
-    expr: &Option<Expr>,
+    expr: &Option<Box<Expr>>,
 ) -> Result<(), AllocError> {
     match expr {
-        Some(expr) => push_expr(alloc, out, expr),
+        Some(expr) => push_expr(alloc, out, expr.value()),
         None => push_word(out, " -"),
     }
 }
@@ -271,11 +271,11 @@ fn push_post(alloc: Global, out: &mut Vec<u8>, post: &Post) -> Result<(), AllocE
         }
         Post::TypeAssertion(type_) => {
             push_word(out, " (assertion")?;
-            push_type(alloc, out, type_)?;
+            push_type(alloc, out, type_.value())?;
         }
         Post::Index(index) => {
             push_word(out, " (index")?;
-            push_expr(alloc, out, index)?;
+            push_expr(alloc, out, index.value())?;
         }
         Post::Slice(low, high) => {
             push_word(out, " (slice")?;
@@ -285,8 +285,8 @@ fn push_post(alloc: Global, out: &mut Vec<u8>, post: &Post) -> Result<(), AllocE
         Post::FullSlice(low, high, bound) => {
             push_word(out, " (slice")?;
             push_optional_expr(alloc, out, low)?;
-            push_expr(alloc, out, high)?;
-            push_expr(alloc, out, bound)?;
+            push_expr(alloc, out, high.value())?;
+            push_expr(alloc, out, bound.value())?;
         }
         Post::Call(arguments, variadic) => {
             push_word(
@@ -308,7 +308,7 @@ fn push_post(alloc: Global, out: &mut Vec<u8>, post: &Post) -> Result<(), AllocE
                     " (call"
                 },
             )?;
-            push_labelled(alloc, out, " (receive", type_)?;
+            push_labelled(alloc, out, " (receive", type_.value())?;
             push_exprs(alloc, out, arguments.items())?;
         }
     }

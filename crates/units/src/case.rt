@@ -47,8 +47,8 @@ impl Case {
         let bytes = std::mem::replace(&mut self.bytes, Vec::new(alloc));
         self.pairs
             .push(FilePair {
-                path: Text::from_vec(path),
-                bytes: Text::from_vec(bytes),
+                path: Text::from_vec(alloc, path).map_err(out_of_memory)?,
+                bytes: Text::from_vec(alloc, bytes).map_err(out_of_memory)?,
             })
             .map_err(out_of_memory)
     }

@@ -64,7 +64,7 @@ fn error_name(alloc: Global) -> Result<TypeName, Refusal> {
 /// The bytes with these hexadecimal digits.
 pub fn bytes(alloc: Global, digits: &str) -> Result<Text, Refusal> {
     match hex::decode(alloc, digits) {
-        Ok(bytes) => Ok(Text::from_vec(bytes)),
+        Ok(bytes) => Ok(Text::from_vec(alloc, bytes)?),
         Err(FromHexError::OutOfMemory) => Err(Refusal::NoMemory),
         Err(_) => Err(Refusal::WrongLine),
     }

@@ -18,9 +18,17 @@ fn numbers(alloc: Global) -> Result<List<u64>, NoMemory> {
 fn holds_what_it_is_given(rt: HostRuntime) -> Result<(), Fail> {
     let alloc = rt.alloc();
     let text = Text::of(alloc, b"abc")?;
-    assert!(rt; text == Text::from_vec(Vec::from_slice(alloc, b"abc")?));
+    assert!(rt; text == Text::from_vec(alloc, Vec::from_slice(alloc, b"abc")?)?);
     assert!(rt; text < Text::of(alloc, b"abcd")?);
-    assert_eq!(rt; text.into_vec()?.as_slice(), b"abc".as_slice());
+    assert_eq!(rt; text.copy()?.bytes(), b"abc".as_slice());
+    let long = b"a text that is longer than fourteen bytes";
+    for text in [
+        Text::of(alloc, long)?,
+        Text::from_vec(alloc, Vec::from_slice(alloc, long)?)?,
+    ] {
+        assert_eq!(rt; text.bytes(), long.as_slice());
+        assert!(rt; text.copy()? == text);
+    }
     let boxed = Box::new(alloc, 7u32)?;
     assert_eq!(rt; *boxed.value(), 7);
     assert_eq!(rt; boxed.into_value(), 7);

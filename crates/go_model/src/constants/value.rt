@@ -86,7 +86,7 @@ impl Value {
     {
         match self {
             Value::Int(number) => Ok(Value::Int(*number)),
-            Value::Str(text) => Ok(Value::Str(Text::of(alloc, text.bytes())?)),
+            Value::Str(text) => Ok(Value::Str(text.copy()?)),
             Value::Truth(truth) => Ok(Value::Truth(*truth)),
         }
     }

@@ -1,6 +1,5 @@
 //! Trees of Go files as they were read, and the limits that a tree keeps.
 use go_base::list::List;
-use go_base::shared::Shared;
 use go_base::text::Text;
 
 /// A limit on what is read of one tree.
@@ -42,7 +41,7 @@ pub struct TreeFile {
     /// Its name in the folder.
     pub name: Text,
     /// What it holds: at most [`MOST_FILE_BYTES`]. An outline of the file owns it too.
-    pub bytes: Shared<Text>,
+    pub bytes: Text,
 }
 
 /// A tree of Go files, ordered by folder and then by name.

@@ -13,7 +13,7 @@ use std::alloc::Global;
 fn copy_text(alloc: Global, text: &Text) -> Result<Text, NoMemory>
     ensures { IfOk result (λ copied. copied ≡ text.now) }
 {
-    Text::of(alloc, text.bytes())
+    text.copy()
 }
 
 impl TypeName {

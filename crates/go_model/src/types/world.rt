@@ -92,7 +92,7 @@ impl World {
         if !public {
             return insert_package(&mut self.packages, package);
         }
-        let path = Text::of(self.alloc, package.path.bytes())?;
+        let path = package.path.copy()?;
         self.public.reserve(1)?;
         insert_package(&mut self.packages, package)?;
         insert_text(&mut self.public, path)

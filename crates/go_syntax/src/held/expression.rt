@@ -1,8 +1,11 @@
 //! Expressions and their parts in the making.
 ghost use Rattle.std.specs.Prelude.{◌≡◌, ◌++◌, ◌∷◌, [], IfOk, OnErr, OnOk, length};
+ghost use Rattle.go_syntax.specs.declared.expression.Expr.TheVariants as expr;
+ghost use Rattle.go_syntax.specs.declared.expression.Post.TheVariants as post;
 
 use crate::expression::{Element, ElementValue, Expr, Post};
 use crate::held::whole::Whole;
+use crate::types::Type;
 use go_base::boxed::Box;
 use go_base::list::List;
 use go_base::memory::NoMemory;
@@ -272,4 +275,69 @@ pub fn boxed_expr(alloc: Global, tree: Expr) -> Result<Box<Expr>, NoMemory>
     ensures { IfOk result (λ b. b ≡ tree) }
 {
     Box::new(alloc, tree)
+}
+
+/// A box of an expression that may be missing. One that found no room is given up.
+fn boxed_optional(alloc: Global, tree: Option<HeldExpr>) -> Result<Option<Box<Expr>>, NoMemory>
+    ensures { IfOk result (λ b. b ≡ tree) }
+{
+    match tree {
+        None => Ok(None),
+        Some(tree) => Ok(Some(Box::new(alloc, tree.take())?)),
+    }
+}
+
+/// A type literal as an expression. One that found no room is given up.
+pub fn type_expr(alloc: Global, type_: Type) -> Result<Expr, NoMemory>
+    ensures { IfOk result (λ x. x ≡ expr.«Expr::Type» type_) }
+{
+    Ok(Expr::Type(Box::new(alloc, type_)?))
+}
+
+/// A composite literal of this type and these elements, which are given up where memory is wanting.
+pub fn composite(alloc: Global, type_: Type, elements: List<Element>) -> Result<Expr, NoMemory>
+    ensures { IfOk result (λ x. x ≡ expr.Composite type_ elements) }
+{
+    let type_ = Box::new(alloc, type_)?;
+    Ok(Expr::Composite(type_, elements))
+}
+
+/// The same of an array whose length its elements tell.
+pub fn composite_array(
+    alloc: Global,
+    element: Type,
+    elements: List<Element>,
+) -> Result<Expr, NoMemory>
+    ensures { IfOk result (λ x. x ≡ expr.CompositeArray element elements) }
+{
+    let element = Box::new(alloc, element)?;
+    Ok(Expr::CompositeArray(element, elements))
+}
+
+/// A slice with these bounds, which are given up where memory is wanting.
+pub fn slice_post(
+    alloc: Global,
+    low: Option<HeldExpr>,
+    high: Option<HeldExpr>,
+) -> Result<Post, NoMemory>
+    ensures { IfOk result (λ p. p ≡ post.«Post::Slice» low high) }
+{
+    let low = boxed_optional(alloc, low)?;
+    let high = boxed_optional(alloc, high)?;
+    Ok(Post::Slice(low, high))
+}
+
+/// The same of a slice with three bounds, of which the first may be missing.
+pub fn full_slice_post(
+    alloc: Global,
+    low: Option<HeldExpr>,
+    high: HeldExpr,
+    max: HeldExpr,
+) -> Result<Post, NoMemory>
+    ensures { IfOk result (λ p. p ≡ post.FullSlice low high max) }
+{
+    let low = boxed_optional(alloc, low)?;
+    let high = Box::new(alloc, high.take())?;
+    let max = Box::new(alloc, max.take())?;
+    Ok(Post::FullSlice(low, high, max))
 }

@@ -13,4 +13,4 @@ pub returns-then-has_field : goal.returns-then-has_field
 returns-then-has_field c = field_kept c.args.after.now c.args.field.now c.args.losses.now.items (subst (λ b. Decides b (HasField c.args.after.now (field_sel c.args.field.now))) c.if-has_field.true c.has_field.ensures)
 
 pub returns : goal.returns
-returns c = field_lost c.args.after.now c.args.field.now c.args.losses.now.items c.push.new.self.items c.in_ok-name.name (subst (λ b. Decides b (IsExported (field_sel c.args.field.now))) c.if-not-is_exported.false c.is_exported.ensures) (subst (λ b. Decides b (HasField c.args.after.now (field_sel c.args.field.now))) c.if-has_field.false c.has_field.ensures) (c.in_ok-name.ensures ∙ c.bytes.ensures) c.in_ok-push.ensures.items
+returns c = field_lost c.args.after.now c.args.field.now c.args.losses.now.items c.push.new.self.items c.in_ok-name.name (subst (λ b. Decides b (IsExported (field_sel c.args.field.now))) c.if-not-is_exported.false c.is_exported.ensures) (subst (λ b. Decides b (HasField c.args.after.now (field_sel c.args.field.now))) c.if-has_field.false c.has_field.ensures) c.in_ok-name.ensures c.in_ok-push.ensures.items

@@ -4,7 +4,7 @@ use Rattle.api_refusals.proofs.places.bytes_at.Goals as goal
 
 pub returns-then-is_at : goal.returns-then-is_at
 returns-then-is_at c =
-    c.bytes.ensures ∙ c.value.ensures
+    c.bytes.ensures
     ∙ sym (bytes_here c.args.files.now c.loop-file.file-index c.file-item.result c.args.path.now c.loop-file-test.true c.file-item.is (sym c.is_at.ensures ∙ c.if-is_at.true))
     ∙ c.loop-file.invariant
 

@@ -8,7 +8,7 @@ use Rattle.go_client_units.proofs.units.name_of.Goals as goal
 
 pub returns : goal.returns
 returns c =
-    if_ok_as (λ (text : List ℕ). text ≡ c.bytes.result.now) (UnitFilesAreNamed c.args.files.now)
+    if_ok_as (λ (text : List ℕ). text ≡ c.value.result.now.«package».text) (UnitFilesAreNamed c.args.files.now)
     (λ text e f h. c.requires.alike f c.index-files-0.result h (has_item c.args.files.now 0 c.index-files-0.result c.requires.some c.index-files-0.is) ∙ ap (λ (g : UnitFile). g.outline.«package».text) c.index-files-0.is
-    ∙ sym (c.bytes.ensures ∙ ap (λ (o : File). o.«package».text) c.value.ensures) ∙ sym e)
-    c.of.result c.of.ensures
+    ∙ sym (ap (λ (o : File). o.«package».text) c.value.ensures) ∙ sym e)
+    c.copy.result c.copy.ensures

@@ -8,4 +8,4 @@ pub loop-name-preserved : goal.loop-name-preserved
 loop-name-preserved c =
     grows_next (λ (n : Name) (x : List ℕ). n.text ≡ x) c.args.names.now c.loop-name.name-index c.name-item.result _ c.loop-name.set.keys c.add_text.new.set.keys
     c.loop-name-test.true c.name-item.is c.loop-name.invariant
-    (subst (λ (t : List ℕ). Grows (λ x. t ≡ x) c.loop-name.set.keys c.add_text.new.set.keys) (c.in_ok-of.ensures ∙ c.bytes.ensures) c.in_ok-add_text.ensures)
+    (subst (λ (t : List ℕ). Grows (λ x. t ≡ x) c.loop-name.set.keys c.add_text.new.set.keys) c.in_ok-copy.ensures c.in_ok-add_text.ensures)

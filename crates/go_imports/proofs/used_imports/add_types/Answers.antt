@@ -8,7 +8,7 @@ pub loop-spec-preserved : goal.loop-spec-preserved
 loop-spec-preserved c =
     grows_next IsTypeName c.args.specs.now c.loop-spec.spec-index c.spec-item.result _ c.loop-spec.set.keys c.add_text.new.set.keys
     c.loop-spec-test.true c.spec-item.is c.loop-spec.invariant
-    (subst (λ (t : List ℕ). Grows (λ x. t ≡ x) c.loop-spec.set.keys c.add_text.new.set.keys) (c.in_ok-of.ensures ∙ c.bytes.ensures) c.in_ok-add_text.ensures)
+    (subst (λ (t : List ℕ). Grows (λ x. t ≡ x) c.loop-spec.set.keys c.add_text.new.set.keys) c.in_ok-copy.ensures c.in_ok-add_text.ensures)
 
 pub returns : goal.returns
 returns c = grows_whole IsTypeName c.args.specs.now c.loop-spec.spec-index c.args.set.now.keys c.loop-spec.set.keys (omega arith) c.loop-spec.invariant

@@ -20,7 +20,7 @@ loop-unit-preserved c =
     let level = c.level_above-level.result in
     let own : HaveOwnPaths (map source_of all) = subst (λ (us : List PackageUnit). HaveOwnPaths (map source_of us)) (sym c.items-all.ensures) (own_paths c.args.units.now) in
     let within : level ≤ i = (let w = c.level_above-level.ensures.within in let k = c.loop-unit.invariant.count in omega (arith, w, k)) in
-    let now : c.put.new.self ≡ with_value known u.path level = c.in_ok-put.ensures ∙ ap (λ (path : List ℕ). with_value known path level) (c.in_ok-of.ensures ∙ c.bytes.ensures) in
+    let now : c.put.new.self ≡ with_value known u.path level = c.in_ok-put.ensures ∙ ap (λ (path : List ℕ). with_value known path level) c.in_ok-copy.ensures in
     let more : c.push.new.self ≡ levels ++ level ∷ [] = c.in_ok-push.ensures.ok in
     record {
       have =

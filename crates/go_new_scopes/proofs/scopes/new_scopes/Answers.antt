@@ -12,4 +12,4 @@ returns c =
     let ds = declarations_of c.args.tables.now.declarations.now in
     kept_at_first s u c.args.tables.now.names.now c.args.tables.now.methods.now ds c.await_methods.new.env c.requires.listed c.requires.tables.names c.requires.tables.methods
     (made_in_turn s u c.args.tables.now.names.now c.args.tables.now.methods.now ds c.in_ok-path.path (map file_of c.items.result.now) c.new-env.result c.add_files.new.env c.announce.new.env c.declare_types.new.env c.await_methods.new.env
-    (c.in_ok-path.ensures ∙ c.bytes.ensures) (ap (map file_of) c.items.ensures) c.new-env.ensures c.in_ok-add_files.ensures c.in_ok-announce.ensures c.in_ok-declare_types.ensures c.in_ok-await_methods.ensures)
+    c.in_ok-path.ensures (ap (map file_of) c.items.ensures) c.new-env.ensures c.in_ok-add_files.ensures c.in_ok-announce.ensures c.in_ok-declare_types.ensures c.in_ok-await_methods.ensures)

@@ -18,8 +18,8 @@ returns c = λ s within t.
     let a = entries_at c.args.had.now in
     let names = names_listed c.in_ok-listed.listed ∙ ap names_in c.in_ok-listed.ensures.entries in
     package_of s u within a t c.args.tables.now.names.now (subst (λ (xs : List Declaration). AreDeclared xs c.args.tables.now.names.now) c.requires.listed c.requires.tables.names) c.in_ok-listed.ensures.ordered
-    c.in_ok-of.field-0 c.in_ok-of-2.field-0 c.in_ok-shared_objects.shared_objects c.in_ok-shared_defined.shared_defined
-    (c.in_ok-of.ensures ∙ c.bytes.ensures) (c.in_ok-of-2.ensures ∙ c.bytes-2.ensures)
+    c.in_ok-copy.field-0 c.in_ok-copy-2.field-0 c.in_ok-shared_objects.shared_objects c.in_ok-shared_defined.shared_defined
+    c.in_ok-copy.ensures c.in_ok-copy-2.ensures
     (c.in_ok-shared_objects.ensures
     ∙ c.in_ok-objects.ensures
     ∙ ap (λ (xs : List Declaration). objects_named (denoted u.path a xs) (texts_of c.items.result.now)) c.requires.listed

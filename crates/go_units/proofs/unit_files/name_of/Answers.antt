@@ -8,6 +8,6 @@ use Rattle.go_units.proofs.unit_files.name_of.Goals as goal
 
 pub returns : goal.returns
 returns c =
-    if_ok_as (λ (text : List ℕ). text ≡ c.bytes.result.now) (PackageFilesAreNamed c.args.files.now)
-    (λ text e f h. c.requires.alike f c.index-files-0.result h (has_item c.args.files.now 0 c.index-files-0.result c.requires.some c.index-files-0.is) ∙ ap (λ (g : PackageFile). g.outline.«package».text) c.index-files-0.is ∙ sym (c.bytes.ensures ∙ ap (λ (g : File). g.«package».text) c.value.ensures) ∙ sym e)
-    c.of.result c.of.ensures
+    if_ok_as (λ (text : List ℕ). text ≡ c.value.result.now.«package».text) (PackageFilesAreNamed c.args.files.now)
+    (λ text e f h. c.requires.alike f c.index-files-0.result h (has_item c.args.files.now 0 c.index-files-0.result c.requires.some c.index-files-0.is) ∙ ap (λ (g : PackageFile). g.outline.«package».text) c.index-files-0.is ∙ sym (ap (λ (g : File). g.«package».text) c.value.ensures) ∙ sym e)
+    c.copy.result c.copy.ensures

@@ -6,4 +6,4 @@ use Rattle.api_lines.proofs.texts.Texts.of.Goals as goal
 pub loop-text-preserved : goal.loop-text-preserved
 loop-text-preserved c =
     grows_member c.args.all.now c.loop-text.text-index c.text-item.result [] c.loop-text.texts c.add.new.self c.loop-text-test.true c.text-item.is c.loop-text.invariant
-    (subst (λ (w : List ℕ). Grows (λ t. w ≡ t) c.loop-text.texts c.add.new.self) (c.in_ok-of.ensures ∙ c.bytes.ensures) c.in_ok-add.ensures)
+    (subst (λ (w : List ℕ). Grows (λ t. w ≡ t) c.loop-text.texts c.add.new.self) (c.in_ok-copy.ensures) c.in_ok-add.ensures)

@@ -18,9 +18,9 @@ returns-in-None-clause-told c = tells c.args.pairs c.in_ok-pairs.pairs.items c.i
 pub returns-in-None-clause-clear : goal.returns-in-None-clause-clear
 returns-in-None-clause-clear c = clear_sorted c.args.pairs c.in_ok-pairs.pairs.items c.in_ok-pairs.ensures.permutation (clear c)
 
-pub returns-in_ok-of-in-Some-clause-clash : goal.returns-in_ok-of-in-Some-clause-clash
-returns-in_ok-of-in-Some-clause-clash c =
+pub returns-in_ok-copy-in-Some-clause-clash : goal.returns-in_ok-copy-in-Some-clause-clash
+returns-in_ok-copy-in-Some-clause-clash c =
     let found : IsFirstClash c.in_ok-pairs.pairs.items (Some c.in-Some.at) =
     subst (λ (xs : List FilePair). IsFirstClash xs (Some c.in-Some.at)) c.deref.ensures.value (subst (IsFirstClash c.deref.result.now) c.in-Some.is c.in_ok-first_clash.ensures) in
-    subst (IsLeastClash c.args.pairs) (sym (c.in_ok-of-in-Some.ensures ∙ c.bytes.ensures ∙ ap (λ (w : FilePair). w.path) c.index.ensures))
+    subst (IsLeastClash c.args.pairs) (sym (c.in_ok-copy-in-Some.ensures ∙ ap (λ (w : FilePair). w.path) c.index.ensures))
     (least_sorted c.args.pairs c.in_ok-pairs.pairs.items c.in_ok-pairs.ensures.permutation c.in-Some.at c.index.result.now c.in_ok-pairs.ensures.sorted found.0 (found.1 c.index.result.now) found.2)

@@ -11,4 +11,4 @@ invariant_of-self-in_err-insert_package c = same_world c.self.inside.packages.it
 pub invariant_of-self-2 : goal.invariant_of-self-2
 invariant_of-self-2 c =
     let room : vec_len c.reserve.new.self < vec_capacity c.reserve.new.self = omega (arith, c.in_ok-reserve.ensures.ok) in
-    public_added c.self.inside.packages.items c.self.inside.public.items c.args.self.now c.self.view_is c.args.package c.args.public c.requires c.insert_package-2.new.packages.items c.insert_text.new.texts.items c.reserve.new.self.items c.in_ok-path.path c.insert_text.result c.if-not-public.false c.in_ok-insert_package.ensures.ok c.reserve.ensures.items (c.in_ok-path.ensures ∙ c.bytes.ensures) (c.insert_text.ensures.room room) c.insert_text.ensures.ok
+    public_added c.self.inside.packages.items c.self.inside.public.items c.args.self.now c.self.view_is c.args.package c.args.public c.requires c.insert_package-2.new.packages.items c.insert_text.new.texts.items c.reserve.new.self.items c.in_ok-path.path c.insert_text.result c.if-not-public.false c.in_ok-insert_package.ensures.ok c.reserve.ensures.items c.in_ok-path.ensures (c.insert_text.ensures.room room) c.insert_text.ensures.ok
