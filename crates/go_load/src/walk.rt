@@ -18,7 +18,6 @@ use crate::names::{folder_path, is_candidate, is_walked, under};
 use crate::reads::{list, read};
 use go_base::list::List;
 use go_base::memory::NoMemory;
-use go_base::shared::Shared;
 use go_base::text::Text;
 use go_model::files::tree::{LimitName, TreeFile};
 use go_outside::files::{Entry, EntryKind, Files};
@@ -255,7 +254,6 @@ fn add_file(
     ensures { OnOk result (files.new ≡ files.old ++ (record { folder = folder.now; name = name; bytes = bytes }) ∷ []) }
 {
     let folder = Text::of(alloc, folder)?;
-    let bytes = Shared::new(alloc, bytes)?;
     files.push(TreeFile {
         folder,
         name,
