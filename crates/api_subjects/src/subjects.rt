@@ -90,7 +90,8 @@ fn type_change(alloc: Global, before: &Term, after: &Term) -> Result<Text, NoMem
     push_type(&mut out, before)?;
     out.extend_from_slice(b" to ")?;
     push_type(&mut out, after)?;
-    Text::from_vec(alloc, out)
+    let change = Text::from_vec(alloc, out)?;
+    Ok(change)
 }
 
 // A method by its name, behind the path of its package where it isn't exported.

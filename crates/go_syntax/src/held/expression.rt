@@ -289,7 +289,7 @@ fn boxed_optional(alloc: Global, tree: Option<HeldExpr>) -> Result<Option<Box<Ex
 
 /// A type literal as an expression. One that found no room is given up.
 pub fn type_expr(alloc: Global, type_: Type) -> Result<Expr, NoMemory>
-    ensures { IfOk result (λ x. x ≡ expr.«Expr::Type» type_) }
+    ensures { IfOk result (λ x. x ≡ expr.Type type_) }
 {
     Ok(Expr::Type(Box::new(alloc, type_)?))
 }
@@ -320,7 +320,7 @@ pub fn slice_post(
     low: Option<HeldExpr>,
     high: Option<HeldExpr>,
 ) -> Result<Post, NoMemory>
-    ensures { IfOk result (λ p. p ≡ post.«Post::Slice» low high) }
+    ensures { IfOk result (λ p. p ≡ post.Slice low high) }
 {
     let low = boxed_optional(alloc, low)?;
     let high = boxed_optional(alloc, high)?;

@@ -6,5 +6,5 @@ use Rattle.api_subjects.proofs.subjects.type_change.Goals as goal
 
 pub returns : goal.returns
 returns c =
-    type_changed c.args.before.now c.args.after.now c.push_type.new.out.items c.extend_from_slice.new.self.items c.from_vec.result
-    (c.in_ok-push_type.ensures ∙ ap (λ (w : List ℕ). w ++ type_text quoted c.args.before.now) c.new-out.ensures.items) c.in_ok-extend_from_slice.ensures.items (c.from_vec.ensures ∙ c.in_ok-push_type-2.ensures)
+    type_changed c.args.before.now c.args.after.now c.push_type.new.out.items c.extend_from_slice.new.self.items c.in_ok-change.change
+    (c.in_ok-push_type.ensures ∙ ap (λ (w : List ℕ). w ++ type_text quoted c.args.before.now) c.new-out.ensures.items) c.in_ok-extend_from_slice.ensures.items (c.in_ok-change.ensures ∙ c.in_ok-push_type-2.ensures)

@@ -8,14 +8,14 @@ use Rattle.go_load.proofs.walk.walk.Goals as goal
 
 pub loop-init : goal.loop-init
 loop-init g c =
-    let empty = c.from_vec.ensures ∙ c.new-3.ensures.items in
-    let grows = subst (λ (ks : List Path). Grows (λ x. c.from_vec.result ≡ x) ks c.insert.new.set.keys) c.new-pending.ensures.empty c.in_default.ensures in
+    let none = c.empty.ensures in
+    let grows = subst (λ (ks : List Path). Grows (λ x. c.empty.result ≡ x) ks c.insert.new.set.keys) c.new-pending.ensures.empty c.in_default.ensures in
     record {
       later = omega arith;
       same = refl;
-      state = first_state (g.F.Files.told c.args.files.now) c.args.kind c.args.root.now c.insert.new.set.keys (record { files = c.new.result; counts = c.new-2.result }) c.from_vec.result empty grows c.new.ensures c.new-2.ensures;
+      state = first_state (g.F.Files.told c.args.files.now) c.args.kind c.args.root.now c.insert.new.set.keys (record { files = c.new.result; counts = c.new-2.result }) c.empty.result none grows c.new.ensures c.new-2.ensures;
       kept = kept_first (record { files = c.new.result; counts = c.new-2.result }) c.new.ensures c.new-2.ensures;
-      placed = placed_first c.insert.new.set.keys c.from_vec.result empty grows;
+      placed = placed_first c.insert.new.set.keys c.empty.result none grows;
     }
 
 pub returns-in-None-clause-told : goal.returns-in-None-clause-told
