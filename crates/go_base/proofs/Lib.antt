@@ -1,3 +1,4 @@
+pub mod FilledUp
 pub mod Fronts
 pub mod Lists
 pub mod Members

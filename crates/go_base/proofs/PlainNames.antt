@@ -1,5 +1,5 @@
 -- The letters and digits of ASCII, which names and tags may have.
-use Rattle.std.proofs.Common.{◌≡◌, ◌<◌, ℕ, zero, suc, Bool, true, false, ◌&&◌, ◌||◌, ◌==◌, not, List, ◌++◌, drop, inl, inr, refl, ap, ◌∙◌, sym, subst, arith}
+use Rattle.std.proofs.Common.{◌≡◌, ◌<◌, ℕ, zero, suc, Bool, true, false, ◌&&◌, ◌||◌, ◌==◌, not, List, ◌++◌, drop, refl, ap, ◌∙◌, sym, subst, arith}
 use Rattle.std.specs.Char.{IsScalar, encode_utf8, len_utf8, is_ascii_alphanumeric}
 use Rattle.std.proofs.lemmas.Str.{len_utf8_ascii}
 use Rattle.unicode.specs.GeneralCategory.{general_category}

@@ -1,6 +1,6 @@
 -- White space and comments.
 -- Public source: Go specification, "Tokens" and "Comments". Beyond Go, a comment is UTF-8 without NUL.
-use Rattle.std.specs.Prelude.{◌≡◌, ◌+◌, ℕ, Bool, true, false, ◌||◌, ◌&&◌, ◌==◌, not, if◌then◌else◌, Option, None, Some, option_map, List, [], ◌∷◌, length, take, drop, codes, bytes_eq}
+use Rattle.std.specs.Prelude.{◌≡◌, ◌+◌, ℕ, Bool, ◌||◌, ◌&&◌, ◌==◌, not, if◌then◌else◌, Option, None, Some, option_map, List, [], ◌∷◌, length, take, drop, codes, bytes_eq}
 use Rattle.std.specs.Str.{is_utf8}
 use Rattle.std.specs.List.{position_or_len, list_all}
 

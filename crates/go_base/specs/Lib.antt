@@ -1,6 +1,7 @@
 pub mod Alphabets
 pub mod Characters
 pub mod Comments
+pub mod FilledUp
 pub mod Gathered
 pub mod Growing
 pub mod Keys

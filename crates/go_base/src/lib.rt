@@ -10,5 +10,6 @@ pub mod memory;
 pub mod operator;
 pub mod order;
 pub mod shared;
+mod short;
 pub mod steps;
 pub mod text;

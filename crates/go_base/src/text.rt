@@ -1,5 +1,5 @@
 //! A text: bytes that a contract sees as a list, compared and ordered byte by byte.
-ghost use Rattle.std.specs.Prelude.{◌≡◌, ◌∷◌, [], IfOk, IfSome, Some, refl, bytes_eq};
+ghost use Rattle.std.specs.Prelude.{◌≡◌, ◌∷◌, [], IfOk, Some, refl, bytes_eq};
 ghost use Rattle.std.specs.Ordering.{nat_cmp};
 ghost use Rattle.std.specs.Cmp.{partial_equiv_from_equiv};
 ghost use Rattle.std.specs.Cmp.Lexicographic.{slice_cmp, bytes_decides, nat_list_eq_equiv, nat_list_cmp_total, texts_po, texts_ties};
@@ -8,62 +8,11 @@ ghost use Rattle.std.proofs.Common.{ap};
 use crate::memory::NoMemory;
 use crate::order::order;
 use crate::shared::Shared;
+use crate::short::Short;
 use std::alloc::Global;
 use std::cmp::Ordering;
 use std::hash::{Hash, Hasher};
 use std::marker::Model;
-
-/// How many bytes stand in the value itself.
-const SHORT: usize = 14;
-
-/// The bytes of a short text.
-#[derive(Debug, Drop)]
-struct Short {
-    len: u8,
-    bytes: [u8; SHORT],
-}
-
-impl Model for Short {
-    ghost use Rattle.std.specs.Prelude.{◌≡◌, ◌≤◌, List, ℕ, length, take};
-
-    ghost Value = { List ℕ };
-
-    ghost view = { λ s. take s.len s.bytes };
-
-    ghost invariant = { λ s. (s.len ≤ 14) × (length s.bytes ≡ 14) };
-}
-
-impl Short {
-    /// These bytes, where they are few.
-    fn of(bytes: &[u8]) -> Option<Short>
-        ensures { IfSome result (λ s. s ≡ bytes.now) }
-    {
-        let len = u8::try_from(bytes.len()).ok()?;
-        if bytes.len() > SHORT {
-            return None;
-        }
-        let mut held = [0u8; SHORT];
-        held[..bytes.len()].copy_from_slice(bytes);
-        Some(Short { len, bytes: held })
-    }
-
-    /// The same bytes once more.
-    fn copy(&self) -> Short
-        ensures { result ≡ self.now }
-    {
-        Short {
-            len: self.len,
-            bytes: self.bytes,
-        }
-    }
-
-    /// The bytes.
-    fn bytes(&self) -> &[u8]
-        ensures { result.now ≡ self.now }
-    {
-        &self.bytes[..usize::from(self.len)]
-    }
-}
 
 /// Where the bytes of a text stand: in the value itself, or in a vector that its copies have in common with it.
 #[derive(Debug)]
@@ -109,10 +58,7 @@ impl Text {
         ensures { result ≡ [] }
     {
         Text {
-            held: Held::Short(Short {
-                len: 0,
-                bytes: [0; SHORT],
-            }),
+            held: Held::Short(Short::empty()),
         }
     }
 
@@ -203,7 +149,10 @@ impl Ord for Text {
     ghost matches_eq = { λ a b. texts_ties a b };
 
     fn cmp(&self, other: &Text) -> Ordering {
-        order(self.bytes(), other.bytes())
+        match (&self.held, &other.held) {
+            (Held::Short(short), Held::Short(shorter)) => short.order(shorter),
+            _ => order(self.bytes(), other.bytes()),
+        }
     }
 }
 

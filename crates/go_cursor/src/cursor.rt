@@ -113,9 +113,7 @@ fn literal_of(alloc: Global, token: &Token) -> Result<Option<Literal>, NoMemory>
         (TokenKind::FloatLit, TokenValue::Nothing) => Ok(Some(Literal::Float)),
         (TokenKind::ImagLit, TokenValue::Nothing) => Ok(Some(Literal::Imaginary)),
         (TokenKind::RuneLit, TokenValue::Rune(rune)) => Ok(Some(Literal::Rune(*rune))),
-        (TokenKind::StrLit, TokenValue::Str(text)) => {
-            Ok(Some(Literal::Str(text.copy()?)))
-        }
+        (TokenKind::StrLit, TokenValue::Str(text)) => { Ok(Some(Literal::Str(text.copy()?))) }
         _ => Ok(None),
     }
 }
@@ -125,9 +123,7 @@ fn string_of(alloc: Global, token: &Token) -> Result<Option<(Text, u32)>, NoMemo
     ensures { IfOk result (λ string. string ≡ reading.string_at (terminal token.now ∷ [])) }
 {
     match (token.kind, &token.value) {
-        (TokenKind::StrLit, TokenValue::Str(text)) => {
-            Ok(Some((text.copy()?, token.start)))
-        }
+        (TokenKind::StrLit, TokenValue::Str(text)) => { Ok(Some((text.copy()?, token.start))) }
         _ => Ok(None),
     }
 }

@@ -85,7 +85,8 @@ impl<'a, F: Fn(&Context<'_>, Global, usize, Part<'_>) -> Result<Answer, ExprErro
                 self.literals.composite(form.value(), elements.items())
             }
             Expr::CompositeArray(form, elements) => {
-                self.literals.composite_array(form.value(), elements.items())
+                self.literals
+                    .composite_array(form.value(), elements.items())
             }
             Expr::Type(form) => self.literals.operations.type_operand(form.value()),
             Expr::Paren(inner) => self.literals.operations.typing.expr_below(inner.value()),

@@ -216,7 +216,12 @@ pub fn push_expr(alloc: Global, out: &mut Vec<u8>, expr: &Expr) -> Result<(), Al
             push_elements(alloc, out, elements.items())
         }
         Expr::Type(type_) => push_labelled(alloc, out, " (type", type_.value()),
-        Expr::ParenReceiveChan(type_) => push_labelled(alloc, out, " (paren-receive", type_.value()),
+        Expr::ParenReceiveChan(type_) => push_labelled(
+            alloc,
+            out,
+            " (paren-receive",
+            type_.value(),
+        ),
     }
 }
 
