@@ -57,7 +57,7 @@ pub fn add_expr(found: &mut List<LiteralPlace>, expr: &Expr, height: usize) -> R
         Expr::Literal(_) => Ok(()),
         Expr::Name(_) => Ok(()),
         Expr::FuncLit(signature, body) => {
-            add_signature(found, signature, below(height))?;
+            add_signature(found, signature.value(), below(height))?;
             add_literal(found, *body, below(height))
         }
         Expr::Composite(type_, elements) => {
