@@ -159,7 +159,6 @@ fn has_field(fields: &[Field], places: &BTreeMap<Sel, List<usize>>, sel: &Sel) -
 
 // Adds that an exported field is gone.
 fn push_field(
-    alloc: Global,
     field: &Field,
     after: &[Field],
     places: &BTreeMap<Sel, List<usize>>,
@@ -189,7 +188,7 @@ fn push_all_fields(
 {
     let places = field_places(alloc, after)?;
     for field in before {
-        push_field(alloc, field, after, &places, losses)?;
+        push_field(field, after, &places, losses)?;
     }
     Ok(())
 }

@@ -63,7 +63,7 @@ fn keeps_pointer(before: bool, after: Option<bool>) -> bool
     }
 }
 
-fn push_name(alloc: Global, sel: &Sel, losses: &mut Vec<Lost>) -> Result<(), NoMemory>
+fn push_name(sel: &Sel, losses: &mut Vec<Lost>) -> Result<(), NoMemory>
     ensures { OnOk result (losses.new.items ≡ losses.old.items ++ lost.Selectable sel.now.name ∷ []) }
 {
     let name = sel.name.copy()?;
@@ -95,7 +95,7 @@ fn push_sel(
             if keeps_pointer(before, after) {
                 return Ok(());
             }
-            push_name(alloc, sel, losses)?;
+            push_name(sel, losses)?;
             Ok(())
         }
     }

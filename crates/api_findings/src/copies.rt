@@ -9,7 +9,7 @@ use go_base::memory::NoMemory;
 use go_base::text::Text;
 use std::alloc::Global;
 
-fn broken_copied(alloc: Global, broken: &Broken) -> Result<Broken, NoMemory>
+fn broken_copied(broken: &Broken) -> Result<Broken, NoMemory>
     ensures { IfOk result (λ copy. copy ≡ broken.now) }
 {
     Ok(Broken {
@@ -24,7 +24,7 @@ fn breaks_copied(alloc: Global, breaks: &[Broken]) -> Result<List<Broken>, NoMem
 {
     let mut copy = List::new(alloc);
     for broken in breaks {
-        let same = broken_copied(alloc, broken)?;
+        let same = broken_copied(broken)?;
         copy.push(same)?;
     }
     Ok(copy)
@@ -53,7 +53,7 @@ pub(crate) fn verdict_at(
     }
 }
 
-fn text_copied(alloc: Global, text: &Text) -> Result<Text, NoMemory>
+fn text_copied(text: &Text) -> Result<Text, NoMemory>
     ensures { IfOk result (λ copy. copy ≡ text.now) }
 {
     text.copy()
@@ -64,7 +64,7 @@ fn texts_copied(alloc: Global, texts: &[Text]) -> Result<List<Text>, NoMemory>
 {
     let mut copy = List::new(alloc);
     for text in texts {
-        let same = text_copied(alloc, text)?;
+        let same = text_copied(text)?;
         copy.push(same)?;
     }
     Ok(copy)

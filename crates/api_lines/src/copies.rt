@@ -9,11 +9,7 @@ use go_model::files::platform::Platform;
 use std::alloc::Global;
 
 /// A copy of the line in this context, or in none.
-pub(crate) fn line_in(
-    alloc: Global,
-    context: Option<Platform>,
-    line: &Line,
-) -> Result<Line, NoMemory>
+pub(crate) fn line_in(context: Option<Platform>, line: &Line) -> Result<Line, NoMemory>
     ensures { IfOk result (λ copy. copy ≡ in_context context line.now) }
 {
     Ok(Line {
@@ -23,10 +19,10 @@ pub(crate) fn line_in(
     })
 }
 
-fn line_copied(alloc: Global, line: &Line) -> Result<Line, NoMemory>
+fn line_copied(line: &Line) -> Result<Line, NoMemory>
     ensures { IfOk result (λ copy. copy ≡ line.now) }
 {
-    let copy = line_in(alloc, line.context, line)?;
+    let copy = line_in(line.context, line)?;
     Ok(copy)
 }
 
@@ -36,7 +32,7 @@ pub(crate) fn lines_copied(alloc: Global, lines: &[Line]) -> Result<List<Line>, 
 {
     let mut copy = List::new(alloc);
     for line in lines {
-        let same = line_copied(alloc, line)?;
+        let same = line_copied(line)?;
         copy.push(same)?;
     }
     Ok(copy)

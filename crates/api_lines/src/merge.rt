@@ -97,7 +97,7 @@ fn add_line(
     if !fits(common, context, &text) {
         return Ok(());
     }
-    merged.add(alloc, line_in(alloc, context, line)?)?;
+    merged.add(alloc, line_in(context, line)?)?;
     Ok(())
 }
 

@@ -1,4 +1,5 @@
 -- Bytes that zeros fill up. No public clause cites this module.
+-- Own: how a short text stands in a value.
 use Rattle.std.specs.Prelude.{◌≡◌, ◌≤◌, ◌-◌, ◌++◌, ℕ, List, length, take, replicate}
 
 -- so many bytes, and zeros up to fourteen

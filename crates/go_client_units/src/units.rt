@@ -51,7 +51,7 @@ pub struct ClientUnits {
 }
 
 // The name in the package clause of the first of these files.
-fn name_of(alloc: Global, files: &[UnitFile]) -> Result<Text, NoMemory>
+fn name_of(files: &[UnitFile]) -> Result<Text, NoMemory>
     requires some { 0 < length files.now }
     requires alike { IsNamedAlike files.now }
     ensures { IfOk result (UnitFilesAreNamed files.now) }
@@ -68,7 +68,7 @@ fn unit_of(alloc: Global, files: List<UnitFile>) -> Result<Unit, NoMemory>
     ensures side { IfOk result (λ u. u.from_std ≡ false) }
     ensures held { IfOk result (λ u. u.files ≡ files) }
 {
-    let name = name_of(alloc, files.items())?;
+    let name = name_of(files.items())?;
     let needs = needed(alloc, files.items())?;
     Ok(Unit {
         path: Text::of(alloc, b"-client".as_slice())?,

@@ -37,7 +37,7 @@ pub fn refused(alloc: Global, folder: &Folder, file: Text, fault: FileFault) -> 
     }
 }
 
-fn internal_in(alloc: Global, folder: &Folder, file: Text, place: u32) -> UnitError
+fn internal_in(folder: &Folder, file: Text, place: u32) -> UnitError
     ensures { IsInternal folder.now file place result }
 {
     match folder.path.copy() {
@@ -51,7 +51,7 @@ fn internal(alloc: Global, folder: &Folder, file: &[u8], place: u32) -> UnitErro
 {
     match Text::of(alloc, file) {
         Err(_) => UnitError::NoMemory,
-        Ok(file) => internal_in(alloc, folder, file, place),
+        Ok(file) => internal_in(folder, file, place),
     }
 }
 

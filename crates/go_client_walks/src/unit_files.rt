@@ -18,7 +18,6 @@ use std::alloc::Global;
 use std::collections::BTreeSet;
 
 fn used_import(
-    alloc: Global,
     module_path: &[u8],
     folders: &[Folder],
     packages: &[bool],
@@ -56,7 +55,7 @@ fn used_imports(
 {
     let mut imports = List::new(alloc);
     for import in uses {
-        imports.push(used_import(alloc, module_path, folders, packages, from_std, import)?)?;
+        imports.push(used_import(module_path, folders, packages, from_std, import)?)?;
     }
     Ok(imports)
 }
@@ -121,11 +120,7 @@ pub(crate) fn unit_files(
     Ok(made)
 }
 
-fn add_needed(
-    alloc: Global,
-    needed: &mut BTreeSet<Text>,
-    import: &UsedImport,
-) -> Result<(), NoMemory>
+fn add_needed(needed: &mut BTreeSet<Text>, import: &UsedImport) -> Result<(), NoMemory>
     ensures { OnOk result (needed.new.keys ≡ with_import needed.old.keys import.now) }
 {
     if !import.found {
@@ -135,15 +130,11 @@ fn add_needed(
     Ok(())
 }
 
-fn add_all_needed(
-    alloc: Global,
-    needed: &mut BTreeSet<Text>,
-    imports: &[UsedImport],
-) -> Result<(), NoMemory>
+fn add_all_needed(needed: &mut BTreeSet<Text>, imports: &[UsedImport]) -> Result<(), NoMemory>
     ensures { OnOk result (needed.new.keys ≡ with_imports needed.old.keys imports.now) }
 {
     for import in imports {
-        add_needed(alloc, needed, import)?;
+        add_needed(needed, import)?;
     }
     Ok(())
 }
@@ -153,7 +144,7 @@ fn needed_set(alloc: Global, files: &[UnitFile]) -> Result<BTreeSet<Text>, NoMem
 {
     let mut needed = BTreeSet::new(alloc);
     for file in files {
-        add_all_needed(alloc, &mut needed, file.imports.items())?;
+        add_all_needed(&mut needed, file.imports.items())?;
     }
     Ok(needed)
 }

@@ -31,7 +31,7 @@ pub struct WalkedClient {
     pub files: List<UnitFile>,
 }
 
-fn cycle(alloc: Global, folder: &Folder) -> UnitError
+fn cycle(folder: &Folder) -> UnitError
     ensures { IsCycleOf folder.now result }
 {
     match folder.path.copy() {
@@ -145,7 +145,7 @@ fn ordered(
     let graph = needs(alloc, module_path, folders, packages, &slots)?;
     match canonical_order(alloc, &graph) {
         Err(OrderError::NoMemory) => Err(UnitError::NoMemory),
-        Err(OrderError::Cycle(number)) => Err(cycle(alloc, folder_at(folders, number))),
+        Err(OrderError::Cycle(number)) => Err(cycle(folder_at(folders, number))),
         Ok(order) => Ok(units_of(alloc, module_path, folders, packages, slots, order.items())?),
     }
 }

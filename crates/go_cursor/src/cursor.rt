@@ -102,7 +102,7 @@ fn opens_type(kind: TokenKind) -> bool
 }
 
 /// The literal that a token is.
-fn literal_of(alloc: Global, token: &Token) -> Result<Option<Literal>, NoMemory>
+fn literal_of(token: &Token) -> Result<Option<Literal>, NoMemory>
     ensures { IfOk result (λ literal. literal ≡ reading.literal_at (terminal token.now ∷ [])) }
 {
     match (token.kind, &token.value) {
@@ -119,7 +119,7 @@ fn literal_of(alloc: Global, token: &Token) -> Result<Option<Literal>, NoMemory>
 }
 
 /// The text of the string literal that a token is, and the byte offset at which it starts.
-fn string_of(alloc: Global, token: &Token) -> Result<Option<(Text, u32)>, NoMemory>
+fn string_of(token: &Token) -> Result<Option<(Text, u32)>, NoMemory>
     ensures { IfOk result (λ string. string ≡ reading.string_at (terminal token.now ∷ [])) }
 {
     match (token.kind, &token.value) {
@@ -129,7 +129,7 @@ fn string_of(alloc: Global, token: &Token) -> Result<Option<(Text, u32)>, NoMemo
 }
 
 /// The name that a token is.
-fn name_of(alloc: Global, token: &Token) -> Result<Option<Name>, NoMemory>
+fn name_of(token: &Token) -> Result<Option<Name>, NoMemory>
     ensures { IfOk result (λ name. name ≡ reading.name_of (terminal token.now)) }
 {
     if !matches!(token.kind, TokenKind::Ident) {
@@ -276,7 +276,7 @@ impl<'a> Cursor<'a> {
     {
         match self.rest.split_first() {
             None => Err(ParseError::Syntax),
-            Some((token, rest)) => match name_of(alloc, token)? {
+            Some((token, rest)) => match name_of(token)? {
                 None => Err(ParseError::Syntax),
                 Some(name) => {
                     self.rest = rest;
@@ -403,7 +403,7 @@ impl<'a> Cursor<'a> {
     {
         match self.rest.first() {
             None => Ok(None),
-            Some(token) => literal_of(alloc, token),
+            Some(token) => literal_of(token),
         }
     }
 
@@ -413,7 +413,7 @@ impl<'a> Cursor<'a> {
     {
         match self.rest.first() {
             None => Ok(None),
-            Some(token) => string_of(alloc, token),
+            Some(token) => string_of(token),
         }
     }
 

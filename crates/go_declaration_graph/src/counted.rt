@@ -59,7 +59,7 @@ fn row_by_keys(
 {
     let keys = field_keys(env, alloc, form)?;
     let mut row = List::new(alloc);
-    push_all_counted(alloc, &mut row, names, &keys, references)?;
+    push_all_counted(&mut row, names, &keys, references)?;
     Ok(row)
 }
 

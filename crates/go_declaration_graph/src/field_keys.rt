@@ -24,7 +24,7 @@ pub(crate) struct FieldKey {
     pub text: Text,
 }
 
-fn key_of(alloc: Global, name: &Name) -> Result<FieldKey, NoMemory>
+fn key_of(name: &Name) -> Result<FieldKey, NoMemory>
     ensures { IfOk result (λ k. k ≡ key_of name.now) }
 {
     Ok(FieldKey {
@@ -36,7 +36,7 @@ fn key_of(alloc: Global, name: &Name) -> Result<FieldKey, NoMemory>
 fn add(alloc: Global, keys: &mut BTreeSet<FieldKey>, name: &Name) -> Result<(), NoMemory>
     ensures { OnOk result (Grows (λ k. key_of name.now ≡ k) keys.old.keys keys.new.keys) }
 {
-    let key = key_of(alloc, name)?;
+    let key = key_of(name)?;
     keys.insert(key)?;
     Ok(())
 }
@@ -93,13 +93,9 @@ pub(crate) fn field_keys(
 }
 
 /// Whether a name is among these keys.
-pub(crate) fn is_among(
-    alloc: Global,
-    name: &Name,
-    keys: &BTreeSet<FieldKey>,
-) -> Result<bool, NoMemory>
+pub(crate) fn is_among(name: &Name, keys: &BTreeSet<FieldKey>) -> Result<bool, NoMemory>
     ensures { IfOk result (λ b. b ≡ is_among name.now keys.now.keys) }
 {
-    let key = key_of(alloc, name)?;
+    let key = key_of(name)?;
     Ok(keys.contains(&key))
 }

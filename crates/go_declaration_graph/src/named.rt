@@ -12,7 +12,6 @@ use go_declarations::form::Form;
 use go_declared::methods::{DeclaredMethods, MethodRow};
 use go_declared::names::DeclaredNames;
 use go_references::references::Reference;
-use std::alloc::Global;
 use std::collections::BTreeSet;
 
 fn push_named(
@@ -43,21 +42,16 @@ pub(crate) fn push_all_named(
 }
 
 // Whether a reference is the key of a field.
-fn names_field(
-    alloc: Global,
-    keys: &BTreeSet<FieldKey>,
-    reference: &Reference<'_>,
-) -> Result<bool, NoMemory>
+fn names_field(keys: &BTreeSet<FieldKey>, reference: &Reference<'_>) -> Result<bool, NoMemory>
     ensures { IfOk result (λ b. b ≡ names_field keys.now.keys reference.now) }
 {
     if !reference.is_key {
         return Ok(false);
     }
-    is_among(alloc, reference.name, keys)
+    is_among(reference.name, keys)
 }
 
 fn push_counted(
-    alloc: Global,
     row: &mut List<u32>,
     names: &DeclaredNames,
     keys: &BTreeSet<FieldKey>,
@@ -65,7 +59,7 @@ fn push_counted(
 ) -> Result<(), NoMemory>
     ensures { OnOk result (row.new ≡ row.old ++ counted names.now keys.now.keys reference.now) }
 {
-    if names_field(alloc, keys, reference)? {
+    if names_field(keys, reference)? {
         return Ok(());
     }
     push_named(row, names, reference)
@@ -73,7 +67,6 @@ fn push_counted(
 
 /// Adds the declarations of the names that aren't those of fields.
 pub(crate) fn push_all_counted(
-    alloc: Global,
     row: &mut List<u32>,
     names: &DeclaredNames,
     keys: &BTreeSet<FieldKey>,
@@ -82,7 +75,7 @@ pub(crate) fn push_all_counted(
     ensures { OnOk result (row.new ≡ row.old ++ gather (counted names.now keys.now.keys) references.now) }
 {
     for reference in references {
-        push_counted(alloc, row, names, keys, reference)?;
+        push_counted(row, names, keys, reference)?;
     }
     Ok(())
 }

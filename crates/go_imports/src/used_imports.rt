@@ -41,7 +41,7 @@ pub struct NamedImport {
     pub place: u32,
 }
 
-fn add_names(alloc: Global, set: &mut BTreeSet<Text>, names: &[Name]) -> Result<(), NoMemory>
+fn add_names(set: &mut BTreeSet<Text>, names: &[Name]) -> Result<(), NoMemory>
     ensures { OnOk result (Grows (IsNameIn names.now) set.old.keys set.new.keys) }
 {
     for name in names {
@@ -50,25 +50,25 @@ fn add_names(alloc: Global, set: &mut BTreeSet<Text>, names: &[Name]) -> Result<
     Ok(())
 }
 
-fn add_consts(alloc: Global, set: &mut BTreeSet<Text>, specs: &[ConstSpec]) -> Result<(), NoMemory>
+fn add_consts(set: &mut BTreeSet<Text>, specs: &[ConstSpec]) -> Result<(), NoMemory>
     ensures { OnOk result (Grows (IsConstNameIn specs.now) set.old.keys set.new.keys) }
 {
     for spec in specs {
-        add_names(alloc, set, spec.names.items())?;
+        add_names(set, spec.names.items())?;
     }
     Ok(())
 }
 
-fn add_vars(alloc: Global, set: &mut BTreeSet<Text>, specs: &[VarSpec]) -> Result<(), NoMemory>
+fn add_vars(set: &mut BTreeSet<Text>, specs: &[VarSpec]) -> Result<(), NoMemory>
     ensures { OnOk result (Grows (IsVarNameIn specs.now) set.old.keys set.new.keys) }
 {
     for spec in specs {
-        add_names(alloc, set, spec.names.items())?;
+        add_names(set, spec.names.items())?;
     }
     Ok(())
 }
 
-fn add_types(alloc: Global, set: &mut BTreeSet<Text>, specs: &[TypeSpec]) -> Result<(), NoMemory>
+fn add_types(set: &mut BTreeSet<Text>, specs: &[TypeSpec]) -> Result<(), NoMemory>
     ensures { OnOk result (Grows (IsTypeNameIn specs.now) set.old.keys set.new.keys) }
 {
     for spec in specs {
@@ -77,7 +77,7 @@ fn add_types(alloc: Global, set: &mut BTreeSet<Text>, specs: &[TypeSpec]) -> Res
     Ok(())
 }
 
-fn add_func(alloc: Global, set: &mut BTreeSet<Text>, func: &Func) -> Result<(), NoMemory>
+fn add_func(set: &mut BTreeSet<Text>, func: &Func) -> Result<(), NoMemory>
     ensures { OnOk result (Grows (IsFuncName func.now.receiver func.now.name.text) set.old.keys set.new.keys) }
 {
     match &func.receiver {
@@ -86,14 +86,14 @@ fn add_func(alloc: Global, set: &mut BTreeSet<Text>, func: &Func) -> Result<(), 
     }
 }
 
-fn add_decl(alloc: Global, set: &mut BTreeSet<Text>, decl: &Decl) -> Result<(), NoMemory>
+fn add_decl(set: &mut BTreeSet<Text>, decl: &Decl) -> Result<(), NoMemory>
     ensures { OnOk result (Grows (IsDeclaredBy decl.now) set.old.keys set.new.keys) }
 {
     match decl {
-        Decl::ConstGroup(specs) => add_consts(alloc, set, specs.items()),
-        Decl::VarGroup(specs) => add_vars(alloc, set, specs.items()),
-        Decl::TypeGroup(specs) => add_types(alloc, set, specs.items()),
-        Decl::FuncDecl(func) => add_func(alloc, set, func.value()),
+        Decl::ConstGroup(specs) => add_consts(set, specs.items()),
+        Decl::VarGroup(specs) => add_vars(set, specs.items()),
+        Decl::TypeGroup(specs) => add_types(set, specs.items()),
+        Decl::FuncDecl(func) => add_func(set, func.value()),
     }
 }
 
@@ -107,7 +107,7 @@ pub fn add_declared(
     ensures { OnOk result (Grows (IsDeclaredIn decls.now) declared.old.keys declared.new.keys) }
 {
     for decl in decls {
-        add_decl(alloc, declared, decl)?;
+        add_decl(declared, decl)?;
     }
     Ok(())
 }
@@ -126,7 +126,6 @@ fn is_qualifier(declared: &BTreeSet<Text>, reference: &Reference<'_>) -> bool
 }
 
 fn add_reference(
-    alloc: Global,
     set: &mut BTreeSet<Text>,
     declared: &BTreeSet<Text>,
     reference: &Reference<'_>,
@@ -143,7 +142,6 @@ fn add_reference(
 }
 
 fn add_references(
-    alloc: Global,
     set: &mut BTreeSet<Text>,
     declared: &BTreeSet<Text>,
     references: &[Reference<'_>],
@@ -151,7 +149,7 @@ fn add_references(
     ensures { OnOk result (Grows (IsQualifierAmong declared.now.keys references.now) set.old.keys set.new.keys) }
 {
     for reference in references {
-        add_reference(alloc, set, declared, reference)?;
+        add_reference(set, declared, reference)?;
     }
     Ok(())
 }
@@ -165,7 +163,7 @@ fn add_qualifiers(
     ensures { OnOk result (Grows (IsQualifierOf declared.now.keys decl.now) set.old.keys set.new.keys) }
 {
     let references = decl_references(alloc, decl)?;
-    add_references(alloc, set, declared, references.items())
+    add_references(set, declared, references.items())
 }
 
 /// The qualifiers of a file's declarations: the names that stand as `name.X` outside of bodies, where the package doesn't
@@ -197,7 +195,7 @@ fn scope_name(import: &Import) -> Option<&Text>
     }
 }
 
-fn add_scope_name(alloc: Global, set: &mut BTreeSet<Text>, import: &Import) -> Result<(), NoMemory>
+fn add_scope_name(set: &mut BTreeSet<Text>, import: &Import) -> Result<(), NoMemory>
     ensures { OnOk result (Grows (IsScopeName import.now) set.old.keys set.new.keys) }
 {
     match scope_name(import) {
@@ -211,7 +209,7 @@ fn scope_names(alloc: Global, imports: &[Import]) -> Result<BTreeSet<Text>, NoMe
 {
     let mut set = BTreeSet::new(alloc);
     for import in imports {
-        add_scope_name(alloc, &mut set, import)?;
+        add_scope_name(&mut set, import)?;
     }
     Ok(set)
 }

@@ -54,12 +54,7 @@ fn insert(set: &mut BTreeSet<Text>, text: Text) -> Result<(), NoMemory>
     Ok(())
 }
 
-fn add_name(
-    alloc: Global,
-    names: &mut BTreeSet<Text>,
-    entry: &Entry,
-    wanted: Wanted,
-) -> Result<(), NoMemory>
+fn add_name(names: &mut BTreeSet<Text>, entry: &Entry, wanted: Wanted) -> Result<(), NoMemory>
     ensures { OnOk result (Grows (IsNameOf wanted entry.now) names.old.keys names.new.keys) }
 {
     if entry.kind == EntryKind::File && is_wanted(wanted, entry.name.bytes()) {
@@ -75,7 +70,7 @@ fn file_names(alloc: Global, entries: &[Entry], wanted: Wanted) -> Result<BTreeS
 {
     let mut names = BTreeSet::new(alloc);
     for entry in entries {
-        add_name(alloc, &mut names, entry, wanted)?;
+        add_name(&mut names, entry, wanted)?;
     }
     let _count = names.len();
     Ok(names)

@@ -11,15 +11,9 @@ use go_declarations::listing::Declaration;
 use go_declared::names::DeclaredNames;
 use go_rules::env::Env;
 use go_syntax::name::Name;
-use std::alloc::Global;
 
 // Announces a name, where the table tells where it is declared.
-fn announce_name(
-    env: &mut Env<'_>,
-    alloc: Global,
-    names: &DeclaredNames,
-    name: &Name,
-) -> Result<(), NoMemory>
+fn announce_name(env: &mut Env<'_>, names: &DeclaredNames, name: &Name) -> Result<(), NoMemory>
     ensures { OnOk result (env.new ≡ record env.old { announced = with_name names.now env.old.announced name.now.text }) }
 {
     if names.get(&name.text).is_none() {
@@ -30,32 +24,26 @@ fn announce_name(
 
 fn announce_names(
     env: &mut Env<'_>,
-    alloc: Global,
     names: &DeclaredNames,
     declared: &[Name],
 ) -> Result<(), NoMemory>
     ensures { OnOk result (env.new ≡ record env.old { announced = with_names names.now env.old.announced declared.now }) }
 {
     for name in declared {
-        announce_name(env, alloc, names, name)?;
+        announce_name(env, names, name)?;
     }
     Ok(())
 }
 
-fn announce_form(
-    env: &mut Env<'_>,
-    alloc: Global,
-    names: &DeclaredNames,
-    form: Form<'_>,
-) -> Result<(), NoMemory>
+fn announce_form(env: &mut Env<'_>, names: &DeclaredNames, form: Form<'_>) -> Result<(), NoMemory>
     ensures { OnOk result (env.new ≡ record env.old { announced = with_names names.now env.old.announced (names_of (form_of form.entry)) }) }
 {
     match form {
-        Form::Constants(constants) => announce_names(env, alloc, names, constants.names),
-        Form::Variables(spec) => announce_names(env, alloc, names, spec.names.items()),
-        Form::Alias(spec) => announce_name(env, alloc, names, &spec.name),
-        Form::Definition(spec) => announce_name(env, alloc, names, &spec.name),
-        Form::Function(func) => announce_name(env, alloc, names, &func.name),
+        Form::Constants(constants) => announce_names(env, names, constants.names),
+        Form::Variables(spec) => announce_names(env, names, spec.names.items()),
+        Form::Alias(spec) => announce_name(env, names, &spec.name),
+        Form::Definition(spec) => announce_name(env, names, &spec.name),
+        Form::Function(func) => announce_name(env, names, &func.name),
         Form::Method(_, _) => Ok(()),
     }
 }
@@ -63,14 +51,13 @@ fn announce_form(
 /// Announces the names that these declarations declare, where the table tells where each is declared.
 pub(crate) fn announce(
     env: &mut Env<'_>,
-    alloc: Global,
     names: &DeclaredNames,
     declarations: &[Declaration<'_>],
 ) -> Result<(), NoMemory>
     ensures { OnOk result (env.new ≡ record env.old { announced = with_declarations names.now env.old.announced (declarations_of declarations.now) }) }
 {
     for declaration in declarations {
-        announce_form(env, alloc, names, declaration.form)?;
+        announce_form(env, names, declaration.form)?;
     }
     Ok(())
 }

@@ -12,15 +12,9 @@ use go_declared::methods::{DeclaredMethods, MethodRow, method_name};
 use go_declared::names::DeclaredNames;
 use go_rules::blank::is_blank;
 use go_rules::env::Env;
-use std::alloc::Global;
 
 // Awaits a method of a type, unless its name is blank.
-fn await_method(
-    env: &mut Env<'_>,
-    alloc: Global,
-    type_name: &Text,
-    name: &[u8],
-) -> Result<(), NoMemory>
+fn await_method(env: &mut Env<'_>, type_name: &Text, name: &[u8]) -> Result<(), NoMemory>
     ensures { OnOk result (env.new ≡ record env.old { awaited = with_method env.old.path type_name.now env.old.awaited name.now }) }
 {
     if is_blank(name) {
@@ -33,7 +27,6 @@ fn await_method(
 
 fn await_rows(
     env: &mut Env<'_>,
-    alloc: Global,
     declarations: &[Declaration<'_>],
     type_name: &Text,
     rows: &[MethodRow],
@@ -42,7 +35,7 @@ fn await_rows(
 {
     for row in rows {
         let name = method_name(declarations, row.number);
-        await_method(env, alloc, type_name, name)?;
+        await_method(env, type_name, name)?;
     }
     Ok(())
 }
@@ -50,7 +43,6 @@ fn await_rows(
 // Awaits the methods of the type that a declaration declares, where it is the first of its name.
 fn await_form(
     env: &mut Env<'_>,
-    alloc: Global,
     names: &DeclaredNames,
     methods: &DeclaredMethods,
     declarations: &[Declaration<'_>],
@@ -65,7 +57,7 @@ fn await_form(
             if !names.is_first(number, name) {
                 return Ok(());
             }
-            await_rows(env, alloc, declarations, name, methods.of_type(name))
+            await_rows(env, declarations, name, methods.of_type(name))
         }
         _ => Ok(()),
     }
@@ -75,7 +67,6 @@ fn await_form(
 /// its declarations.
 pub(crate) fn await_methods(
     env: &mut Env<'_>,
-    alloc: Global,
     names: &DeclaredNames,
     methods: &DeclaredMethods,
     declarations: &[Declaration<'_>],
@@ -84,7 +75,7 @@ pub(crate) fn await_methods(
 {
     for number in 0..declarations.len() {
         let form = declarations[number].form;
-        await_form(env, alloc, names, methods, declarations, number, form)?;
+        await_form(env, names, methods, declarations, number, form)?;
     }
     Ok(())
 }

@@ -14,7 +14,7 @@ use std::alloc::Global;
 use std::collections::BTreeSet;
 
 // Puts a copy of a name among others, and says whether it is new.
-fn add_new(alloc: Global, names: &mut BTreeSet<Text>, name: &Text) -> Result<bool, NoMemory>
+fn add_new(names: &mut BTreeSet<Text>, name: &Text) -> Result<bool, NoMemory>
     ensures { IfOk result (Adds names.old.keys name.now names.new.keys) }
 {
     let text = name.copy()?;
@@ -23,13 +23,13 @@ fn add_new(alloc: Global, names: &mut BTreeSet<Text>, name: &Text) -> Result<boo
 }
 
 // Puts a copy of a name among others, unless it is the blank one, and says whether it is that or new.
-fn is_first(alloc: Global, names: &mut BTreeSet<Text>, name: &Text) -> Result<bool, NoMemory>
+fn is_first(names: &mut BTreeSet<Text>, name: &Text) -> Result<bool, NoMemory>
     ensures { IfOk result (Notes names.old.keys name.now names.new.keys) }
 {
     if is_blank(name.bytes()) {
         return Ok(true);
     }
-    let is_new = add_new(alloc, names, name)?;
+    let is_new = add_new(names, name)?;
     Ok(is_new)
 }
 
@@ -39,7 +39,7 @@ pub fn are_distinct(alloc: Global, names: &[&Text]) -> Result<bool, NoMemory>
 {
     let mut seen = BTreeSet::new(alloc);
     for name in names {
-        if !is_first(alloc, &mut seen, *name)? {
+        if !is_first(&mut seen, *name)? {
             return Ok(false);
         }
     }
@@ -52,7 +52,7 @@ pub fn are_once(alloc: Global, names: &[&Text]) -> Result<bool, NoMemory>
 {
     let mut seen = BTreeSet::new(alloc);
     for name in names {
-        if !add_new(alloc, &mut seen, *name)? {
+        if !add_new(&mut seen, *name)? {
             return Ok(false);
         }
     }

@@ -25,7 +25,7 @@ use go_model::types::term::Term;
 use std::alloc::Global;
 
 // The defined type of a name in the package of this path.
-fn own_type(alloc: Global, path: &Text, name: &Text) -> Result<Entity, NoMemory>
+fn own_type(path: &Text, name: &Text) -> Result<Entity, NoMemory>
     ensures { IfOk result (λ own. own ≡ Entity.TypeOf (own_type path.now name.now)) }
 {
     Ok(Entity::TypeOf(Term::Named(TypeName {
@@ -67,7 +67,7 @@ fn entity_by(
 {
     match found.form {
         Form::Definition(spec) => {
-            let own = own_type(alloc, path, &spec.name.text)?;
+            let own = own_type(path, &spec.name.text)?;
             Ok(Some(own))
         }
         _ => copied(alloc, object_in(had.get(found.number), found.place)),
@@ -109,7 +109,6 @@ fn entity(
 // Adds the object of a name, where it denotes something.
 fn push_object(
     objects: &mut List<Object>,
-    alloc: Global,
     name: &Text,
     entity: Option<Entity>,
 ) -> Result<(), NoMemory>
@@ -138,7 +137,7 @@ pub(crate) fn objects(
     let mut objects = List::new(alloc);
     for name in listed {
         let entity = entity(alloc, path, declarations, *name, had)?;
-        push_object(&mut objects, alloc, name.name, entity)?;
+        push_object(&mut objects, name.name, entity)?;
     }
     Ok(objects)
 }

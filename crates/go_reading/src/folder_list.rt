@@ -92,7 +92,7 @@ fn folder_files<'a>(
     let from_std = is_std(module_path, path.bytes());
     let files = files_by_name(alloc, files)?;
     let files = headed_files(alloc, platform, &files)?;
-    let package_name = package_name(alloc, files.items())?;
+    let package_name = package_name(files.items())?;
     if !counts(from_std, &package_name, files.items()) {
         return Ok(None);
     }

@@ -34,15 +34,15 @@ impl KnownOutlines {
         Ok(())
     }
 
-    fn add_file(&mut self, alloc: Global, file: &UnitFile) -> Result<(), NoMemory> {
+    fn add_file(&mut self, file: &UnitFile) -> Result<(), NoMemory> {
         let path = file.path.copy()?;
         let outline = file.outline.share()?;
         self.know(path, outline)
     }
 
-    fn add_unit(&mut self, alloc: Global, unit: &Unit) -> Result<(), NoMemory> {
+    fn add_unit(&mut self, unit: &Unit) -> Result<(), NoMemory> {
         for file in unit.files.items() {
-            self.add_file(alloc, file)?;
+            self.add_file(file)?;
         }
         Ok(())
     }
@@ -50,7 +50,7 @@ impl KnownOutlines {
     /// Those of the files of these packages too. Of two files with one path the later one is known.
     pub fn add(&mut self, alloc: Global, units: &[Unit]) -> Result<(), NoMemory> {
         for unit in units {
-            self.add_unit(alloc, unit)?;
+            self.add_unit(unit)?;
         }
         Ok(())
     }

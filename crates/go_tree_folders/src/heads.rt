@@ -113,10 +113,7 @@ fn first_name<'a>(files: &'a [HeadedFile<'_>]) -> Option<&'a Text>
 }
 
 /// The name in the package clause of the first chosen file that says one.
-pub(crate) fn package_name(
-    alloc: Global,
-    files: &[HeadedFile<'_>],
-) -> Result<Option<Text>, NoMemory>
+pub(crate) fn package_name(files: &[HeadedFile<'_>]) -> Result<Option<Text>, NoMemory>
     ensures { IfOk result (λ name. name ≡ first_name files.now) }
 {
     match first_name(files) {

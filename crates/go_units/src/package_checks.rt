@@ -15,7 +15,7 @@ use go_imports::package_files::{SourceFile, are_of_one_package};
 use go_imports::used_imports::first_internal;
 use std::alloc::Global;
 
-fn mixed_names(alloc: Global, folder: &Folder) -> UnitError
+fn mixed_names(folder: &Folder) -> UnitError
     ensures { IsMixed folder.now result }
 {
     match folder.path.copy() {
@@ -25,7 +25,7 @@ fn mixed_names(alloc: Global, folder: &Folder) -> UnitError
 }
 
 /// The refusal of a file.
-pub(crate) fn refused(alloc: Global, folder: &Folder, file: Text, fault: FileFault) -> UnitError
+pub(crate) fn refused(folder: &Folder, file: Text, fault: FileFault) -> UnitError
     ensures { IsRefused folder.now file fault result }
 {
     match folder.path.copy() {
@@ -34,7 +34,7 @@ pub(crate) fn refused(alloc: Global, folder: &Folder, file: Text, fault: FileFau
     }
 }
 
-fn internal_in(alloc: Global, folder: &Folder, file: Text, place: u32) -> UnitError
+fn internal_in(folder: &Folder, file: Text, place: u32) -> UnitError
     ensures { IsInternal folder.now file place result }
 {
     match folder.path.copy() {
@@ -48,7 +48,7 @@ fn internal(alloc: Global, folder: &Folder, file: &[u8], place: u32) -> UnitErro
 {
     match Text::of(alloc, file) {
         Err(_) => UnitError::NoMemory,
-        Ok(file) => internal_in(alloc, folder, file, place),
+        Ok(file) => internal_in(folder, file, place),
     }
 }
 
@@ -83,7 +83,7 @@ pub(crate) fn accepted_files(
 {
     let folder = folder_at(folders, number);
     if !are_of_one_package(sources.items()) {
-        return Err(mixed_names(alloc, folder));
+        return Err(mixed_names(folder));
     }
     let files = package_files(alloc, module_path, folders, folder.from_std, sources)?;
     if let Err(error) = check_free(alloc, folder, files.items()) {

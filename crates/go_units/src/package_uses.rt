@@ -26,7 +26,7 @@ pub struct PackageFile {
     pub uses: List<NamedImport>,
 }
 
-fn copied(alloc: Global, text: &Option<Text>) -> Result<Option<Text>, NoMemory>
+fn copied(text: &Option<Text>) -> Result<Option<Text>, NoMemory>
     ensures { IfOk result (λ copy. copy ≡ text.now) }
 {
     match text {
@@ -35,7 +35,7 @@ fn copied(alloc: Global, text: &Option<Text>) -> Result<Option<Text>, NoMemory>
     }
 }
 
-fn written_name(alloc: Global, name: &Option<Name>) -> Result<Option<Text>, NoMemory>
+fn written_name(name: &Option<Name>) -> Result<Option<Text>, NoMemory>
     ensures { IfOk result (λ text. text ≡ text_of name.now) }
 {
     match name {
@@ -45,7 +45,6 @@ fn written_name(alloc: Global, name: &Option<Name>) -> Result<Option<Text>, NoMe
 }
 
 fn imported_name(
-    alloc: Global,
     module_path: &[u8],
     folders: &[Folder],
     from_std: bool,
@@ -56,12 +55,11 @@ fn imported_name(
 {
     match named(module_path, folders, from_std, path) {
         None => Ok(None),
-        Some(number) => copied(alloc, &folder_at(folders, number).package_name),
+        Some(number) => copied(&folder_at(folders, number).package_name),
     }
 }
 
 fn import_of(
-    alloc: Global,
     module_path: &[u8],
     folders: &[Folder],
     from_std: bool,
@@ -71,8 +69,8 @@ fn import_of(
     ensures { IfOk result (IsImportOf module_path.now folders.now from_std spec.now) }
 {
     Ok(Import {
-        written: written_name(alloc, &spec.name)?,
-        package_name: imported_name(alloc, module_path, folders, from_std, spec.path.bytes())?,
+        written: written_name(&spec.name)?,
+        package_name: imported_name(module_path, folders, from_std, spec.path.bytes())?,
         path: spec.path.copy()?,
         place: spec.place,
     })
@@ -90,7 +88,7 @@ fn imports_of(
 {
     let mut imports = List::new(alloc);
     for spec in specs {
-        imports.push(import_of(alloc, module_path, folders, from_std, spec)?)?;
+        imports.push(import_of(module_path, folders, from_std, spec)?)?;
     }
     Ok(imports)
 }

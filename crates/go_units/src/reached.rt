@@ -133,9 +133,7 @@ fn read_folder<R: FolderReader>(
 {
     match reader.read(alloc, number)? {
         Reading::Files(sources) => accepted_files(alloc, module_path, folders, number, sources),
-        Reading::Refused(file, fault) => {
-            Err(refused(alloc, folder_at(folders, number), file, fault))
-        }
+        Reading::Refused(file, fault) => { Err(refused(folder_at(folders, number), file, fault)) }
     }
 }
 

@@ -17,7 +17,6 @@ use std::alloc::Global;
 use std::collections::BTreeSet;
 
 fn used_import(
-    alloc: Global,
     module_path: &[u8],
     folders: &[Folder],
     packages: &[bool],
@@ -55,7 +54,7 @@ fn used_imports(
 {
     let mut imports = List::new(alloc);
     for import in uses {
-        imports.push(used_import(alloc, module_path, folders, packages, from_std, import)?)?;
+        imports.push(used_import(module_path, folders, packages, from_std, import)?)?;
     }
     Ok(imports)
 }
@@ -119,11 +118,7 @@ fn unit_files(
     Ok(made)
 }
 
-fn add_needed(
-    alloc: Global,
-    needed: &mut BTreeSet<Text>,
-    import: &UsedImport,
-) -> Result<(), NoMemory>
+fn add_needed(needed: &mut BTreeSet<Text>, import: &UsedImport) -> Result<(), NoMemory>
     ensures { OnOk result (needed.new.keys ≡ with_import needed.old.keys import.now) }
 {
     if !import.found {
@@ -133,15 +128,11 @@ fn add_needed(
     Ok(())
 }
 
-fn add_all_needed(
-    alloc: Global,
-    needed: &mut BTreeSet<Text>,
-    imports: &[UsedImport],
-) -> Result<(), NoMemory>
+fn add_all_needed(needed: &mut BTreeSet<Text>, imports: &[UsedImport]) -> Result<(), NoMemory>
     ensures { OnOk result (needed.new.keys ≡ with_imports needed.old.keys imports.now) }
 {
     for import in imports {
-        add_needed(alloc, needed, import)?;
+        add_needed(needed, import)?;
     }
     Ok(())
 }
@@ -151,7 +142,7 @@ fn needed_set(alloc: Global, files: &[UnitFile]) -> Result<BTreeSet<Text>, NoMem
 {
     let mut needed = BTreeSet::new(alloc);
     for file in files {
-        add_all_needed(alloc, &mut needed, file.imports.items())?;
+        add_all_needed(&mut needed, file.imports.items())?;
     }
     Ok(needed)
 }
@@ -176,7 +167,7 @@ fn needed(alloc: Global, files: &[UnitFile]) -> Result<List<Text>, NoMemory>
     listed(alloc, set)
 }
 
-fn name_of(alloc: Global, files: &[PackageFile]) -> Result<Text, NoMemory>
+fn name_of(files: &[PackageFile]) -> Result<Text, NoMemory>
     requires some { 0 < length files.now }
     requires alike { AreAlike files.now }
     ensures { IfOk result (PackageFilesAreNamed files.now) }
@@ -201,7 +192,7 @@ pub(crate) fn unit(
     ensures { IfOk result (IsUnitWith module_path.now folders.now packages.now number files) }
 {
     let folder = folder_at(folders, number);
-    let name = name_of(alloc, files.items())?;
+    let name = name_of(files.items())?;
     let files = unit_files(
         alloc,
         module_path,

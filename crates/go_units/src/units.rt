@@ -20,7 +20,7 @@ use go_base::memory::NoMemory;
 use go_imports::order::{OrderError, canonical_order};
 use std::alloc::Global;
 
-fn cycle(alloc: Global, folder: &Folder) -> UnitError
+fn cycle(folder: &Folder) -> UnitError
     ensures { IsCycleOf folder.now result }
 {
     match folder.path.copy() {
@@ -133,7 +133,7 @@ fn ordered(
     let graph = needs(alloc, module_path, folders, &packages, &slots)?;
     match canonical_order(alloc, &graph) {
         Err(OrderError::NoMemory) => Err(UnitError::NoMemory),
-        Err(OrderError::Cycle(number)) => Err(cycle(alloc, folder_at(folders, number))),
+        Err(OrderError::Cycle(number)) => Err(cycle(folder_at(folders, number))),
         Ok(order) => Ok(units_of(alloc, module_path, folders, &packages, slots, order.items())?),
     }
 }

@@ -17,7 +17,7 @@ fn copied_names(alloc: Global, names: &[Text]) -> Result<List<Text>, NoMemory>
     Ok(copied)
 }
 
-fn copied_cause(alloc: Global, cause: &Cause) -> Result<Cause, NoMemory>
+fn copied_cause(cause: &Cause) -> Result<Cause, NoMemory>
     ensures { IfOk result (λ copied. copied ≡ cause.now) }
 {
     match cause {
@@ -34,7 +34,7 @@ fn copied_one(alloc: Global, skipped: &Skipped) -> Result<Skipped, NoMemory>
     Ok(Skipped {
         place: skipped.place,
         names: copied_names(alloc, skipped.names.items())?,
-        cause: copied_cause(alloc, &skipped.cause)?,
+        cause: copied_cause(&skipped.cause)?,
     })
 }
 

@@ -10,7 +10,7 @@ use go_base::shared::Shared;
 use go_base::text::Text;
 use std::alloc::Global;
 
-fn copy_text(alloc: Global, text: &Text) -> Result<Text, NoMemory>
+fn copy_text(text: &Text) -> Result<Text, NoMemory>
     ensures { IfOk result (λ copied. copied ≡ text.now) }
 {
     text.copy()
@@ -22,8 +22,8 @@ impl TypeName {
         ensures { IfOk result (λ copied. copied ≡ self.now) }
     {
         Ok(TypeName {
-            path: copy_text(alloc, &self.path)?,
-            name: copy_text(alloc, &self.name)?,
+            path: copy_text(&self.path)?,
+            name: copy_text(&self.name)?,
         })
     }
 }
@@ -34,8 +34,8 @@ impl Sel {
         ensures { IfOk result (λ copied. copied ≡ self.now) }
     {
         Ok(Sel {
-            name: copy_text(alloc, &self.name)?,
-            package: copy_text(alloc, &self.package)?,
+            name: copy_text(&self.name)?,
+            package: copy_text(&self.package)?,
         })
     }
 }
@@ -107,7 +107,7 @@ fn copy_objects(alloc: Global, objects: &[Object]) -> Result<List<Object>, NoMem
     let mut copied = List::with_room(alloc, objects.len())?;
     for object in objects {
         copied.push(Object {
-            name: copy_text(alloc, &object.name)?,
+            name: copy_text(&object.name)?,
             entity: object.entity.copy(alloc)?,
         })?;
     }
@@ -134,7 +134,7 @@ impl Defined {
         ensures { IfOk result (λ copied. copied ≡ self.now) }
     {
         Ok(Defined {
-            name: copy_text(alloc, &self.name)?,
+            name: copy_text(&self.name)?,
             underlying: self.underlying.copy(alloc)?,
             methods: copy_declared(alloc, self.methods.items())?,
         })
@@ -157,8 +157,8 @@ impl Package {
         ensures { IfOk result (λ copied. copied ≡ self.now) }
     {
         Ok(Package {
-            path: copy_text(alloc, &self.path)?,
-            name: copy_text(alloc, &self.name)?,
+            path: copy_text(&self.path)?,
+            name: copy_text(&self.name)?,
             from_std: self.from_std,
             objects: Shared::new(alloc, copy_objects(alloc, self.objects.items())?)?,
             defined: Shared::new(alloc, copy_defined(alloc, self.defined.items())?)?,
@@ -170,8 +170,8 @@ impl Package {
         ensures { IfOk result (λ shared. shared ≡ self.now) }
     {
         Ok(Package {
-            path: copy_text(alloc, &self.path)?,
-            name: copy_text(alloc, &self.name)?,
+            path: copy_text(&self.path)?,
+            name: copy_text(&self.name)?,
             from_std: self.from_std,
             objects: self.objects.share()?,
             defined: self.defined.share()?,
