@@ -78,7 +78,8 @@ tree("keys of a struct's literal")(lambda share: module("package p\ntype T struc
 # declarations
 one_file("constants of a group", "const (\nA = iota\n", lambda n: "a%d\n" % n, lambda last: ")\n")
 tree("a long expression that constants repeat")(lambda share: module("package p\nconst (\nA = 1" + "+1" * (1000000 // share) + "\n" + "".join("a%d\n" % n for n in range(250000 // share)) + ")\n"))
-one_file("constants of texts of 65,000 bytes", 'const s = "' + "x" * 65000 + '"\n', lambda n: "const s%d = s\n" % n, statuses=(0, 6))
+one_file("constants of texts of 65,000 bytes", 'const s = "' + "x" * 65000 + '"\n', lambda n: "const s%d = s\n" % n)
+tree("fields that have a tag in common")(lambda share: module("package p\ntype t struct { f0" + "".join(", f%d" % n for n in range(1, 90000 // share)) + " int `" + "x" * (2000000 // share) + "` }\n"))
 one_file("constants of later ones", "", lambda n: "const c%d = c%d\n" % (n, n + 1), lambda last: "const c%d = 1\n" % (last + 1))
 one_file("variables of one", "var a int\n", lambda n: "var v%d = a\n" % n)
 one_file("declarations of the last", "", lambda n: "var v%d z\n" % n, lambda last: "type z int\n")
