@@ -75,29 +75,29 @@ pub returns-in-FuncLit : goal.returns-in-FuncLit
 returns-in-FuncLit g c =
     let E = env_in c.args.self.now.literals.operations.typing.context.now in
     let e = c.args.expr.now in
-    let i = ap out-Expr c.in-FuncLit.is ∙ outs-FuncLit c.in-FuncLit.signature c.in-FuncLit.field-1 in
-    same_form E e (Expr-F.FuncLit c.in-FuncLit.signature c.in-FuncLit.field-1) i tt c.function.result (c.function.ensures c.in-FuncLit.field-1)
+    let i = ap out-Expr c.in-FuncLit.is ∙ outs-FuncLit c.in-FuncLit.signature c.in-FuncLit.field-1 ∙ ap (λ y. Expr-F.FuncLit y c.in-FuncLit.field-1) (sym c.value-in-FuncLit.ensures) in
+    same_form E e (Expr-F.FuncLit c.value-in-FuncLit.result.now c.in-FuncLit.field-1) i tt c.function.result (c.function.ensures c.in-FuncLit.field-1)
 
 pub returns-in-Composite : goal.returns-in-Composite
 returns-in-Composite g c =
     let E = env_in c.args.self.now.literals.operations.typing.context.now in
     let e = c.args.expr.now in
-    let i = ap out-Expr c.in-Composite.is ∙ outs-Composite c.in-Composite.form c.in-Composite.elements ∙ ap (Expr-F.Composite c.in-Composite.form) (sym c.items-in-Composite.ensures) in
-    same_form E e (Expr-F.Composite c.in-Composite.form c.items-in-Composite.result.now) i tt c.composite.result c.composite.ensures
+    let i = ap out-Expr c.in-Composite.is ∙ outs-Composite c.in-Composite.form c.in-Composite.elements ∙ (λ j. Expr-F.Composite (sym c.value-in-Composite.ensures j) (sym c.items-in-Composite.ensures j)) in
+    same_form E e (Expr-F.Composite c.value-in-Composite.result.now c.items-in-Composite.result.now) i tt c.composite.result c.composite.ensures
 
 pub returns-in-CompositeArray : goal.returns-in-CompositeArray
 returns-in-CompositeArray g c =
     let E = env_in c.args.self.now.literals.operations.typing.context.now in
     let e = c.args.expr.now in
-    let i = ap out-Expr c.in-CompositeArray.is ∙ outs-CompositeArray c.in-CompositeArray.form c.in-CompositeArray.elements ∙ ap (Expr-F.CompositeArray c.in-CompositeArray.form) (sym c.items-in-CompositeArray.ensures) in
-    same_form E e (Expr-F.CompositeArray c.in-CompositeArray.form c.items-in-CompositeArray.result.now) i tt c.composite_array.result c.composite_array.ensures
+    let i = ap out-Expr c.in-CompositeArray.is ∙ outs-CompositeArray c.in-CompositeArray.form c.in-CompositeArray.elements ∙ (λ j. Expr-F.CompositeArray (sym c.value-in-CompositeArray.ensures j) (sym c.items-in-CompositeArray.ensures j)) in
+    same_form E e (Expr-F.CompositeArray c.value-in-CompositeArray.result.now c.items-in-CompositeArray.result.now) i tt c.composite_array.result c.composite_array.ensures
 
 pub returns-in-Type : goal.returns-in-Type
 returns-in-Type g c =
     let E = env_in c.args.self.now.literals.operations.typing.context.now in
     let e = c.args.expr.now in
-    let i = ap out-Expr c.in-Type.is ∙ outs-Type c.in-Type.form in
-    same_form E e (Expr-F.«Expr::Type» c.in-Type.form) i tt c.type_operand.result c.type_operand.ensures
+    let i = ap out-Expr c.in-Type.is ∙ outs-Type c.in-Type.form ∙ ap Expr-F.«Expr::Type» (sym c.value-in-Type.ensures) in
+    same_form E e (Expr-F.«Expr::Type» c.value-in-Type.result.now) i tt c.type_operand.result c.type_operand.ensures
 
 pub returns-in-Paren : goal.returns-in-Paren
 returns-in-Paren g c =
@@ -110,8 +110,8 @@ pub returns-in-ParenReceiveChan : goal.returns-in-ParenReceiveChan
 returns-in-ParenReceiveChan g c =
     let E = env_in c.args.self.now.literals.operations.typing.context.now in
     let e = c.args.expr.now in
-    let i = ap out-Expr c.in-ParenReceiveChan.is ∙ outs-ParenReceiveChan c.in-ParenReceiveChan.element in
-    same_form E e (Expr-F.ParenReceiveChan c.in-ParenReceiveChan.element) i tt c.channel_operand.result c.channel_operand.ensures
+    let i = ap out-Expr c.in-ParenReceiveChan.is ∙ outs-ParenReceiveChan c.in-ParenReceiveChan.element ∙ ap Expr-F.ParenReceiveChan (sym c.value-in-ParenReceiveChan.ensures) in
+    same_form E e (Expr-F.ParenReceiveChan c.value-in-ParenReceiveChan.result.now) i tt c.channel_operand.result c.channel_operand.ensures
 
 pub returns-in_err-operand-in-Literal : goal.returns-in_err-operand-in-Literal
 returns-in_err-operand-in-Literal g c =
