@@ -90,7 +90,6 @@ pub fn add_exprs(
 }
 
 /// The same of an expression that may be missing.
-#[cycle(places)]
 pub fn add_optional_expr(
     found: &mut List<LiteralPlace>,
     expr: &Option<Expr>,

@@ -1,4 +1,5 @@
-use Rattle.std.proofs.Common.{arith}
+use Rattle.std.proofs.Common.{arith, ap, ◌∙◌, ◌++◌}
+use Rattle.go_function_literals.specs.Places.{signature_places, type_places}
 use Rattle.go_function_literals.proofs.Depths.{and_below, compare_below, or_below, primary_below, product_below, sum_below}
 use Rattle.go_function_literals.proofs.Joins.{and_is, chain_added, compare_is, composite_added, composite_array_is, composite_is, func_added, func_is, or_is, primary_added, primary_is, product_is, sum_is}
 use Rattle.go_function_literals.proofs.expressions.+places.Goals as goal
@@ -60,14 +61,14 @@ add_expr-returns-in_ok-add_expr-in-Primary t c =
 pub add_expr-returns-in_ok-add_signature-in-FuncLit : goal.add_expr-returns-in_ok-add_signature-in-FuncLit
 add_expr-returns-in_ok-add_signature-in-FuncLit t c =
     func_added c.args.expr.now c.in-FuncLit.signature c.in-FuncLit.body c.args.height c.below-in-FuncLit.result c.below-in-FuncLit-2.result c.args.found.now c.add_signature.new.found c.add_literal.new.found c.add_literal.result
-    (func_is c.args.expr.now c.in-FuncLit.signature c.in-FuncLit.body c.args.height c.in-FuncLit.is) c.below-in-FuncLit.ensures c.below-in-FuncLit-2.ensures c.in_ok-add_signature-in-FuncLit.ensures c.add_literal.ensures
+    (func_is c.args.expr.now c.in-FuncLit.signature c.in-FuncLit.body c.args.height c.in-FuncLit.is) c.below-in-FuncLit.ensures c.below-in-FuncLit-2.ensures (c.in_ok-add_signature-in-FuncLit.ensures ∙ ap (λ y. c.args.found.now ++ signature_places y c.below-in-FuncLit.result) c.value-in-FuncLit.ensures) c.add_literal.ensures
 
 pub add_expr-returns-in_ok-add_type-in-Composite : goal.add_expr-returns-in_ok-add_type-in-Composite
 add_expr-returns-in_ok-add_type-in-Composite t c =
     composite_added c.args.expr.now c.in-Composite.type_ c.in-Composite.elements c.items-in-Composite.result.now c.args.height c.below-in-Composite.result c.below-in-Composite-2.result c.below-in-Composite-3.result c.args.found.now c.add_type.new.found c.add_elements.new.found c.add_elements.result
-    (composite_is c.args.expr.now c.in-Composite.type_ c.in-Composite.elements c.args.height c.in-Composite.is) c.items-in-Composite.ensures c.below-in-Composite.ensures c.below-in-Composite-2.ensures c.below-in-Composite-3.ensures c.in_ok-add_type-in-Composite.ensures c.add_elements.ensures
+    (composite_is c.args.expr.now c.in-Composite.type_ c.in-Composite.elements c.args.height c.in-Composite.is) c.items-in-Composite.ensures c.below-in-Composite.ensures c.below-in-Composite-2.ensures c.below-in-Composite-3.ensures (c.in_ok-add_type-in-Composite.ensures ∙ ap (λ y. c.args.found.now ++ type_places y c.below-in-Composite.result) c.value-in-Composite.ensures) c.add_elements.ensures
 
 pub add_expr-returns-in_ok-add_type-in-CompositeArray : goal.add_expr-returns-in_ok-add_type-in-CompositeArray
 add_expr-returns-in_ok-add_type-in-CompositeArray t c =
     composite_added c.args.expr.now c.in-CompositeArray.type_ c.in-CompositeArray.elements c.items-in-CompositeArray.result.now c.args.height c.below-in-CompositeArray.result c.below-in-CompositeArray-2.result c.below-in-CompositeArray-3.result c.args.found.now c.add_type-in-CompositeArray.new.found c.add_elements-in-CompositeArray.new.found c.add_elements-in-CompositeArray.result
-    (composite_array_is c.args.expr.now c.in-CompositeArray.type_ c.in-CompositeArray.elements c.args.height c.in-CompositeArray.is) c.items-in-CompositeArray.ensures c.below-in-CompositeArray.ensures c.below-in-CompositeArray-2.ensures c.below-in-CompositeArray-3.ensures c.in_ok-add_type-in-CompositeArray.ensures c.add_elements-in-CompositeArray.ensures
+    (composite_array_is c.args.expr.now c.in-CompositeArray.type_ c.in-CompositeArray.elements c.args.height c.in-CompositeArray.is) c.items-in-CompositeArray.ensures c.below-in-CompositeArray.ensures c.below-in-CompositeArray-2.ensures c.below-in-CompositeArray-3.ensures (c.in_ok-add_type-in-CompositeArray.ensures ∙ ap (λ y. c.args.found.now ++ type_places y c.below-in-CompositeArray.result) c.value-in-CompositeArray.ensures) c.add_elements-in-CompositeArray.ensures
