@@ -80,7 +80,8 @@ fn type_text(alloc: Global, term: &Term) -> Result<Text, NoMemory>
 {
     let mut out = Vec::new(alloc);
     push_type(&mut out, term)?;
-    Text::from_vec(alloc, out)
+    let text = Text::from_vec(alloc, out)?;
+    Ok(text)
 }
 
 fn type_change(alloc: Global, before: &Term, after: &Term) -> Result<Text, NoMemory>
