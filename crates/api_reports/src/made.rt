@@ -32,5 +32,5 @@ pub fn made_text(
     add_count(&mut text, b"packages ", packages as usize)?;
     add_count(&mut text, b"lines ", lines)?;
     add_count(&mut text, b"breaks ", breaks)?;
-    Text::from_vec(alloc, text)
+    Ok(Text::from_vec(alloc, text)?)
 }

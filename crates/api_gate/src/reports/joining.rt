@@ -11,5 +11,5 @@ pub(crate) fn joined(alloc: Global, first: &[u8], second: &[u8]) -> Result<Text,
 {
     let mut text = Vec::from_slice(alloc, first)?;
     text.extend_from_slice(second)?;
-    Text::from_vec(alloc, text)
+    Ok(Text::from_vec(alloc, text)?)
 }
