@@ -15,10 +15,10 @@ use Rattle.go_model.specs.declared.files.tree.TreeFile.{TreeFile}
 use Rattle.go_model.specs.files.Trees.{IsTree, IsTreeFile}
 use Rattle.go_reading.proofs.FilesByName.{by_name_from}
 use Rattle.go_reading.proofs.ListFacts.{has_mapped, kept_from, map_more}
-use Rattle.go_tree_folders.specs.declared.heads.Head.{Head}
-use Rattle.go_tree_folders.specs.declared.heads.Head.TheVariants as head
-use Rattle.go_tree_folders.specs.declared.heads.HeadedFile.{HeadedFile}
-use Rattle.go_tree_folders.specs.inner.Heads.{AreHeads, IsHead, file_of, headed_path}
+use Rattle.go_reading.specs.declared.heads.Head.{Head}
+use Rattle.go_reading.specs.declared.heads.Head.TheVariants as head
+use Rattle.go_reading.specs.declared.heads.HeadedFile.{HeadedFile}
+use Rattle.go_reading.specs.inner.Heads.{AreHeads, IsHead, file_of, headed_path}
 use Rattle.go_units.specs.declared.reader.FileFault.{FileFault}
 use Rattle.go_units.specs.declared.reader.FileFault.TheVariants as fault
 

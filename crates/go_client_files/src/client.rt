@@ -16,11 +16,11 @@ use crate::uses::{ClientFiles, package_files};
 use go_base::list::List;
 use go_base::memory::NoMemory;
 use go_base::text::Text;
-use go_client_walks::package_checks::{check_free, mixed_names, refused};
+use go_units::package_checks::{check_free, mixed_names, refused};
 use go_model::files::platform::Platform;
 use go_model::files::tree::{Tree, TreeFile};
-use go_tree_folders::files_by_name::files_by_name;
-use go_tree_folders::heads::headed_files;
+use go_reading::files_by_name::files_by_name;
+use go_reading::heads::headed_files;
 use go_units::folder::Folder;
 use go_units::unit_error::UnitError;
 use std::alloc::Global;
@@ -103,7 +103,7 @@ fn accepted(
     ensures cause { IfErr result (CheckCause module_path.now folders.now parsed) }
 {
     if !are_of_one(parsed.items()) {
-        return Err(mixed_names(alloc, client));
+        return Err(mixed_names(client));
     }
     let list = package_files(alloc, module_path, folders, parsed)?;
     match check_free(alloc, client, list.files.items()) {
@@ -135,7 +135,7 @@ pub fn read_client(
     let headed = headed_files(alloc, platform, &files)?;
     let own = client_folder(alloc)?;
     match read_files(alloc, headed.items())? {
-        ClientReading::Refused(file, fault) => Err(refused(alloc, &own, file, fault)),
+        ClientReading::Refused(file, fault) => Err(refused(&own, file, fault)),
         ClientReading::Files(parsed) => accepted(alloc, module_path, folders, &own, parsed),
     }
 }

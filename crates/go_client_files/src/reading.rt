@@ -5,7 +5,7 @@ ghost use Rattle.go_imports.specs.Gives.{optional};
 ghost use Rattle.go_client_files.specs.ClientFiles.{IsParsed};
 ghost use Rattle.go_client_files.specs.inner.Causes.{Causes, HasBadText};
 ghost use Rattle.go_client_files.specs.inner.Heads.{GivesHeaded, IsSomeParsed, IsRefusedHeaded, IsRefusalOf, IsHeadedReading};
-ghost use Rattle.go_tree_folders.specs.declared.heads.HeadedFile.{HeadedFile};
+ghost use Rattle.go_reading.specs.declared.heads.HeadedFile.{HeadedFile};
 
 use crate::parsed::{FileError, ParsedFile, parsed_file};
 use go_base::list::List;
@@ -13,7 +13,7 @@ use go_base::memory::NoMemory;
 use go_base::text::Text;
 use go_load::names::under;
 use go_model::files::tree::TreeFile;
-use go_tree_folders::heads::{Head, HeadedFile};
+use go_reading::heads::{Head, HeadedFile};
 use go_units::reader::FileFault;
 use std::alloc::Global;
 

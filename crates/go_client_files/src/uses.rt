@@ -9,7 +9,7 @@ use crate::parsed::ParsedFile;
 use go_base::list::List;
 use go_base::memory::NoMemory;
 use go_base::text::Text;
-use go_client_walks::package_uses::imports_of;
+use go_units::package_uses::imports_of;
 use go_imports::import_paths::assumed_name;
 use go_imports::package_files::{SourceFile, imports_c};
 use go_imports::used_imports::{Import, NamedImport};

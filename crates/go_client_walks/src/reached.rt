@@ -1,153 +1,23 @@
 //! The folders that are read for the packages of a module with a client: its own in the order of their paths, and then always
 //! the one with the least path for which a used import asks, or one of the client.
-ghost use Rattle.std.specs.Prelude.{◌≡◌, ◌≢◌, ◌<◌, ◌+◌, [], ℕ, false, length, slice_set, IfOk, IfErr, OnOk};
+ghost use Rattle.std.specs.Prelude.{◌≡◌, ◌≢◌, ◌<◌, ◌+◌, [], ℕ, false, length, IfOk, IfErr, OnOk};
 ghost use Rattle.go_base.specs.Lists.{Has};
 ghost use Rattle.go_base.specs.Growing.{Grows};
-ghost use Rattle.go_imports.specs.Answers.{Decides};
 ghost use Rattle.go_units.specs.Folders.{AreOrdered};
-ghost use Rattle.go_units.specs.Reached.{IsFresh, IsRefusedFor};
-ghost use Rattle.go_units.specs.inner.Reaching.{PathAsks, UsesAsk, FilesAskNew, AsksNew, HasModule, HasModuleTo, GivesAccepted, Advances};
+ghost use Rattle.go_units.specs.Reached.{IsRefusedFor};
+ghost use Rattle.go_units.specs.inner.Reaching.{FilesAskNew, HasModule, HasModuleTo, Advances};
 ghost use Rattle.go_client_walks.specs.ClientWalks.{IsNextFolder, AllAreRead, ModuleAnswers};
 ghost use Rattle.go_client_walks.specs.inner.Reaching.{Reaching, ReachCause, OwnCause};
 
-use crate::folder::{asked, folder_at};
-use crate::package_checks::{accepted_files, refused};
 use go_base::list::List;
 use go_base::memory::NoMemory;
-use go_imports::used_imports::NamedImport;
-use go_units::folder::Folder;
+use go_units::folder::{Folder, folder_at};
 use go_units::package_uses::PackageFile;
-use go_units::reader::{FolderReader, Reading};
+use go_units::reached::{add_asked_by, add_asked_by_files, empty_slots, put, read_folder};
+use go_units::reader::FolderReader;
 use go_units::unit_error::UnitError;
 use std::alloc::Global;
 use std::collections::BTreeSet;
-
-fn is_fresh(slots: &[Option<List<PackageFile>>], number: usize) -> bool
-    ensures { Decides result (IsFresh slots.now number) }
-{
-    match slots.get(number) {
-        None => true,
-        Some(files) => files.is_none(),
-    }
-}
-
-fn add_number(pending: &mut BTreeSet<usize>, number: usize) -> Result<(), NoMemory>
-    ensures { OnOk result (Grows (λ m. number ≡ m) pending.old.keys pending.new.keys) }
-{
-    pending.insert(number)?;
-    Ok(())
-}
-
-fn add_asked(
-    module_path: &[u8],
-    folders: &[Folder],
-    slots: &[Option<List<PackageFile>>],
-    pending: &mut BTreeSet<usize>,
-    from_std: bool,
-    path: &[u8],
-) -> Result<(), NoMemory>
-    requires { AreOrdered folders.now }
-    ensures { OnOk result (Grows (PathAsks module_path.now folders.now slots.now from_std path.now) pending.old.keys pending.new.keys) }
-{
-    match asked(module_path, folders, from_std, path) {
-        None => Ok(()),
-        Some(number) => {
-            if !is_fresh(slots, number) {
-                return Ok(());
-            }
-            add_number(pending, number)
-        }
-    }
-}
-
-fn add_asked_by_uses(
-    module_path: &[u8],
-    folders: &[Folder],
-    slots: &[Option<List<PackageFile>>],
-    pending: &mut BTreeSet<usize>,
-    from_std: bool,
-    uses: &[NamedImport],
-) -> Result<(), NoMemory>
-    requires { AreOrdered folders.now }
-    ensures { OnOk result (Grows (UsesAsk module_path.now folders.now slots.now from_std uses.now) pending.old.keys pending.new.keys) }
-{
-    for import in uses {
-        let path = import.path.bytes();
-        add_asked(module_path, folders, slots, pending, from_std, path)?;
-    }
-    Ok(())
-}
-
-fn add_asked_by_files(
-    module_path: &[u8],
-    folders: &[Folder],
-    slots: &[Option<List<PackageFile>>],
-    pending: &mut BTreeSet<usize>,
-    from_std: bool,
-    files: &[PackageFile],
-) -> Result<(), NoMemory>
-    requires { AreOrdered folders.now }
-    ensures { OnOk result (Grows (FilesAskNew module_path.now folders.now slots.now from_std files.now) pending.old.keys pending.new.keys) }
-{
-    for file in files {
-        let uses = file.uses.items();
-        add_asked_by_uses(module_path, folders, slots, pending, from_std, uses)?;
-    }
-    Ok(())
-}
-
-// Adds the folders for which the imports ask that a package uses.
-fn add_asked_by(
-    module_path: &[u8],
-    folders: &[Folder],
-    slots: &[Option<List<PackageFile>>],
-    pending: &mut BTreeSet<usize>,
-    number: usize,
-) -> Result<(), NoMemory>
-    requires ordered { AreOrdered folders.now }
-    requires within { number < length folders.now }
-    ensures { OnOk result (Grows (AsksNew module_path.now folders.now slots.now number) pending.old.keys pending.new.keys) }
-{
-    let from_std = folder_at(folders, number).from_std;
-    match slots.get(number) {
-        Some(Some(files)) => add_asked_by_files(
-            module_path,
-            folders,
-            slots,
-            pending,
-            from_std,
-            files.items(),
-        ),
-        _ => Ok(()),
-    }
-}
-
-fn read_folder<R: FolderReader>(
-    alloc: Global,
-    reader: &R,
-    module_path: &[u8],
-    folders: &[Folder],
-    number: usize,
-) -> Result<List<PackageFile>, UnitError>
-    requires ordered { AreOrdered folders.now }
-    requires within { number < length folders.now }
-    ensures ok { IfOk result (GivesAccepted module_path.now folders.now (R.gives reader.now) number) }
-    ensures cause { IfErr result (IsRefusedFor module_path.now folders.now (R.gives reader.now) number) }
-{
-    match reader.read(alloc, number)? {
-        Reading::Files(sources) => accepted_files(alloc, module_path, folders, number, sources),
-        Reading::Refused(file, fault) => {
-            Err(refused(alloc, folder_at(folders, number), file, fault))
-        }
-    }
-}
-
-fn put(slots: &mut Vec<Option<List<PackageFile>>>, number: usize, files: List<PackageFile>)
-    requires { number < length slots.old.items }
-    ensures { slots.new.items ≡ slice_set slots.old.items number (Some files) }
-{
-    slots[number] = Some(files);
-}
 
 // Reads the folder that is next.
 fn advance<R: FolderReader>(
@@ -175,17 +45,6 @@ fn advance<R: FolderReader>(
     put(slots, number, files);
     add_asked_by(module_path, folders, slots, pending, number)?;
     Ok(())
-}
-
-fn empty_slots(alloc: Global, count: usize) -> Result<Vec<Option<List<PackageFile>>>, NoMemory>
-    ensures length { IfOk result (λ slots. length slots.items ≡ count) }
-    ensures empty { IfOk result (λ slots. (n : ℕ) → IsFresh slots.items n) }
-{
-    let mut slots = Vec::new(alloc);
-    for _ in 0..count {
-        slots.push(None)?;
-    }
-    Ok(slots)
 }
 
 // Reads a folder where it is one of the module.

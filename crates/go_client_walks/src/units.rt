@@ -1,26 +1,21 @@
 //! The units of a module with a client: its packages with those of the standard library that they reach, or the client, in canonical order.
-ghost use Rattle.std.specs.Prelude.{◌≡◌, ◌<◌, ◌≤◌, None, length, slice_set, IfOk, IfSome, OnOk};
+ghost use Rattle.std.specs.Prelude.{◌≡◌, ◌<◌, length};
 ghost use Rattle.go_units.specs.Folders.{AreOrdered};
-ghost use Rattle.go_units.specs.Reached.{slot};
-ghost use Rattle.go_units.specs.UnitsOfModules.{packages_in, AreUnits};
-ghost use Rattle.go_units.specs.inner.UnitMaking.{AreAlike};
 ghost use Rattle.go_client_walks.specs.ClientWalks.{Answers, ModuleAnswers};
 ghost use Rattle.go_client_walks.specs.inner.Reaching.{Finishes};
-ghost use Rattle.go_units.specs.inner.UnitOrder.{IsCycleOf, AreReadable, AddsUnit, HasOrder, UnitsAre, Orders};
+ghost use Rattle.go_units.specs.inner.UnitOrder.{AreReadable};
 
-use crate::folder::folder_at;
 use crate::reached::{reached, reached_module};
-use crate::unit_files::{unit, unit_files};
-use crate::unit_graph::{needs, packages_in};
 use go_base::list::List;
-use go_base::memory::NoMemory;
-use go_imports::order::{OrderError, canonical_order};
 use go_units::folder::Folder;
 use go_units::package_uses::PackageFile;
 use go_units::reader::FolderReader;
-use go_units::unit::{Unit, UnitFile};
+use go_units::unit::UnitFile;
 use go_units::unit_error::UnitError;
+use go_units::unit_files::unit_files;
+use go_units::unit_graph::packages_in;
 use go_units::unit_list::Units;
+use go_units::units::ordered;
 use std::alloc::Global;
 
 /// The packages that a module and a client of it reach, and the files of the client.
@@ -29,125 +24,6 @@ pub struct WalkedClient {
     pub units: Units,
     /// The files of the client, each of its imports found or not.
     pub files: List<UnitFile>,
-}
-
-fn cycle(folder: &Folder) -> UnitError
-    ensures { IsCycleOf folder.now result }
-{
-    match folder.path.copy() {
-        Err(_) => UnitError::NoMemory,
-        Ok(path) => UnitError::Cycle(path),
-    }
-}
-
-fn take(slots: &mut Vec<Option<List<PackageFile>>>, number: usize) -> Option<List<PackageFile>>
-    requires { number < length slots.old.items }
-    ensures taken { result ≡ slot slots.old.items number }
-    ensures left { slots.new.items ≡ slice_set slots.old.items number None }
-{
-    std::mem::replace(&mut slots[number], None)
-}
-
-// Adds the unit of these files, where there are some.
-fn add_unit(
-    alloc: Global,
-    module_path: &[u8],
-    folders: &[Folder],
-    packages: &[bool],
-    units: &mut List<Unit>,
-    number: usize,
-    files: Option<List<PackageFile>>,
-) -> Result<(), NoMemory>
-    requires ordered { AreOrdered folders.now }
-    requires within { number < length folders.now }
-    requires readable { IfSome files (λ files. (length files < 4294967296) × AreAlike files) }
-    ensures { OnOk result (AddsUnit module_path.now folders.now packages.now number files units.old units.new) }
-{
-    match files {
-        None => Ok(()),
-        Some(files) => {
-            if files.items().is_empty() {
-                return Ok(());
-            }
-            let made = unit(alloc, module_path, folders, packages, number, files)?;
-            units.push(made)
-        }
-    }
-}
-
-fn units_in(
-    alloc: Global,
-    module_path: &[u8],
-    folders: &[Folder],
-    packages: &[bool],
-    slots: Vec<Option<List<PackageFile>>>,
-    order: &[usize],
-) -> Result<List<Unit>, NoMemory>
-    requires ordered { AreOrdered folders.now }
-    requires rows { length slots.items ≡ length folders.now }
-    requires readable { AreReadable slots.items }
-    requires flags { packages.now ≡ packages_in slots.items }
-    requires order { HasOrder module_path.now folders.now slots.items order.now }
-    ensures { IfOk result (UnitsAre module_path.now folders.now slots.items) }
-{
-    let mut left = slots;
-    let mut units = List::new(alloc);
-    for number in order {
-        let files = take(&mut left, *number);
-        add_unit(
-            alloc,
-            module_path,
-            folders,
-            packages,
-            &mut units,
-            *number,
-            files,
-        )?;
-    }
-    Ok(units)
-}
-
-fn units_of(
-    alloc: Global,
-    module_path: &[u8],
-    folders: &[Folder],
-    packages: &[bool],
-    slots: Vec<Option<List<PackageFile>>>,
-    order: &[usize],
-) -> Result<Units, NoMemory>
-    requires ordered { AreOrdered folders.now }
-    requires few { length folders.now < 4294967296 }
-    requires rows { length slots.items ≡ length folders.now }
-    requires readable { AreReadable slots.items }
-    requires flags { packages.now ≡ packages_in slots.items }
-    requires order { HasOrder module_path.now folders.now slots.items order.now }
-    ensures { IfOk result (λ units. AreUnits module_path.now folders.now slots.items units.packages) }
-{
-    let packages = units_in(alloc, module_path, folders, packages, slots, order)?;
-    Ok(Units { packages })
-}
-
-// The units of all packages, or the least package on a cycle.
-fn ordered(
-    alloc: Global,
-    module_path: &[u8],
-    folders: &[Folder],
-    packages: &[bool],
-    slots: Vec<Option<List<PackageFile>>>,
-) -> Result<Units, UnitError>
-    requires ordered { AreOrdered folders.now }
-    requires few { length folders.now < 4294967296 }
-    requires rows { length slots.items ≡ length folders.now }
-    requires readable { AreReadable slots.items }
-    requires flags { packages.now ≡ packages_in slots.items }
-    ensures { Orders module_path.now folders.now slots.items result }
-{
-    let graph = needs(alloc, module_path, folders, packages, &slots)?;
-    match canonical_order(alloc, &graph) {
-        Err(OrderError::NoMemory) => Err(UnitError::NoMemory),
-        Err(OrderError::Cycle(number)) => Err(cycle(folder_at(folders, number))),
-        Ok(order) => Ok(units_of(alloc, module_path, folders, packages, slots, order.items())?),
-    }
 }
 
 // The units with the files of the client.

@@ -11,4 +11,5 @@ pub mod PackageNames
 pub mod ReadSources
 pub mod TreeAnswers
 pub mod TreeListing
+pub mod TreeReadings
 pub mod UnitPaths

@@ -50,7 +50,7 @@ fn put<'a>(files: &mut Vec<&'a TreeFile>, file: &'a TreeFile) -> Result<(), NoMe
 }
 
 /// The files by their names.
-pub(crate) fn files_by_name<'a>(
+pub fn files_by_name<'a>(
     alloc: Global,
     files: &[&'a TreeFile],
 ) -> Result<Vec<&'a TreeFile>, NoMemory>

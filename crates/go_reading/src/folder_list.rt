@@ -30,9 +30,9 @@ pub(crate) struct FolderFiles<'a> {
 
 /// The folders of trees, and the files of each.
 #[derive(Drop)]
-pub(crate) struct TreeFolders<'a> {
-    pub(crate) folders: List<Folder>,
-    pub(crate) contents: List<List<HeadedFile<'a>>>,
+pub struct TreeFolders<'a> {
+    pub folders: List<Folder>,
+    pub contents: List<List<HeadedFile<'a>>>,
 }
 
 impl<'a> TreeFolders<'a> {
@@ -153,7 +153,7 @@ fn gathered<'a>(
 }
 
 /// The folders of a module's tree and of the standard library's that may hold packages on a platform, and their files.
-pub(crate) fn tree_folders<'a>(
+pub fn tree_folders<'a>(
     alloc: Global,
     platform: Platform,
     barred: &[Text],

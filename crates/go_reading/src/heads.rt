@@ -23,7 +23,7 @@ use std::alloc::Global;
 
 /// What the header of a file says of it on a platform.
 #[derive(Debug, Drop)]
-pub(crate) enum Head {
+pub enum Head {
     /// The platform leaves the file out.
     LeftOut,
     /// The platform chooses it; the name in its package clause, where its header has one.
@@ -34,9 +34,9 @@ pub(crate) enum Head {
 
 /// A file of a tree, with what its header says.
 #[derive(Drop)]
-pub(crate) struct HeadedFile<'a> {
-    pub(crate) file: &'a TreeFile,
-    pub(crate) head: Head,
+pub struct HeadedFile<'a> {
+    pub file: &'a TreeFile,
+    pub head: Head,
 }
 
 fn of_header(platform: Platform, file: &TreeFile, header: Header) -> Head
@@ -64,7 +64,7 @@ fn of_error(platform: Platform, file: &TreeFile, error: TagError) -> Result<Head
 }
 
 /// What the header of a file says of it. It is read only where the platform allows the file's name.
-fn head_of(alloc: Global, platform: Platform, file: &TreeFile) -> Result<Head, NoMemory>
+pub fn head_of(alloc: Global, platform: Platform, file: &TreeFile) -> Result<Head, NoMemory>
     ensures { IfOk result (IsHead platform file.now) }
 {
     if !chosen(platform, file.name.bytes(), None) {
@@ -77,7 +77,7 @@ fn head_of(alloc: Global, platform: Platform, file: &TreeFile) -> Result<Head, N
 }
 
 /// The files, each with what its header says.
-pub(crate) fn headed_files<'a>(
+pub fn headed_files<'a>(
     alloc: Global,
     platform: Platform,
     files: &[&'a TreeFile],

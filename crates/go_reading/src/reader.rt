@@ -13,11 +13,11 @@ use std::alloc::Global;
 
 /// The files of each folder, by its number, and the outlines that are known of them.
 #[derive(Drop)]
-pub(crate) struct TreeReader<'a> {
-    pub(crate) contents: List<List<HeadedFile<'a>>>,
-    pub(crate) known: &'a KnownOutlines,
-    pub(crate) ghost small: { (n : ℕ) (h : HeadedFile) → Has (get_or contents n []) h → length h.file.now.bytes ≤ 4194304 },
-    pub(crate) ghost few: { (n : ℕ) → length (get_or contents n []) < 4294967296 },
+pub struct TreeReader<'a> {
+    pub contents: List<List<HeadedFile<'a>>>,
+    pub known: &'a KnownOutlines,
+    pub ghost small: { (n : ℕ) (h : HeadedFile) → Has (get_or contents n []) h → length h.file.now.bytes ≤ 4194304 },
+    pub ghost few: { (n : ℕ) → length (get_or contents n []) < 4294967296 },
 }
 
 impl<'a> FolderReader for TreeReader<'a> {

@@ -22,7 +22,8 @@ pub struct Folder {
     pub package_name: Option<Text>,
 }
 
-pub(crate) fn folder_at(folders: &[Folder], number: usize) -> &Folder
+/// The folder of a number.
+pub fn folder_at(folders: &[Folder], number: usize) -> &Folder
     requires { number < length folders.now }
     ensures { result.now ≡ folder_of folders.now number }
 {
@@ -84,7 +85,7 @@ fn stands_there(
 }
 
 /// The folder that an import path names in a package of the standard library or of the module.
-pub(crate) fn named(
+pub fn named(
     module_path: &[u8],
     folders: &[Folder],
     from_std: bool,
@@ -132,7 +133,7 @@ fn is_asked(folder: &Folder) -> bool
 }
 
 /// The folder of the standard library for which a used import asks.
-pub(crate) fn asked(
+pub fn asked(
     module_path: &[u8],
     folders: &[Folder],
     from_std: bool,
@@ -174,7 +175,7 @@ fn holds_package(packages: &[bool], folder: &Folder, number: usize) -> bool
 }
 
 /// The folder in which an import is found, where these folders hold packages.
-pub(crate) fn found(
+pub fn found(
     module_path: &[u8],
     folders: &[Folder],
     packages: &[bool],

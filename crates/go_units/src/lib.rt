@@ -2,13 +2,13 @@
 #![tactic(auto)]
 
 pub mod folder;
-mod package_checks;
+pub mod package_checks;
 pub mod package_uses;
-mod reached;
+pub mod reached;
 pub mod reader;
 pub mod unit;
 pub mod unit_error;
-mod unit_files;
-mod unit_graph;
+pub mod unit_files;
+pub mod unit_graph;
 pub mod unit_list;
 pub mod units;

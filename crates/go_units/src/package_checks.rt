@@ -15,7 +15,8 @@ use go_imports::package_files::{SourceFile, are_of_one_package};
 use go_imports::used_imports::first_internal;
 use std::alloc::Global;
 
-fn mixed_names(folder: &Folder) -> UnitError
+/// The refusal of a folder whose files have several package names.
+pub fn mixed_names(folder: &Folder) -> UnitError
     ensures { IsMixed folder.now result }
 {
     match folder.path.copy() {
@@ -25,7 +26,7 @@ fn mixed_names(folder: &Folder) -> UnitError
 }
 
 /// The refusal of a file.
-pub(crate) fn refused(folder: &Folder, file: Text, fault: FileFault) -> UnitError
+pub fn refused(folder: &Folder, file: Text, fault: FileFault) -> UnitError
     ensures { IsRefused folder.now file fault result }
 {
     match folder.path.copy() {
@@ -52,7 +53,8 @@ fn internal(alloc: Global, folder: &Folder, file: &[u8], place: u32) -> UnitErro
     }
 }
 
-fn check_free(alloc: Global, folder: &Folder, files: &[PackageFile]) -> Result<(), UnitError>
+/// Whether no file of the package in a folder uses an import that this may not import; else the refusal at the first one.
+pub fn check_free(alloc: Global, folder: &Folder, files: &[PackageFile]) -> Result<(), UnitError>
     ensures ok { OnOk result (AreFree folder.now.path folder.now.from_std files.now) }
     ensures cause { IfErr result (InternalCause folder.now files.now) }
 {
@@ -69,7 +71,7 @@ fn check_free(alloc: Global, folder: &Folder, files: &[PackageFile]) -> Result<(
 ///
 /// `MixedNames` comes exactly where the package clauses of these files have several names, and `InternalUse` where they have
 /// one and a file uses an import that the package may not import, with the first such place.
-pub(crate) fn accepted_files(
+pub fn accepted_files(
     alloc: Global,
     module_path: &[u8],
     folders: &[Folder],

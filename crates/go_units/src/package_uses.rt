@@ -76,7 +76,8 @@ fn import_of(
     })
 }
 
-fn imports_of(
+/// The imports of a file, each with the name in the package clause of what it names, where that is there and says one.
+pub fn imports_of(
     alloc: Global,
     module_path: &[u8],
     folders: &[Folder],

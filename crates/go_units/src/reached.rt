@@ -75,7 +75,8 @@ fn add_asked_by_uses(
     Ok(())
 }
 
-fn add_asked_by_files(
+/// Adds the folders for which the imports ask that these files use, where they aren't read.
+pub fn add_asked_by_files(
     module_path: &[u8],
     folders: &[Folder],
     slots: &[Option<List<PackageFile>>],
@@ -93,8 +94,8 @@ fn add_asked_by_files(
     Ok(())
 }
 
-// Adds the folders for which the imports ask that a package uses.
-fn add_asked_by(
+/// Adds the folders for which the imports ask that a package uses.
+pub fn add_asked_by(
     module_path: &[u8],
     folders: &[Folder],
     slots: &[Option<List<PackageFile>>],
@@ -119,7 +120,8 @@ fn add_asked_by(
     }
 }
 
-fn read_folder<R: FolderReader>(
+/// What the files of a folder give, or the refusal of it.
+pub fn read_folder<R: FolderReader>(
     alloc: Global,
     reader: &R,
     module_path: &[u8],
@@ -137,7 +139,8 @@ fn read_folder<R: FolderReader>(
     }
 }
 
-fn put(slots: &mut Vec<Option<List<PackageFile>>>, number: usize, files: List<PackageFile>)
+/// Notes the files of a folder that was read.
+pub fn put(slots: &mut Vec<Option<List<PackageFile>>>, number: usize, files: List<PackageFile>)
     requires { number < length slots.old.items }
     ensures { slots.new.items ≡ slice_set slots.old.items number (Some files) }
 {
@@ -171,7 +174,8 @@ fn advance<R: FolderReader>(
     Ok(())
 }
 
-fn empty_slots(alloc: Global, count: usize) -> Result<Vec<Option<List<PackageFile>>>, NoMemory>
+/// A slot for the files of each of so many folders, of which none is read.
+pub fn empty_slots(alloc: Global, count: usize) -> Result<Vec<Option<List<PackageFile>>>, NoMemory>
     ensures length { IfOk result (λ slots. length slots.items ≡ count) }
     ensures empty { IfOk result (λ slots. (n : ℕ) → IsFresh slots.items n) }
 {

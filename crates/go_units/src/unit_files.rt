@@ -98,7 +98,8 @@ fn reversed(files: List<PackageFile>) -> Vec<PackageFile>
     items
 }
 
-fn unit_files(
+/// The files of a package, each of its imports found or not.
+pub fn unit_files(
     alloc: Global,
     module_path: &[u8],
     folders: &[Folder],
@@ -160,14 +161,16 @@ fn listed(alloc: Global, mut set: BTreeSet<Text>) -> Result<List<Text>, NoMemory
     Err(NoMemory)
 }
 
-fn needed(alloc: Global, files: &[UnitFile]) -> Result<List<Text>, NoMemory>
+/// The paths of the found imports of these files, each once, in the order of bytes.
+pub fn needed(alloc: Global, files: &[UnitFile]) -> Result<List<Text>, NoMemory>
     ensures { IfOk result (λ needs. needs ≡ needed_by files.now) }
 {
     let set = needed_set(alloc, files)?;
     listed(alloc, set)
 }
 
-fn name_of(files: &[PackageFile]) -> Result<Text, NoMemory>
+/// The name of the package that has these files.
+pub fn name_of(files: &[PackageFile]) -> Result<Text, NoMemory>
     requires some { 0 < length files.now }
     requires alike { AreAlike files.now }
     ensures { IfOk result (PackageFilesAreNamed files.now) }

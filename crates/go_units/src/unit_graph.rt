@@ -22,7 +22,7 @@ fn holds_files(files: &Option<List<PackageFile>>) -> bool
 }
 
 /// Which folders hold packages.
-pub(crate) fn packages_in(
+pub fn packages_in(
     alloc: Global,
     slots: &[Option<List<PackageFile>>],
 ) -> Result<Vec<bool>, NoMemory>

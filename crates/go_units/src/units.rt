@@ -116,25 +116,26 @@ fn units_of(
     Ok(Units { packages })
 }
 
-// The units of all packages, or the least package on a cycle.
-fn ordered(
+/// The units of all packages, or the least package on a cycle. The flags tell which folders hold packages.
+pub fn ordered(
     alloc: Global,
     module_path: &[u8],
     folders: &[Folder],
+    packages: &[bool],
     slots: Vec<Option<List<PackageFile>>>,
 ) -> Result<Units, UnitError>
     requires ordered { AreOrdered folders.now }
     requires few { length folders.now < 4294967296 }
     requires rows { length slots.items ≡ length folders.now }
     requires readable { AreReadable slots.items }
+    requires flags { packages.now ≡ packages_in slots.items }
     ensures { Orders module_path.now folders.now slots.items result }
 {
-    let packages = packages_in(alloc, &slots)?;
-    let graph = needs(alloc, module_path, folders, &packages, &slots)?;
+    let graph = needs(alloc, module_path, folders, packages, &slots)?;
     match canonical_order(alloc, &graph) {
         Err(OrderError::NoMemory) => Err(UnitError::NoMemory),
         Err(OrderError::Cycle(number)) => Err(cycle(folder_at(folders, number))),
-        Ok(order) => Ok(units_of(alloc, module_path, folders, &packages, slots, order.items())?),
+        Ok(order) => Ok(units_of(alloc, module_path, folders, packages, slots, order.items())?),
     }
 }
 
@@ -157,6 +158,9 @@ pub fn units<R: FolderReader>(
 {
     match reached(alloc, reader, module_path, folders) {
         Err(error) => Err(error),
-        Ok(slots) => ordered(alloc, module_path, folders, slots),
+        Ok(slots) => {
+            let packages = packages_in(alloc, &slots)?;
+            ordered(alloc, module_path, folders, &packages, slots)
+        }
     }
 }

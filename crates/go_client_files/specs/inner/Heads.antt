@@ -7,10 +7,10 @@ use Rattle.go_client_files.specs.declared.reading.ClientReading.TheVariants as r
 use Rattle.go_client_files.specs.inner.Causes.{HasBadText}
 use Rattle.go_imports.specs.Gives.{Gives}
 use Rattle.go_model.specs.declared.files.tree.TreeFile.{TreeFile}
-use Rattle.go_tree_folders.specs.declared.heads.Head.{Head}
-use Rattle.go_tree_folders.specs.declared.heads.Head.TheVariants as head
-use Rattle.go_tree_folders.specs.declared.heads.HeadedFile.{HeadedFile}
-use Rattle.go_tree_folders.specs.inner.Heads.{headed_path}
+use Rattle.go_reading.specs.declared.heads.Head.{Head}
+use Rattle.go_reading.specs.declared.heads.Head.TheVariants as head
+use Rattle.go_reading.specs.declared.heads.HeadedFile.{HeadedFile}
+use Rattle.go_reading.specs.inner.Heads.{headed_path}
 use Rattle.go_units.specs.declared.reader.FileFault.{FileFault}
 
 abbrev pub IsSomeParsed : TreeFile → Option ParsedFile → Type 0

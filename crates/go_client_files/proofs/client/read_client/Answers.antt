@@ -8,8 +8,8 @@ use Rattle.go_client_files.specs.inner.Heads.{IsHeadedReading}
 use Rattle.go_model.specs.declared.files.tree.TreeFile.{TreeFile}
 use Rattle.go_reading.specs.FilesByName.{by_name}
 use Rattle.go_reading.specs.inner.Groups.{lent}
-use Rattle.go_tree_folders.specs.declared.heads.HeadedFile.{HeadedFile}
-use Rattle.go_tree_folders.specs.inner.Heads.{AreHeads}
+use Rattle.go_reading.specs.declared.heads.HeadedFile.{HeadedFile}
+use Rattle.go_reading.specs.inner.Heads.{AreHeads}
 use Rattle.go_client_files.proofs.client.read_client.Goals as goal
 
 pub read_files-requires : goal.read_files-requires

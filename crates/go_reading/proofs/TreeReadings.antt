@@ -10,11 +10,11 @@ use Rattle.go_reading.proofs.ListFacts.{map_more}
 use Rattle.go_reading.specs.ChosenFiles.{IsFaulty, GivesSource, path_of}
 use Rattle.go_reading.specs.FolderReadings.{IsFirstRefused, IsReading}
 use Rattle.go_reading.specs.TreeFolders.{ReadsFolder}
-use Rattle.go_tree_folders.specs.declared.heads.Head.{Head}
-use Rattle.go_tree_folders.specs.declared.heads.Head.TheVariants as head
-use Rattle.go_tree_folders.specs.declared.heads.HeadedFile.{HeadedFile}
-use Rattle.go_tree_folders.specs.inner.Heads.{IsHead, AreHeads, file_of, GivesAs, GivesHeaded, IsRefusedAs, IsRefusedHeaded, headed_path, IsHeadedReading}
-use Rattle.go_tree_folders.specs.inner.Listing.{AreContents}
+use Rattle.go_reading.specs.declared.heads.Head.{Head}
+use Rattle.go_reading.specs.declared.heads.Head.TheVariants as head
+use Rattle.go_reading.specs.declared.heads.HeadedFile.{HeadedFile}
+use Rattle.go_reading.specs.inner.Heads.{IsHead, AreHeads, file_of, GivesAs, GivesHeaded, IsRefusedAs, IsRefusedHeaded, headed_path, IsHeadedReading}
+use Rattle.go_reading.specs.inner.Listing.{AreContents}
 use Rattle.go_units.specs.declared.folder.Folder.{Folder}
 use Rattle.go_units.specs.declared.reader.FileFault.{FileFault}
 use Rattle.go_units.specs.declared.reader.FileFault.TheVariants as fault
