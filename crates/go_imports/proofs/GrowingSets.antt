@@ -95,6 +95,19 @@ grows_next {A = A} P items i a old mid new h is f g = record {
   complete = λ x p. elim (has_taken items i a p.0 h is p.1) [ inl t ↦ g.kept x (f.complete x (p.0, t, p.2)) | inr s ↦ g.complete x (subst (λ (w : A). P w x) (sym s) p.2) ];
 }
 
+-- those of one item more, of which only those with a property count
+pub grows_next_where : {A K : Type 0} (P : A → K → Type 0) (Q : K → Type 0) (items : List A) (i : ℕ) (a : A) (old mid new : List K) → i < length items → a ≡ get_or items i a
+    → Grows (λ x. OfSome P (take i items) x × Q x) old mid → Grows (λ x. P a x × Q x) mid new → Grows (λ x. OfSome P (take (i + 1) items) x × Q x) old new
+grows_next_where {A = A} P Q items i a old mid new h is f g = record {
+  sound = λ x n. elim (g.sound x n) [ inl m ↦ elim (f.sound x m) [ inl o ↦ inl o | inr p ↦ inr ((p.0.0, has_more items i p.0.0 p.0.1, p.0.2), p.1) ] | inr p ↦ inr ((a, has_here items i a h is, p.0), p.1) ];
+  kept = λ x o. g.kept x (f.kept x o);
+  complete = λ x p. elim (has_taken items i a p.0.0 h is p.0.1) [ inl t ↦ g.kept x (f.complete x ((p.0.0, t, p.0.2), p.1)) | inr s ↦ g.complete x (subst (λ (w : A). P w x) (sym s) p.0.2, p.1) ];
+}
+
 -- those of all items
 pub grows_whole : {A K : Type 0} (P : A → K → Type 0) (items : List A) (i : ℕ) (old new : List K) → length items ≤ i → Grows (OfSome P (take i items)) old new → Grows (OfSome P items) old new
 grows_whole {A = A} P items i old new h g = subst (λ (xs : List A). Grows (OfSome P xs) old new) (take_past i items h) g
+
+-- those with a property of all items
+pub grows_whole_where : {A K : Type 0} (P : A → K → Type 0) (Q : K → Type 0) (items : List A) (i : ℕ) (old new : List K) → length items ≤ i → Grows (λ x. OfSome P (take i items) x × Q x) old new → Grows (λ x. OfSome P items x × Q x) old new
+grows_whole_where {A = A} P Q items i old new h g = subst (λ (xs : List A). Grows (λ x. OfSome P xs x × Q x) old new) (take_past i items h) g

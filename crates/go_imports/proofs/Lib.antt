@@ -1,6 +1,7 @@
 pub mod Cycles
 pub mod Files
 pub mod GrowingSets
+pub mod Listed
 pub mod Members
 pub mod OneOrder
 pub mod Paths
@@ -8,6 +9,7 @@ pub mod Pigeonholes
 pub mod Sorted
 pub mod StuckOrders
 pub mod TextKeys
+pub mod UndeclaredUses
 pub mod Uses
 pub mod Waits
 pub mod Worklist

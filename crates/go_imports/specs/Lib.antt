@@ -5,5 +5,6 @@ pub mod InternalUses
 pub mod Orders
 pub mod Outlines
 pub mod PackageFiles
+pub mod UndeclaredUses
 pub mod UsedImports
 pub mod inner

@@ -1,5 +1,5 @@
 //! The names that the files of a package declare, the qualifiers of a file, and the imports that these name.
-ghost use Rattle.std.specs.Prelude.{◌≡◌, ◌≢◌, ◌++◌, [], codes, Some, None, true, false, IfOk, OnOk, IfSome, IfNone, IsTrue, ◌↔◌};
+ghost use Rattle.std.specs.Prelude.{◌≡◌, ◌≢◌, ◌++◌, [], ◌∷◌, codes, Some, None, true, false, IfOk, OnOk, IfSome, IfNone, IsTrue, ◌↔◌};
 ghost use Rattle.go_base.specs.Lists.{Has};
 ghost use Rattle.go_base.specs.Growing.{Grows};
 ghost use Rattle.go_imports.specs.UsedImports.{IsNameIn, IsConstName, IsVarName, IsTypeName, IsFuncName, IsDeclaredBy, IsDeclaredIn, IsQualifier, IsQualifierOf, IsQualifierIn, scope_name, IsScopeNameIn, IsScopeName, named_as, AreUsed};
@@ -7,6 +7,7 @@ ghost use Rattle.go_imports.specs.InternalUses.{IsInternalImport, IsFirstInterna
 ghost use Rattle.go_imports.specs.Answers.{Decides};
 ghost use Rattle.go_imports.specs.inner.Uses.{IsConstNameIn, IsVarNameIn, IsTypeNameIn, IsQualifierAmong, ByName, ByPath, Uses};
 ghost use Rattle.go_imports.specs.Gives.{optional};
+ghost use Rattle.go_imports.specs.UndeclaredUses.{is_undeclared, undeclared};
 
 use crate::import_paths::{assumed_name, is_internal_use};
 use crate::text_set::{add_new, add_text, has_text};
@@ -41,73 +42,99 @@ pub struct NamedImport {
     pub place: u32,
 }
 
-fn add_names(set: &mut BTreeSet<Text>, names: &[Name]) -> Result<(), NoMemory>
-    ensures { OnOk result (Grows (IsNameIn names.now) set.old.keys set.new.keys) }
+// Adds a name where it is among the asked ones.
+fn add_asked(set: &mut BTreeSet<Text>, asked: &BTreeSet<Text>, name: &Text) -> Result<(), NoMemory>
+    ensures { OnOk result (Grows (λ x. (name.now ≡ x) × Has asked.now.keys x) set.old.keys set.new.keys) }
+{
+    if !has_text(asked, name) {
+        return Ok(());
+    }
+    add_text(set, name.copy()?)
+}
+
+fn add_names(
+    set: &mut BTreeSet<Text>,
+    asked: &BTreeSet<Text>,
+    names: &[Name],
+) -> Result<(), NoMemory>
+    ensures { OnOk result (Grows (λ x. IsNameIn names.now x × Has asked.now.keys x) set.old.keys set.new.keys) }
 {
     for name in names {
-        add_text(set, name.text.copy()?)?;
+        add_asked(set, asked, &name.text)?;
     }
     Ok(())
 }
 
-fn add_consts(set: &mut BTreeSet<Text>, specs: &[ConstSpec]) -> Result<(), NoMemory>
-    ensures { OnOk result (Grows (IsConstNameIn specs.now) set.old.keys set.new.keys) }
+fn add_consts(
+    set: &mut BTreeSet<Text>,
+    asked: &BTreeSet<Text>,
+    specs: &[ConstSpec],
+) -> Result<(), NoMemory>
+    ensures { OnOk result (Grows (λ x. IsConstNameIn specs.now x × Has asked.now.keys x) set.old.keys set.new.keys) }
 {
     for spec in specs {
-        add_names(set, spec.names.items())?;
+        add_names(set, asked, spec.names.items())?;
     }
     Ok(())
 }
 
-fn add_vars(set: &mut BTreeSet<Text>, specs: &[VarSpec]) -> Result<(), NoMemory>
-    ensures { OnOk result (Grows (IsVarNameIn specs.now) set.old.keys set.new.keys) }
+fn add_vars(
+    set: &mut BTreeSet<Text>,
+    asked: &BTreeSet<Text>,
+    specs: &[VarSpec],
+) -> Result<(), NoMemory>
+    ensures { OnOk result (Grows (λ x. IsVarNameIn specs.now x × Has asked.now.keys x) set.old.keys set.new.keys) }
 {
     for spec in specs {
-        add_names(set, spec.names.items())?;
+        add_names(set, asked, spec.names.items())?;
     }
     Ok(())
 }
 
-fn add_types(set: &mut BTreeSet<Text>, specs: &[TypeSpec]) -> Result<(), NoMemory>
-    ensures { OnOk result (Grows (IsTypeNameIn specs.now) set.old.keys set.new.keys) }
+fn add_types(
+    set: &mut BTreeSet<Text>,
+    asked: &BTreeSet<Text>,
+    specs: &[TypeSpec],
+) -> Result<(), NoMemory>
+    ensures { OnOk result (Grows (λ x. IsTypeNameIn specs.now x × Has asked.now.keys x) set.old.keys set.new.keys) }
 {
     for spec in specs {
-        add_text(set, spec.name.text.copy()?)?;
+        add_asked(set, asked, &spec.name.text)?;
     }
     Ok(())
 }
 
-fn add_func(set: &mut BTreeSet<Text>, func: &Func) -> Result<(), NoMemory>
-    ensures { OnOk result (Grows (IsFuncName func.now.receiver func.now.name.text) set.old.keys set.new.keys) }
+fn add_func(set: &mut BTreeSet<Text>, asked: &BTreeSet<Text>, func: &Func) -> Result<(), NoMemory>
+    ensures { OnOk result (Grows (λ x. IsFuncName func.now.receiver func.now.name.text x × Has asked.now.keys x) set.old.keys set.new.keys) }
 {
     match &func.receiver {
         Some(_) => Ok(()),
-        None => add_text(set, func.name.text.copy()?),
+        None => add_asked(set, asked, &func.name.text),
     }
 }
 
-fn add_decl(set: &mut BTreeSet<Text>, decl: &Decl) -> Result<(), NoMemory>
-    ensures { OnOk result (Grows (IsDeclaredBy decl.now) set.old.keys set.new.keys) }
+fn add_decl(set: &mut BTreeSet<Text>, asked: &BTreeSet<Text>, decl: &Decl) -> Result<(), NoMemory>
+    ensures { OnOk result (Grows (λ x. IsDeclaredBy decl.now x × Has asked.now.keys x) set.old.keys set.new.keys) }
 {
     match decl {
-        Decl::ConstGroup(specs) => add_consts(set, specs.items()),
-        Decl::VarGroup(specs) => add_vars(set, specs.items()),
-        Decl::TypeGroup(specs) => add_types(set, specs.items()),
-        Decl::FuncDecl(func) => add_func(set, func.value()),
+        Decl::ConstGroup(specs) => add_consts(set, asked, specs.items()),
+        Decl::VarGroup(specs) => add_vars(set, asked, specs.items()),
+        Decl::TypeGroup(specs) => add_types(set, asked, specs.items()),
+        Decl::FuncDecl(func) => add_func(set, asked, func.value()),
     }
 }
 
-/// Adds the names that the declarations of a file declare in its package: those of constants, variables, types and
-/// functions, and not those of methods.
+/// Adds those of the asked names that the declarations of a file declare in its package: as constants, variables, types or
+/// functions, and not as methods.
 pub fn add_declared(
-    alloc: Global,
     declared: &mut BTreeSet<Text>,
+    asked: &BTreeSet<Text>,
     decls: &[Decl],
 ) -> Result<(), NoMemory>
-    ensures { OnOk result (Grows (IsDeclaredIn decls.now) declared.old.keys declared.new.keys) }
+    ensures { OnOk result (Grows (λ x. IsDeclaredIn decls.now x × Has asked.now.keys x) declared.old.keys declared.new.keys) }
 {
     for decl in decls {
-        add_decl(declared, decl)?;
+        add_decl(declared, asked, decl)?;
     }
     Ok(())
 }
@@ -302,6 +329,44 @@ pub fn used_imports(
         add_use(&mut uses, found)?;
     }
     Ok(uses)
+}
+
+fn is_undeclared(declared: &BTreeSet<Text>, import: &NamedImport) -> bool
+    ensures { result ≡ is_undeclared declared.now.keys import.now }
+{
+    !declared.contains(&import.name)
+}
+
+fn unless_declared(
+    declared: &BTreeSet<Text>,
+    import: &NamedImport,
+) -> Result<Option<NamedImport>, NoMemory>
+    ensures { IfOk result (λ left. undeclared declared.now.keys (import.now ∷ []) ≡ optional left) }
+{
+    if !is_undeclared(declared, import) {
+        return Ok(None);
+    }
+    Ok(Some(NamedImport {
+        name: import.name.copy()?,
+        path: import.path.copy()?,
+        place: import.place,
+    }))
+}
+
+/// The used imports that aren't named as one of these declared names, in their order.
+pub fn undeclared(
+    alloc: Global,
+    declared: &BTreeSet<Text>,
+    uses: &[NamedImport],
+) -> Result<List<NamedImport>, NoMemory>
+    ensures { IfOk result (λ left. left ≡ undeclared declared.now.keys uses.now) }
+{
+    let mut left = List::new(alloc);
+    for import in uses {
+        let found = unless_declared(declared, import)?;
+        add_use(&mut left, found)?;
+    }
+    Ok(left)
 }
 
 fn is_internal_import(importer: &[u8], from_std: bool, import: &NamedImport) -> bool

@@ -6,5 +6,6 @@ pub mod NeededPaths
 pub mod OrderParts
 pub mod ReachedFolders
 pub mod Results
+pub mod UndeclaredUses
 pub mod UnitOrdering
 pub mod WalkedFiles

@@ -85,12 +85,7 @@ fn stands_there(
 }
 
 /// The folder that an import path names in a package of the standard library or of the module.
-pub fn named(
-    module_path: &[u8],
-    folders: &[Folder],
-    from_std: bool,
-    path: &[u8],
-) -> Option<usize>
+pub fn named(module_path: &[u8], folders: &[Folder], from_std: bool, path: &[u8]) -> Option<usize>
     requires { AreOrdered folders.now }
     ensures { FindsOne (NamesFolder module_path.now folders.now from_std path.now) result }
 {
@@ -133,12 +128,7 @@ fn is_asked(folder: &Folder) -> bool
 }
 
 /// The folder of the standard library for which a used import asks.
-pub fn asked(
-    module_path: &[u8],
-    folders: &[Folder],
-    from_std: bool,
-    path: &[u8],
-) -> Option<usize>
+pub fn asked(module_path: &[u8], folders: &[Folder], from_std: bool, path: &[u8]) -> Option<usize>
     requires { AreOrdered folders.now }
     ensures { FindsOne (AsksFor module_path.now folders.now from_std path.now) result }
 {

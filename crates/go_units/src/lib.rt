@@ -6,6 +6,7 @@ pub mod package_checks;
 pub mod package_uses;
 pub mod reached;
 pub mod reader;
+mod undeclared_uses;
 pub mod unit;
 pub mod unit_error;
 pub mod unit_files;

@@ -1,17 +1,17 @@
 //! The files of a folder that make its package, with the imports that they use.
-ghost use Rattle.std.specs.Prelude.{◌≡◌, ◌++◌, [], reverse, IfOk, OnOk};
-ghost use Rattle.go_base.specs.Growing.{Grows};
+ghost use Rattle.std.specs.Prelude.{◌≡◌, ◌++◌, reverse, IfOk, OnOk};
 ghost use Rattle.go_imports.specs.Gives.{Gives, optional};
 ghost use Rattle.go_units.specs.Folders.{AreOrdered, IsImportedName};
-ghost use Rattle.go_units.specs.PackageUses.{text_of, IsDeclaredByFile, IsDeclaredAmong, IsImportOf, GivesImport, UsesIn, GivesFile, ArePackageFiles};
+ghost use Rattle.go_units.specs.PackageUses.{text_of, IsImportOf, GivesImport, UsesIn, GivesFile, ArePackageFiles};
 
 use crate::folder::{Folder, folder_at, named};
+use crate::undeclared_uses::undeclared_uses;
 use go_base::list::List;
 use go_base::memory::NoMemory;
 use go_base::text::Text;
 use go_imports::outline::Outline;
 use go_imports::package_files::{SourceFile, imports_c};
-use go_imports::used_imports::{Import, NamedImport, add_declared, qualifiers, used_imports};
+use go_imports::used_imports::{Import, NamedImport, qualifiers, used_imports};
 use go_syntax::declaration::{File, ImportSpec};
 use go_syntax::name::Name;
 use std::alloc::Global;
@@ -116,30 +116,6 @@ fn uses_in(
     used_imports(alloc, imports.items(), &names)
 }
 
-fn add_declared_by(
-    alloc: Global,
-    declared: &mut BTreeSet<Text>,
-    source: &SourceFile,
-) -> Result<(), NoMemory>
-    ensures { OnOk result (Grows (IsDeclaredByFile source.now) declared.old.keys declared.new.keys) }
-{
-    let outline = source.outline.value();
-    if imports_c(outline) {
-        return Ok(());
-    }
-    add_declared(alloc, declared, outline.decls.items())
-}
-
-fn declared_among(alloc: Global, sources: &[SourceFile]) -> Result<BTreeSet<Text>, NoMemory>
-    ensures { IfOk result (λ declared. Grows (IsDeclaredAmong sources.now) [] declared.keys) }
-{
-    let mut declared = BTreeSet::new(alloc);
-    for source in sources {
-        add_declared_by(alloc, &mut declared, source)?;
-    }
-    Ok(declared)
-}
-
 fn package_file(
     alloc: Global,
     module_path: &[u8],
@@ -219,6 +195,7 @@ pub(crate) fn package_files(
     requires { AreOrdered folders.now }
     ensures { IfOk result (ArePackageFiles module_path.now folders.now from_std sources) }
 {
-    let declared = declared_among(alloc, sources.items())?;
-    files_with(alloc, module_path, folders, from_std, &declared, sources)
+    let none = BTreeSet::new(alloc);
+    let files = files_with(alloc, module_path, folders, from_std, &none, sources)?;
+    undeclared_uses(alloc, files)
 }

@@ -1,8 +1,9 @@
 use Rattle.std.proofs.Common.{take}
 use Rattle.go_base.specs.Growing.{Grows}
+use Rattle.go_base.specs.Lists.{Has}
 use Rattle.go_imports.specs.UsedImports.{IsVarName}
 use Rattle.go_imports.proofs.GrowingSets.{OfSome}
 use Rattle.go_imports.proofs.used_imports.add_vars.Given as goal
 
 abbrev pub invariant-loop-spec : goal.invariant-loop-spec
-invariant-loop-spec l = Grows (OfSome (IsVarName) (take l.spec-index l.specs)) l.fn.set.keys l.set.keys
+invariant-loop-spec l = Grows (λ x. OfSome IsVarName (take l.spec-index l.specs) x × Has l.asked.keys x) l.fn.set.keys l.set.keys
