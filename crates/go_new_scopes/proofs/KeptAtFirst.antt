@@ -24,7 +24,7 @@ module _ (s : Setting) (u : PackageSource) (names : Named NamePlace) (methods_at
   abbrev pub made : List Declaration → Scopes
   made ds = record (new_scopes s.world u.path s.bits s.profile) {
     imports = with_files 0 [] u.files;
-    announced = announced.with_declarations names [] ds;
+    announced = announced.with_names [] names;
     declared = types.with_declarations u.path names [] 0 ds;
     awaited = awaited.with_declarations ds u.path names methods_at [] 0 ds;
   }
@@ -50,7 +50,7 @@ module _ (s : Setting) (u : PackageSource) (names : Named NamePlace) (methods_at
     profile = refl;
     opened = refl;
     imports = λ file name. imports_of_files file name u.files;
-    announced = λ name. announced_names names name (declarations u) are;
+    announced = λ name. announced_names name names (declarations u) are;
     objects = λ name. objects_at_first u.path names name (declarations u) are;
     awaited = λ type. awaited_at_first u names methods_at type are rows;
     types = λ type. no_type type (declared (declarations u) type);
@@ -64,13 +64,13 @@ module _ (s : Setting) (u : PackageSource) (names : Named NamePlace) (methods_at
   -- the scopes that are made step by step
   pub made_in_turn : (ds : List Declaration) (path : List ℕ) (files : List SourceFile) (new filed announced' declared' awaited' : Scopes) → path ≡ u.path → files ≡ u.files → new ≡ new_scopes s.world path s.bits s.profile
       → filed ≡ record new { imports = with_files 0 new.imports files }
-      → announced' ≡ record filed { announced = announced.with_declarations names filed.announced ds }
+      → announced' ≡ record filed { announced = announced.with_names filed.announced names }
       → declared' ≡ record announced' { declared = types.with_declarations announced'.path names announced'.declared 0 ds }
       → awaited' ≡ record declared' { awaited = awaited.with_declarations ds declared'.path names methods_at declared'.awaited 0 ds }
       → awaited' ≡ made ds
   made_in_turn ds path files new filed announced' declared' awaited' p f e1 e2 e3 e4 e5 =
       e5 ∙ ap (λ (c : Scopes). record c { awaited = awaited.with_declarations ds c.path names methods_at c.awaited 0 ds })
       (e4 ∙ ap (λ (c : Scopes). record c { declared = types.with_declarations c.path names c.declared 0 ds })
-      (e3 ∙ ap (λ (c : Scopes). record c { announced = announced.with_declarations names c.announced ds })
+      (e3 ∙ ap (λ (c : Scopes). record c { announced = announced.with_names c.announced names })
       (e2 ∙ ap (λ (c : Scopes). record c { imports = with_files 0 c.imports files }) (e1 ∙ ap (λ (k : List ℕ). new_scopes s.world k s.bits s.profile) p)
       ∙ ap (λ (fs : List SourceFile). record (new_scopes s.world u.path s.bits s.profile) { imports = with_files 0 [] fs }) f)))

@@ -37,7 +37,7 @@ pub fn new_scopes<'w>(
     let path = unit.path.copy()?;
     let mut env = Env::new(alloc, world, path, bits, profile);
     add_files(&mut env, alloc, unit.files.items())?;
-    announce(&mut env, tables.names, tables.declarations)?;
+    announce(&mut env, alloc, tables.names)?;
     declare_types(&mut env, alloc, tables.names, tables.declarations)?;
     await_methods(&mut env, tables.names, tables.methods, tables.declarations)?;
     Ok(env)

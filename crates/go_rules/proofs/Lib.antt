@@ -1,3 +1,4 @@
+pub mod AnnouncedNames
 pub mod ExportedNames
 pub mod GrowAsks
 pub mod GrowOperand

@@ -5,6 +5,7 @@ ghost use Rattle.go_rules.specs.Environments.{is_among, selector_of};
 ghost use Rattle.go_rules.specs.Meanings.{as_seen};
 ghost use Rattle.go_rules.specs.Scopes.{env_of, innermost, is_declared, is_imported, new_scopes, with_announced, with_awaited, with_defined, with_import, with_meaning, with_method};
 
+use crate::announced::Announced;
 use crate::awaited::Awaited;
 use crate::defined_row::DefinedRow;
 use crate::exports::is_exported;
@@ -51,7 +52,7 @@ pub struct Env<'w> {
     opened: LinkedList<Names<Seen>>,
     imports: Imports,
     file: u32,
-    announced: Names<()>,
+    announced: Announced,
     declared: Names<Seen>,
     defined: Names<DefinedRow>,
     awaited: Names<Awaited>,
@@ -126,7 +127,7 @@ impl<'w> Env<'w> {
             opened: LinkedList::new(alloc),
             imports: Imports::new(alloc),
             file: 0,
-            announced: Names::new(alloc),
+            announced: Announced::new(alloc),
             declared: Names::new(alloc),
             defined: Names::new(alloc),
             awaited: Names::new(alloc),
@@ -189,7 +190,7 @@ impl Env<'_> {
         ensures ok { OnOk result (self.new ≡ with_announced self.old name) }
         ensures err { OnErr result (self.new ≡ self.old) }
     {
-        self.announced.put(name, ())
+        self.announced.put(name)
     }
 
     /// Gives a name a meaning in the innermost scope. `Already` comes exactly where that scope has the

@@ -1,6 +1,7 @@
 //! Rules of typing: what names mean, what an expression is, the environment that both are asked in, and their laws.
 #![tactic(auto)]
 
+mod announced;
 mod awaited;
 pub mod blank;
 mod defined_row;

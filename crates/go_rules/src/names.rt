@@ -54,13 +54,6 @@ impl<V> Names<V> {
     {
         self.entries.get(name)
     }
-
-    /// Whether a name is there.
-    pub(crate) fn has(&self, name: &Text) -> bool
-        ensures { result ≡ is_some (value_at self.now name.now) }
-    {
-        self.entries.contains_key(name)
-    }
 }
 
 impl<V: Drop> Names<V> {

@@ -1,4 +1,4 @@
-use Rattle.std.proofs.Common.{ap, ◌∙◌, map}
+use Rattle.std.proofs.Common.{ap, map}
 use Rattle.go_declarations.specs.Listings.{declarations_of}
 use Rattle.go_sources.specs.UnitSources.{file_of, source_of}
 use Rattle.go_typings.specs.Sources.{Setting}
