@@ -7,7 +7,7 @@ use Rattle.go_syntax.specs.declared.types.InterfaceElem.{InterfaceElem, Interfac
 use Rattle.go_rules.specs.Environments.{Env}
 use Rattle.go_rules.specs.Expressions.{OfFields, OfMethods, field_of, starred, fields_embedded, fields_named, methods_embedded, methods_method}
 use Rattle.go_rules.specs.Nodes.{ElemLayer, FieldLayer}
-use Rattle.go_rules.specs.Nodes.{elem_parts, field_parts}
+use Rattle.go_rules.specs.Nodes.{field_parts}
 use Rattle.go_type_terms.specs.Answers.{Types}
 use Rattle.go_type_terms.specs.Members.{OfElement, OfField, method_of}
 use Rattle.go_type_terms.specs.declared.error.ExprError.{ExprError}
@@ -45,9 +45,6 @@ module _ {E : Env} where
   first_methods x xs all (methods_method {n = n} {h = s} e h k) = (method_of E n s ∷ [], subst (λ (l : ElemLayer). OfElement E l (method_of E n s ∷ [])) (sym e) (s, h, refl))
   first_methods x xs all (methods_embedded u {ns = ns} e h f k) = (ns, subst (λ (l : ElemLayer). OfElement E l ns) (sym e) (u, h, f))
 
--- a declaration and an element, by their forms
+-- a declaration, by its form
 pub by_field : (E : Env) (l k : FieldLayer) (r : Result (List Field × Bool) ExprError) → l ≡ k → Types {A = List Field} E (OfField E k) (field_parts k) r → Types {A = List Field} E (OfField E l) (field_parts l) r
 by_field E l k r e t = subst (λ (f : FieldLayer). Types {A = List Field} E (OfField E f) (field_parts f) r) (sym e) t
-
-pub by_element : (E : Env) (l k : ElemLayer) (r : Result (List Method × Bool) ExprError) → l ≡ k → Types {A = List Method} E (OfElement E k) (elem_parts k) r → Types {A = List Method} E (OfElement E l) (elem_parts l) r
-by_element E l k r e t = subst (λ (f : ElemLayer). Types {A = List Method} E (OfElement E f) (elem_parts f) r) (sym e) t

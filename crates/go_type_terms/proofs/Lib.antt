@@ -1,11 +1,12 @@
 pub mod ArrayLengths
+pub mod EmbeddedNames
 pub mod Fields
 pub mod Forms
+pub mod Gathering
 pub mod Gone
 pub mod Handed
 pub mod InterfaceTypes
 pub mod LoudTrees
 pub mod NamedTypes
-pub mod Noting
 pub mod Parameters
 pub mod Passed

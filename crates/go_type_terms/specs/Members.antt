@@ -6,7 +6,7 @@ use Rattle.go_base.specs.Lists.{Has as In}
 use Rattle.go_model.specs.declared.types.term.Field.{Field}
 use Rattle.go_model.specs.declared.types.term.Method.{Method, roll-Method}
 use Rattle.go_model.specs.declared.types.term.Signature.{Signature}
-use Rattle.go_model.specs.declared.types.term.Term.{Term, Term-F, roll-Term}
+use Rattle.go_model.specs.declared.types.term.Term.{Term, Term-F}
 use Rattle.go_model.specs.types.MethodSets.{method_sel, sel_order}
 use Rattle.go_model.specs.types.Underlying.{under}
 use Rattle.go_syntax.specs.declared.name.Name.{Name}
@@ -37,7 +37,3 @@ pub record IsOrdered (all ms : List Method) : Type 0 where
   pub sorted : IsStrictlySortedBy sel_order (map method_sel ms)
   pub among : (m : Method) → In ms m → In all m
   pub each : (m : Method) → In all m → In ms m
-
--- the interface type of these methods
-abbrev pub IsInterfaceOf : List Method → Term → Type 0
-IsInterfaceOf all t = (ms : List Method) × IsOrdered all ms × (t ≡ roll-Term (Term-F.Interface ms))

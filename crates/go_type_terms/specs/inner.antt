@@ -1,2 +1,2 @@
-pub mod Noted
+pub mod Gathered
 pub mod Parameters

@@ -1,12 +1,13 @@
 //! The frame in which a tree is typed over its parts, and the terms that type forms stand for.
 #![tactic(auto)]
 
+mod embedded;
 pub mod error;
+mod gathered;
 mod interfaces;
 mod lengths;
 mod lists;
 pub mod loud;
-mod ordered;
 pub mod part;
 pub mod signatures;
 mod structs;
