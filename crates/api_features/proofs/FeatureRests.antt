@@ -33,6 +33,10 @@ one_line P path rest old new p once g = grows_as (λ l. feature_line path rest �
 pub no_line : (P : List ℕ → Type 0) (path : List ℕ) (old : List Line) → ((r : List ℕ) → P r → ⊥) → Grows (IsLineIn P path) old old
 no_line P path old none = grows_nothing (IsLineIn P path) old (λ l w. none w.0 w.1)
 
+-- the same lines, in another order
+pub still : {A : Line → Type 0} (old mid new : List Line) → Grows A old mid → Grows (λ l. ⊥) mid new → Grows A old new
+still {A} old mid new g h = grows_as (λ l. A l ⊎ ⊥) A old new (λ l k. elim k [ inl a ↦ a | inr n ↦ absurd n ]) (λ l a. inl a) (grows_then A (λ l. ⊥) old mid new g h)
+
 pub both : (A B C : Line → Type 0) (old mid new : List Line) → ((l : Line) → A l → C l) → ((l : Line) → B l → C l) → ((l : Line) → C l → A l ⊎ B l) → Grows A old mid → Grows B mid new → Grows C old new
 both A B C old mid new a b from f g = grows_as (λ l. A l ⊎ B l) C old new (λ l h. elim h [ inl p ↦ a l p | inr q ↦ b l q ]) from (grows_then A B old mid new f g)
 

@@ -131,6 +131,7 @@ fn add_type(alloc: Global, lines: &mut Lines, of: &Subject<'_>, term: &Term) -> 
 {
     if is_defined(of, term) {
         add_defined(alloc, lines, of, term)?;
+        lines.end_type();
         return Ok(());
     }
     let rest = alias_rest(alloc, of, term)?;
@@ -166,7 +167,7 @@ fn add_object(
     if !is_exported(object.name.bytes()) {
         return Ok(());
     }
-    let of = Subject::new(world, package.path.bytes(), object.name.bytes());
+    let of = Subject::new(world, &package.path, object.name.bytes());
     add_entity(alloc, lines, &of, &object.entity)?;
     Ok(())
 }
@@ -199,6 +200,7 @@ fn add_package(
         return Ok(());
     }
     add_objects(alloc, lines, world, package)?;
+    lines.end_package()?;
     Ok(())
 }
 

@@ -18,16 +18,24 @@ use std::alloc::Global;
 pub(crate) struct Subject<'a> {
     pub(crate) world: &'a World,
     pub(crate) path: &'a [u8],
+    // The path, which lines share with the package.
+    shared: &'a Text,
     pub(crate) name: &'a [u8],
+    ghost same: { shared.now ≡ path.now },
 }
 
 impl<'a> Subject<'a> {
-    pub(crate) fn new(world: &'a World, path: &'a [u8], name: &'a [u8]) -> Subject<'a>
+    pub(crate) fn new(world: &'a World, path: &'a Text, name: &'a [u8]) -> Subject<'a>
         ensures world { result.world.now ≡ world.now }
         ensures path { result.path.now ≡ path.now }
         ensures name { result.name.now ≡ name.now }
     {
-        Subject { world, path, name }
+        Subject {
+            world,
+            path: path.bytes(),
+            shared: path,
+            name,
+        }
     }
 
     /// The defined type of this name, as the package holds it.
@@ -69,10 +77,10 @@ pub(crate) fn add(
     ensures { OnOk result (Grows (λ l. feature_line of.now.path.now rest.items ≡ l) lines.old lines.new) }
 {
     let line = Line {
-        path: Text::of(alloc, of.path)?,
+        path: of.shared.copy()?,
         context: None,
         rest: Text::from_vec(alloc, rest)?,
     };
-    lines.add(alloc, line)?;
+    lines.add_to_package(line)?;
     Ok(())
 }

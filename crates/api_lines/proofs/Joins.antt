@@ -92,7 +92,7 @@ front_popped old new x len (Some y) h is f v =
     let same : x ≡ y = is ∙ ap (λ w. get_or w 0 x) f in
     (ap Some (sym same), f ∙ ap (λ w. w ∷ new) (sym same))
 
-headed : (ls : List Line) (l : Line) → 0 < length ls → l ≡ get_or ls 0 l → ls ≡ l ∷ drop 1 ls
+pub headed : (ls : List Line) (l : Line) → 0 < length ls → l ≡ get_or ls 0 l → ls ≡ l ∷ drop 1 ls
 headed [] l w i = absurd (omega (arith, w))
 headed (z ∷ ls) l w i = ap (λ u. u ∷ ls) (sym i)
 

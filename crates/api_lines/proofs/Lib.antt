@@ -6,6 +6,7 @@ pub mod LineOrder
 pub mod Merged
 pub mod OrderedLines
 pub mod OrderedTexts
+pub mod PackageLines
 pub mod Parts
 pub mod PathOrder
 pub mod SharedMerge

@@ -1,5 +1,5 @@
 -- The order of lines by their texts.
-use Rattle.std.proofs.Common.{◌≡◌, ℕ, zero, suc, ◌+◌, ◌-◌, ◌<◌, ◌≤◌, Bool, true, false, List, [], ◌∷◌, ◌++◌, length, map, take, drop, get_or, refl, sym, ap, ◌∙◌, subst, inl, inr, arith}
+use Rattle.std.proofs.Common.{◌≡◌, ℕ, suc, ◌+◌, ◌<◌, ◌≤◌, true, false, List, [], ◌∷◌, ◌++◌, length, map, take, drop, get_or, refl, sym, ap, ◌∙◌, subst, inl, inr, arith}
 use mathlib.Core.Bool.{true≢false}
 use Rattle.std.specs.Prelude.{Decides}
 use Rattle.std.specs.Ordering.{ordering_then, is_lt, is_gt}
@@ -14,7 +14,6 @@ use Rattle.go_base.proofs.Members.{each_has, has_split}
 use Rattle.api_lines.specs.declared.line.Line.{Line}
 use Rattle.api_lines.specs.Lines.{printed, AreInOrder, HasText}
 use Rattle.api_lines.specs.inner.MergedLines.{AreBefore}
-use Rattle.api_lines.specs.inner.Shares.{IsLast}
 use Rattle.api_lines.proofs.Growing.{each_back, has_at, has_right, taken}
 use Rattle.api_lines.proofs.TextSets.{order, tie_is}
 
@@ -149,25 +148,3 @@ module _ (ls : List Line) (i : ℕ) (t : List ℕ) (h : length ls ≤ i) (b : Ar
 
   pub passed_end : (u : List ℕ) → order t u ≡ Less → AreBefore u (take (length ls) ls)
   passed_end u f = before_later (take (length ls) ls) t u f (subst (AreBefore t) (take_past i ls h ∙ sym (take_past (length ls) ls (omega arith))) b)
-
-pub last_equal : (ls : List Line) (i : ℕ) (l : Line) (t : List ℕ) → i < length ls → l ≡ get_or ls i l → order (printed l) t ≡ Equal → IsLast ls (i + 1) t
-last_equal ls i l t h is e = (l, omega arith, omega (arith, h), is ∙ ap (λ n. get_or ls n l) (back i), tie_is (printed l) t e)
-  where
-    back : (n : ℕ) → n ≡ n + 1 - 1
-    back n = omega arith
-
--- whether a list has a line, where the last line that was passed has its text
-pub has_last_passed : (ls : List Line) (n : ℕ) (l m : Line) (is : Bool) → AreInOrder ls → IsLast ls n (printed l) → m ≡ get_or ls (n - 1) m → Decides is (m ≡ l) → Decides is (Has ls l)
-has_last_passed ls n l m is h k e d =
-    let within : n - 1 < length ls = omega (arith, k.1, k.2) in
-    let there : Has ls m = has_at ls (n - 1) m within e in
-    let same : printed m ≡ printed l = ap printed (e ∙ get_any ls (n - 1) m k.0 within ∙ sym k.3) ∙ k.4 in
-    ((λ t. subst (Has ls) (d.0 t) there), (λ has. d.1 (one_line ls m l h there has same)))
-  where
-    get_any : (xs : List Line) (i : ℕ) (a b : Line) → i < length xs → get_or xs i a ≡ get_or xs i b
-    get_any [] i a b w = absurd (omega (arith, w))
-    get_any (x ∷ xs) zero a b w = refl
-    get_any (x ∷ xs) (suc i) a b w = get_any xs i a b (omega (arith, w))
-
-pub not_there : (ls : List Line) (l : Line) (is : Bool) → is ≡ false → Decides is (HasText ls (printed l)) → Decides is (Has ls l)
-not_there ls l is e d = ((λ t. absurd (true≢false (sym t ∙ e))), (λ h. d.1 (l, h, refl)))

@@ -161,14 +161,14 @@ module _ (common lines shared rest : List Line) (h : AreInOrder common) (s : Are
   all_next [] (new ∷ news) k j = absurd j
   all_next (own ∷ owns) [] k j = absurd j
 
-  module _ (both other : List Line) (g : AreInOrder lines) (s2 : AreExactly (IsIn shared lines) both) (r2 : AreExactly (IsNotIn shared lines) other) (all2 : (l : Line) → Has lines l → IsOfEither both other l) where
+  module _ (other : List Line) (g : AreInOrder lines) (r2 : AreExactly (IsNotIn common lines) other) (all2 : (l : Line) → Has lines l → IsOfEither shared other l) where
     new_rest : IsRest shared other
-    new_rest = (r2.ordered, (λ l m x y e. (r2.sound m y).1 (subst (Has shared) (one_line lines l m g (s.sound l x).1 (r2.sound m y).0 e) x)))
+    new_rest = (r2.ordered, (λ l m x y e. (r2.sound m y).1 (subst (Has common) (one_line lines l m g (s.sound l x).1 (r2.sound m y).0 e) (s.sound l x).0)))
 
     new_whole : whole shared other ≡ lines
     new_whole = same_lists (whole shared other) lines (whole_in_order shared other s.ordered new_rest) g
         (λ l x. elim (whole_has shared other l x) [ inl a ↦ (s.sound l a).1 | inr b ↦ (r2.sound l b).0 ])
-        (λ l x. has_whole shared other l (elim (all2 l x) [ inl a ↦ inl (s2.sound l a).1 | inr b ↦ inr b ]))
+        (λ l x. has_whole shared other l (all2 l x))
 
     pub shared_next : (owns news all' : List (List Line)) → Each (IsRest common) owns → AreJoined rest owns news → all' ≡ news ++ other ∷ []
         → AreShared shared all' × (map (whole shared) all' ≡ map (whole common) owns ++ lines ∷ [])
@@ -179,19 +179,20 @@ module _ (common lines shared rest : List Line) (h : AreInOrder common) (s : Are
 
 -- the lists with one more, by the parts of two lists
 pub with_next : (common lines : List Line) (owns lists : List (List Line)) → map (whole common) owns ≡ lists → AreShared common owns → AreInOrder lines
-    → (these s r : List Line) (parts : List Line × List Line) → these ≡ lines → AreExactly (IsIn these common) s → AreExactly (IsNotIn these common) r → ((l : Line) → Has common l → IsOfEither s r l) → parts ≡ (s, r)
+    → (s r u : List Line) (parts : List Line × List Line × List Line) → AreExactly (IsIn lines common) s → AreExactly (IsNotIn lines common) r → AreExactly (IsNotIn common lines) u
+    → ((l : Line) → Has common l → IsOfEither s r l) → ((l : Line) → Has lines l → IsOfEither s u l) → parts ≡ (s, r, u)
     → (leaving : List Line) (news : List (List Line)) → leaving ≡ parts.1 → AreJoined leaving owns news
-    → (shared t u : List Line) (others : List Line × List Line) → shared ≡ parts.0 → AreExactly (IsIn shared lines) t → AreExactly (IsNotIn shared lines) u → ((l : Line) → Has lines l → IsOfEither t u l) → others ≡ (t, u)
-    → (all : List (List Line)) → all ≡ news ++ others.1 ∷ [] → AreShared parts.0 all × (map (whole parts.0) all ≡ lists ++ lines ∷ [])
-with_next common lines owns lists view is g these s r parts e fs fr fall p leaving news el j shared t u others esh ft fu ftall q all ea =
-    let first : s ≡ parts.0 = sym (ap (λ (z : List Line × List Line). z.0) p) in
-    let second : r ≡ parts.1 = sym (ap (λ (z : List Line × List Line). z.1) p) in
+    → (all : List (List Line)) → all ≡ news ++ parts.2 ∷ [] → AreShared parts.0 all × (map (whole parts.0) all ≡ lists ++ lines ∷ [])
+with_next common lines owns lists view is g s r u parts fs fr fu fall fall2 p leaving news el j all ea =
+    let first : s ≡ parts.0 = sym (ap (λ (z : List Line × List Line × List Line). z.0) p) in
+    let second : r ≡ parts.1 = sym (ap (λ (z : List Line × List Line × List Line). z.1) p) in
+    let third : u ≡ parts.2 = sym (ap (λ (z : List Line × List Line × List Line). z.2) p) in
     let next = shared_next common lines parts.0 parts.1 is.0
-    (subst (λ (w : List Line × List Line). AreExactly (IsIn w.0 common) w.1) (λ i. (e i, first i)) fs)
-    (subst (λ (w : List Line × List Line). AreExactly (IsNotIn w.0 common) w.1) (λ i. (e i, second i)) fr)
-    (subst (λ (w : List Line × List Line). (l : Line) → Has common l → IsOfEither w.0 w.1 l) (sym p) fall)
-    t u g
-    (subst (λ (w : List Line). AreExactly (IsIn w lines) t) esh ft)
-    (subst (λ (w : List Line). AreExactly (IsNotIn w lines) u) esh fu)
-    ftall owns news all is.1 (subst (λ (w : List Line). AreJoined w owns news) el j) (ea ∙ ap (λ (z : List Line × List Line). news ++ z.1 ∷ []) q) in
+    (subst (AreExactly (IsIn lines common)) first fs)
+    (subst (AreExactly (IsNotIn lines common)) second fr)
+    (subst (λ (w : List Line × List Line × List Line). (l : Line) → Has common l → IsOfEither w.0 w.1 l) (sym p) fall)
+    parts.2 g
+    (subst (AreExactly (IsNotIn common lines)) third fu)
+    (subst (λ (w : List Line × List Line × List Line). (l : Line) → Has lines l → IsOfEither w.0 w.2 l) (sym p) fall2)
+    owns news all is.1 (subst (λ (w : List Line). AreJoined w owns news) el j) ea in
     (next.0, next.1 ∙ ap (λ w. w ++ lines ∷ []) view)

@@ -2,3 +2,4 @@ pub mod AddedLines
 pub mod Joins
 pub mod MergedLines
 pub mod Shares
+pub mod Splits

@@ -8,6 +8,7 @@ pub mod lines;
 pub mod merge;
 mod order;
 mod ordered;
+mod package_lines;
 mod part;
 mod place;
 pub mod platform_lines;

@@ -53,12 +53,20 @@ impl Line {
         let rest = self.rest.bytes();
         let long = path.len().saturating_add(rest.len()).saturating_add(24);
         let mut line = Vec::with_capacity(alloc, long)?;
-        line.extend_from_slice(b"pkg ")?;
-        line.extend_from_slice(path)?;
-        push_context(&mut line, self.context)?;
-        line.extend_from_slice(b", ")?;
-        line.extend_from_slice(rest)?;
+        self.print_to(&mut line)?;
         Text::from_vec(alloc, line)
+    }
+
+    /// Appends the text of the line, without a newline.
+    pub fn print_to(&self, out: &mut Vec<u8>) -> Result<(), NoMemory>
+        ensures { OnOk result (out.new.items ≡ out.old.items ++ printed self.now) }
+    {
+        out.extend_from_slice(b"pkg ")?;
+        out.extend_from_slice(self.path.bytes())?;
+        push_context(out, self.context)?;
+        out.extend_from_slice(b", ")?;
+        out.extend_from_slice(self.rest.bytes())?;
+        Ok(())
     }
 
     /// The order of two lines by their texts, which are printed where it isn't known without.

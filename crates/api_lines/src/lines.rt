@@ -7,6 +7,7 @@ ghost use Rattle.api_lines.specs.Lines.{AreInOrder, IsListing};
 
 use crate::line::Line;
 use crate::order::is_before;
+use crate::package_lines::{PackageLines, push};
 use crate::printed::by_texts;
 use go_base::list::List;
 use go_base::memory::NoMemory;
@@ -16,28 +17,23 @@ use std::marker::Model;
 /// Lines that are gathered.
 pub struct Lines {
     all: Vec<Line>,
+    // Those of the latest package, which hasn't ended.
+    latest: PackageLines,
 }
 
 impl Drop for Lines {
     fn drop(self) {
-        let Lines { all: _ } = self;
+        let Lines { all: _, latest: _ } = self;
     }
 }
 
 impl Model for Lines {
-    ghost use Rattle.std.specs.Prelude.{List as Sequence};
+    ghost use Rattle.std.specs.Prelude.{◌++◌, List as Sequence};
     ghost use Rattle.api_lines.specs.declared.line.Line.{Line as Feature};
 
     ghost Value = { Sequence Feature };
 
-    ghost view = { λ l. l.all.items };
-}
-
-fn push(all: &mut Vec<Line>, line: Line) -> Result<(), NoMemory>
-    ensures { OnOk result (Grows (λ l. line ≡ l) all.old.items all.new.items) }
-{
-    all.push(line)?;
-    Ok(())
+    ghost view = { λ l. l.all.items ++ l.latest };
 }
 
 // Where the lines end that stand together with the one at a place and have its path.
@@ -83,6 +79,9 @@ fn are_in_order(lines: &[Line]) -> bool
 pub(crate) fn listed(alloc: Global, mut all: Vec<Line>) -> Result<List<Line>, NoMemory>
     ensures { IfOk result (IsListing (Has all.items)) }
 {
+    if are_in_order(&all) {
+        return Ok(List::from_vec(all));
+    }
     sort_packages(&mut all);
     if are_in_order(&all) {
         return Ok(List::from_vec(all));
@@ -98,6 +97,7 @@ impl Lines {
     {
         Lines {
             all: Vec::new(alloc),
+            latest: PackageLines::new(alloc),
         }
     }
 
@@ -109,12 +109,38 @@ impl Lines {
         push(&mut self.all, line)
     }
 
+    /// Adds a line of the package that hasn't ended. Nothing is left to sort where the lines that begin alike come in
+    /// order, those of each type that ended in any.
+    pub fn add_to_package(&mut self, line: Line) -> Result<(), NoMemory>
+        ensures { OnOk result (Grows (λ l. line ≡ l) self.old self.new) }
+    {
+        self.latest.add(line)
+    }
+
+    /// Ends the type whose lines were added to the package last.
+    pub fn end_type(&mut self)
+        ensures { Grows (λ l. ⊥) self.old self.new }
+    {
+        self.latest.end_type();
+    }
+
+    /// Ends the package whose lines were added last.
+    pub fn end_package(&mut self) -> Result<(), NoMemory>
+        ensures { OnOk result (self.new ≡ self.old) }
+    {
+        self.latest.move_behind(&mut self.all)
+    }
+
     /// The lines, each text once, in the order of the texts. No text is printed where the lines of each package came
     /// together, without context and without a text twice, and the packages in the order of their paths.
     pub fn into_list(self, alloc: Global) -> Result<List<Line>, NoMemory>
         ensures { IfOk result (IsListing (Has self)) }
     {
-        let Lines { all } = self;
+        let Lines {
+            mut all,
+            mut latest,
+        } = self;
+        latest.move_behind(&mut all)?;
         listed(alloc, all)
     }
 }

@@ -1,20 +1,17 @@
-//! Where a text or a line stands in a list.
-ghost use Rattle.std.specs.Prelude.{◌≡◌, ℕ, true, List as Sequence, take, Decides, IfOk};
+//! Where a text stands in a list.
+ghost use Rattle.std.specs.Prelude.{◌≡◌, ℕ, List as Sequence, take, Decides, IfOk};
 ghost use Rattle.std.specs.Ordering.{nat_cmp};
 ghost use Rattle.std.specs.Cmp.Lexicographic.{slice_cmp};
 ghost use Rattle.std.specs.declared.cmp.Ordering.TheVariants.{Less};
-ghost use Rattle.go_base.specs.Lists.{Has};
 ghost use Rattle.api_lines.specs.Lines.{printed, HasText, AreInOrder};
 ghost use Rattle.api_lines.specs.inner.MergedLines.{AreBefore};
-ghost use Rattle.api_lines.specs.inner.Shares.{IsLast};
 
 use crate::line::Line;
 use go_base::memory::NoMemory;
-use go_model::files::platform::Platform;
 use std::alloc::Global;
 use std::cmp::Ordering;
 
-/// Where a text or a line stands in a list.
+/// Where a text stands in a list.
 #[derive(Drop)]
 pub(crate) struct Place {
     /// Whether it is there.
@@ -34,7 +31,6 @@ pub(crate) fn place_of(
     requires passed { AreBefore (printed line.now) (take passed lines.now) }
     ensures found { IfOk result (λ place. Decides place.found (HasText lines.now (printed line.now))) }
     ensures passed { IfOk result (λ place. (text : Sequence ℕ) → slice_cmp nat_cmp (printed line.now) text ≡ Less → AreBefore text (take place.passed lines.now)) }
-    ensures last { IfOk result (λ place. place.found ≡ true → IsLast lines.now place.passed (printed line.now)) }
 {
     for i in passed..lines.len() {
         let other = &lines[i];
@@ -58,45 +54,4 @@ pub(crate) fn place_of(
         found: false,
         passed: lines.len(),
     })
-}
-
-fn is_same_context(context: Option<Platform>, other: Option<Platform>) -> bool
-    ensures { Decides result (context ≡ other) }
-{
-    match (context, other) {
-        (None, None) => true,
-        (Some(platform), Some(other)) => platform == other,
-        _ => false,
-    }
-}
-
-fn is_same(line: &Line, other: &Line) -> bool
-    ensures { Decides result (line.now ≡ other.now) }
-{
-    line.path == other.path
-        && line.rest == other.rest
-        && is_same_context(line.context, other.context)
-}
-
-/// Where the line stands, which comes after the lines that were passed.
-pub(crate) fn line_place(
-    alloc: Global,
-    lines: &[Line],
-    passed: usize,
-    line: &Line,
-) -> Result<Place, NoMemory>
-    requires lines { AreInOrder lines.now }
-    requires passed { AreBefore (printed line.now) (take passed lines.now) }
-    ensures found { IfOk result (λ place. Decides place.found (Has lines.now line.now)) }
-    ensures passed { IfOk result (λ place. (text : Sequence ℕ) → slice_cmp nat_cmp (printed line.now) text ≡ Less → AreBefore text (take place.passed lines.now)) }
-{
-    let place = place_of(alloc, lines, passed, line)?;
-    if place.found {
-        let found = is_same(&lines[place.passed - 1], line);
-        return Ok(Place {
-            found,
-            passed: place.passed,
-        });
-    }
-    Ok(place)
 }

@@ -101,9 +101,8 @@ impl PlatformLines {
         if own.items().is_empty() {
             return PlatformLines::first(alloc, lines);
         }
-        let (shared, rest) = split(alloc, common, lines.items())?.into_both();
-        let mut own = with_leaving(alloc, own, rest.items())?;
-        let (_shared, rest) = split(alloc, lines, shared.items())?.into_both();
+        let (shared, leaving, rest) = split(alloc, common, lines)?.into_all();
+        let mut own = with_leaving(alloc, own, leaving.items())?;
         own.push(rest)?;
         Ok(PlatformLines {
             common: shared,

@@ -9,11 +9,10 @@ use go_base::memory::NoMemory;
 use go_base::text::Text;
 use std::alloc::Global;
 
-fn add_feature(alloc: Global, text: &mut Vec<u8>, line: &Line) -> Result<(), NoMemory>
+fn add_feature(text: &mut Vec<u8>, line: &Line) -> Result<(), NoMemory>
     ensures { OnOk result (text.new.items ≡ text.old.items ++ printed line.now ++ 10 ∷ []) }
 {
-    let printed = line.printed(alloc)?;
-    text.extend_from_slice(printed.bytes())?;
+    line.print_to(text)?;
     text.push(b'\n')?;
     Ok(())
 }
@@ -24,7 +23,7 @@ pub fn features_text(alloc: Global, lines: &[Line]) -> Result<Text, NoMemory>
 {
     let mut text = Vec::new(alloc);
     for line in lines {
-        add_feature(alloc, &mut text, line)?;
+        add_feature(&mut text, line)?;
     }
     Text::from_vec(alloc, text)
 }

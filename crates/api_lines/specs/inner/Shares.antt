@@ -1,14 +1,10 @@
 -- Lists of lines that share the lines that all of them have.
-use Rattle.std.specs.Prelude.{◌≡◌, ◌⊎◌, ◌≤◌, ◌-◌, ℕ, List, [], ◌∷◌, length, get_or}
+use Rattle.std.specs.Prelude.{◌≡◌, ◌⊎◌, List, [], ◌∷◌}
 use Rattle.std.specs.Ordering.{nat_cmp, match_ordering}
 use Rattle.std.specs.Cmp.Lexicographic.{slice_cmp}
 use Rattle.go_base.specs.Lists.{Has, Each}
 use Rattle.api_lines.specs.declared.line.Line.{Line}
 use Rattle.api_lines.specs.Lines.{printed, AreInOrder, IsListing}
-
--- the last line that was passed has the text
-abbrev pub IsLast : List Line → ℕ → List ℕ → Type 0
-IsLast lines passed text = (l : Line) × (1 ≤ passed) × (passed ≤ length lines) × (l ≡ get_or lines (passed - 1) l) × (printed l ≡ text)
 
 -- a line of the list that the others have
 abbrev pub IsIn : List Line → List Line → Line → Type 0

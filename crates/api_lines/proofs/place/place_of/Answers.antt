@@ -1,6 +1,6 @@
 use Rattle.std.proofs.Common.{sym, ◌∙◌}
 use Rattle.api_lines.specs.Lines.{printed}
-use Rattle.api_lines.proofs.LineOrder.{found_end, found_equal, found_greater, last_equal, passed_end, passed_equal, passed_greater}
+use Rattle.api_lines.proofs.LineOrder.{found_end, found_equal, found_greater, passed_end, passed_equal, passed_greater}
 use Rattle.api_lines.proofs.place.place_of.Goals as goal
 
 pub returns-in-Equal-clause-found : goal.returns-in-Equal-clause-found
@@ -20,6 +20,3 @@ returns-clause-found c = found_end c.args.lines.now c.loop-i.i (printed c.args.l
 
 pub returns-clause-passed : goal.returns-clause-passed
 returns-clause-passed c = passed_end c.args.lines.now c.loop-i.i (printed c.args.line.now) c.loop-i-test.false c.loop-i.invariant
-
-pub returns-in-Equal-clause-last : goal.returns-in-Equal-clause-last
-returns-in-Equal-clause-last c = λ t. last_equal c.args.lines.now c.loop-i.i c.index-lines-i.result (printed c.args.line.now) c.loop-i-test.true c.index-lines-i.is (sym c.in_ok-order.ensures ∙ c.in-Equal.is)

@@ -1,50 +1,37 @@
-use Rattle.std.proofs.Common.{◌≡◌, [], ◌∷◌, ◌++◌, sym, ap, ◌∙◌, subst, append_assoc}
-use Rattle.std.specs.Ordering.{nat_cmp}
-use Rattle.std.specs.Cmp.Lexicographic.{slice_cmp}
-use Rattle.std.specs.Vec.Iter.{into_iter_items}
-use Rattle.std.specs.declared.cmp.Ordering.TheVariants.{Less}
-use Rattle.go_base.specs.Lists.{Has}
-use Rattle.api_lines.specs.Lines.{printed, AreInOrder}
-use Rattle.api_lines.specs.inner.MergedLines.{AreExactly}
-use Rattle.api_lines.specs.inner.Shares.{IsIn, IsNotIn}
-use Rattle.api_lines.proofs.Growing.{each_front}
-use Rattle.api_lines.proofs.LineOrder.{before_line}
-use Rattle.api_lines.proofs.Parts.{kept_found, kept_none, kept_other, Lacks, not_of}
-use Rattle.api_lines.proofs.Splits.{either_first, either_second}
+use Rattle.std.proofs.Common.{◌∙◌, subst}
+use Rattle.api_lines.specs.inner.Splits.{IsSplitFirst}
+use Rattle.api_lines.proofs.Splits.{splitting_as, splitting_both, splitting_first, splitting_none, splitting_second, split_first_all, split_leaving, split_rest, split_second_all, split_shared}
 use Rattle.api_lines.proofs.split.split.Goals as goal
+use Rattle.api_lines.proofs.split.split.Goals.{in-Both+in_ok-push-in-Both, in-First+in_ok-push-in-First, in-Second+in_ok-push-in-Second}
 
-pub loop-line-init : goal.loop-line-init
-loop-line-init c = (
-  subst (AreExactly (IsIn c.args.others.now [])) (sym c.new-shared.ensures) (kept_none (Has c.args.others.now)),
-  subst (AreExactly (IsNotIn c.args.others.now [])) (sym c.new-rest.ensures) (kept_none (Lacks c.args.others.now)),
-  (λ m h. absurd h),
-  (λ text h. tt),
-  c.into_iter-line-iterator.ensures.into_iter_gives.0 ∙ c.into_vec-line-items.ensures,
-)
+pub loop-init : goal.loop-init
+loop-init c =
+    splitting_none c.args.first c.args.second c.from-first.result.items c.from-second.result.items c.in_ok-shared.shared c.new-leaving.result c.new-rest.result (c.from-first.ensures.0 ∙ c.into_vec.ensures) (c.from-second.ensures.0 ∙ c.into_vec-2.ensures) c.in_ok-shared.ensures c.new-leaving.ensures c.new-rest.ensures c.requires.first c.requires.second
 
-pub line_place-requires-clause-passed : goal.line_place-requires-clause-passed
-line_place-requires-clause-passed c =
-    let here : c.args.lines ≡ c.loop-line.yielded ++ c.in-Some.line ∷ into_iter_items c.next.new.self = sym c.loop-line.invariant.4 ∙ ap (λ w. c.loop-line.yielded ++ w) c.in-Some.ensures.steps.0 in
-    c.loop-line.invariant.3 (printed c.in-Some.line) (before_line c.loop-line.yielded c.in-Some.line (into_iter_items c.next.new.self) (subst AreInOrder here c.requires.lines))
+pub loop-preserved : goal.loop-preserved
+loop-preserved c = elim c.match-branch-3.branch [
+  | in-Both+in_ok-push-in-Both w ↦ splitting_as c.args.first c.args.second c.take_first.new.first.items c.take_first.new.second.items w.push.new.self c.loop.leaving c.loop.rest c.match-branch-3.shared c.match-branch-3.leaving c.match-branch-3.rest w.shared-is w.leaving-is w.rest-is
+      (splitting_both c.args.first c.args.second c.loop.first.items c.loop.second.items c.loop.shared c.loop.leaving c.loop.rest c.loop.invariant c.take_first.new.first.items c.take_first.new.second.items w.in-Both.line w.push.new.self w.in_ok-push-in-Both.ensures.ok
+      (subst (IsSplitFirst c.loop.first.items c.loop.second.items c.take_first.new.first.items c.take_first.new.second.items) w.in-Both.is c.in_ok-take_first.ensures))
+  | in-First+in_ok-push-in-First w ↦ splitting_as c.args.first c.args.second c.take_first.new.first.items c.take_first.new.second.items c.loop.shared w.push-in-First.new.self c.loop.rest c.match-branch-3.shared c.match-branch-3.leaving c.match-branch-3.rest w.shared-is w.leaving-is w.rest-is
+      (splitting_first c.args.first c.args.second c.loop.first.items c.loop.second.items c.loop.shared c.loop.leaving c.loop.rest c.loop.invariant c.take_first.new.first.items c.take_first.new.second.items w.in-First.line w.push-in-First.new.self w.in_ok-push-in-First.ensures.ok
+      (subst (IsSplitFirst c.loop.first.items c.loop.second.items c.take_first.new.first.items c.take_first.new.second.items) w.in-First.is c.in_ok-take_first.ensures))
+  | in-Second+in_ok-push-in-Second w ↦ splitting_as c.args.first c.args.second c.take_first.new.first.items c.take_first.new.second.items c.loop.shared c.loop.leaving w.push-in-Second.new.self c.match-branch-3.shared c.match-branch-3.leaving c.match-branch-3.rest w.shared-is w.leaving-is w.rest-is
+      (splitting_second c.args.first c.args.second c.loop.first.items c.loop.second.items c.loop.shared c.loop.leaving c.loop.rest c.loop.invariant c.take_first.new.first.items c.take_first.new.second.items w.in-Second.line w.push-in-Second.new.self w.in_ok-push-in-Second.ensures.ok
+      (subst (IsSplitFirst c.loop.first.items c.loop.second.items c.take_first.new.first.items c.take_first.new.second.items) w.in-Second.is c.in_ok-take_first.ensures))
+]
 
-pub loop-line-preserved-in-Continue-branch-2 : goal.loop-line-preserved-in-Continue-branch-2
-loop-line-preserved-in-Continue-branch-2 c =
-    let here : c.args.lines ≡ c.loop-line.yielded ++ c.in-Some.line ∷ into_iter_items c.next.new.self = sym c.loop-line.invariant.4 ∙ ap (λ w. c.loop-line.yielded ++ w) c.in-Some.ensures.steps.0 in
-    let has : Has c.args.others.now c.in-Some.line = c.in_ok-place.ensures.found.0 c.if-place.true in (
-      kept_found (Has c.args.others.now) c.loop-line.yielded c.in-Some.line (into_iter_items c.next.new.self) c.loop-line.shared (subst AreInOrder here c.requires.lines) c.loop-line.invariant.0 has c.push.new.self c.in_ok-push.ensures.ok,
-      kept_other (Lacks c.args.others.now) c.loop-line.yielded c.in-Some.line (into_iter_items c.next.new.self) c.loop-line.rest (subst AreInOrder here c.requires.lines) c.loop-line.invariant.1 (λ n. n has),
-      either_first c.loop-line.yielded c.in-Some.line c.loop-line.shared c.loop-line.rest c.push.new.self c.in_ok-push.ensures.ok c.loop-line.invariant.2,
-      (λ text b. c.in_ok-place.ensures.passed text (each_front (λ l. slice_cmp nat_cmp (printed l) text ≡ Less) c.loop-line.yielded c.in-Some.line b).1),
-      append_assoc c.loop-line.yielded (c.in-Some.line ∷ []) (into_iter_items c.next.new.self) ∙ sym here,
-    )
+pub returns-in-Nothing-clause-shared : goal.returns-in-Nothing-clause-shared
+returns-in-Nothing-clause-shared c = split_shared c.args.first c.args.second c.loop.first.items c.loop.second.items c.loop.shared c.loop.leaving c.loop.rest c.loop.invariant c.take_first.new.first.items c.take_first.new.second.items (subst (IsSplitFirst c.loop.first.items c.loop.second.items c.take_first.new.first.items c.take_first.new.second.items) c.in-Nothing.is c.in_ok-take_first.ensures)
 
-pub loop-line-preserved : goal.loop-line-preserved
-loop-line-preserved c =
-    let here : c.args.lines ≡ c.loop-line.yielded ++ c.in-Some.line ∷ into_iter_items c.next.new.self = sym c.loop-line.invariant.4 ∙ ap (λ w. c.loop-line.yielded ++ w) c.in-Some.ensures.steps.0 in
-    let none = not_of c.in_ok-place.place.found (Has c.args.others.now c.in-Some.line) c.in_ok-place.ensures.found c.if-place.false in (
-      kept_other (Has c.args.others.now) c.loop-line.yielded c.in-Some.line (into_iter_items c.next.new.self) c.loop-line.shared (subst AreInOrder here c.requires.lines) c.loop-line.invariant.0 none,
-      kept_found (Lacks c.args.others.now) c.loop-line.yielded c.in-Some.line (into_iter_items c.next.new.self) c.loop-line.rest (subst AreInOrder here c.requires.lines) c.loop-line.invariant.1 none c.push-else-place.new.self c.in_ok-push-2.ensures.ok,
-      either_second c.loop-line.yielded c.in-Some.line c.loop-line.shared c.loop-line.rest c.push-else-place.new.self c.in_ok-push-2.ensures.ok c.loop-line.invariant.2,
-      (λ text b. c.in_ok-place.ensures.passed text (each_front (λ l. slice_cmp nat_cmp (printed l) text ≡ Less) c.loop-line.yielded c.in-Some.line b).1),
-      append_assoc c.loop-line.yielded (c.in-Some.line ∷ []) (into_iter_items c.next.new.self) ∙ sym here,
-    )
+pub returns-in-Nothing-clause-leaving : goal.returns-in-Nothing-clause-leaving
+returns-in-Nothing-clause-leaving c = split_leaving c.args.first c.args.second c.loop.first.items c.loop.second.items c.loop.shared c.loop.leaving c.loop.rest c.loop.invariant c.take_first.new.first.items c.take_first.new.second.items (subst (IsSplitFirst c.loop.first.items c.loop.second.items c.take_first.new.first.items c.take_first.new.second.items) c.in-Nothing.is c.in_ok-take_first.ensures)
+
+pub returns-in-Nothing-clause-rest : goal.returns-in-Nothing-clause-rest
+returns-in-Nothing-clause-rest c = split_rest c.args.first c.args.second c.loop.first.items c.loop.second.items c.loop.shared c.loop.leaving c.loop.rest c.loop.invariant c.take_first.new.first.items c.take_first.new.second.items (subst (IsSplitFirst c.loop.first.items c.loop.second.items c.take_first.new.first.items c.take_first.new.second.items) c.in-Nothing.is c.in_ok-take_first.ensures)
+
+pub returns-in-Nothing-clause-first : goal.returns-in-Nothing-clause-first
+returns-in-Nothing-clause-first c = split_first_all c.args.first c.args.second c.loop.first.items c.loop.second.items c.loop.shared c.loop.leaving c.loop.rest c.loop.invariant c.take_first.new.first.items c.take_first.new.second.items (subst (IsSplitFirst c.loop.first.items c.loop.second.items c.take_first.new.first.items c.take_first.new.second.items) c.in-Nothing.is c.in_ok-take_first.ensures)
+
+pub returns-in-Nothing-clause-second : goal.returns-in-Nothing-clause-second
+returns-in-Nothing-clause-second c = split_second_all c.args.first c.args.second c.loop.first.items c.loop.second.items c.loop.shared c.loop.leaving c.loop.rest c.loop.invariant c.take_first.new.first.items c.take_first.new.second.items (subst (IsSplitFirst c.loop.first.items c.loop.second.items c.take_first.new.first.items c.take_first.new.second.items) c.in-Nothing.is c.in_ok-take_first.ensures)

@@ -1,4 +1,4 @@
-use Rattle.std.proofs.Common.{◌≡◌, ◌∙◌, [], ℕ, List, subst}
+use Rattle.std.proofs.Common.{◌≡◌, [], ℕ, List, subst}
 use Rattle.go_base.specs.Growing.{Grows}
 use Rattle.api_lines.proofs.Growing.{grows_member}
 use Rattle.api_lines.proofs.texts.Texts.of.Goals as goal
