@@ -16,12 +16,12 @@ use crate::uses::{ClientFiles, package_files};
 use go_base::list::List;
 use go_base::memory::NoMemory;
 use go_base::text::Text;
-use go_units::package_checks::{check_free, mixed_names, refused};
 use go_model::files::platform::Platform;
 use go_model::files::tree::{Tree, TreeFile};
 use go_reading::files_by_name::files_by_name;
 use go_reading::heads::headed_files;
 use go_units::folder::Folder;
+use go_units::package_checks::{check_free, mixed_names, refused};
 use go_units::unit_error::UnitError;
 use std::alloc::Global;
 

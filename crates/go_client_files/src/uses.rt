@@ -9,14 +9,13 @@ use crate::parsed::ParsedFile;
 use go_base::list::List;
 use go_base::memory::NoMemory;
 use go_base::text::Text;
-use go_units::package_uses::imports_of;
 use go_imports::import_paths::assumed_name;
 use go_imports::package_files::{SourceFile, imports_c};
 use go_imports::used_imports::{Import, NamedImport};
 use go_syntax::declaration::File;
 use go_syntax::statement::LiteralBlock;
 use go_units::folder::Folder;
-use go_units::package_uses::PackageFile;
+use go_units::package_uses::{PackageFile, imports_of};
 use std::alloc::Global;
 
 /// A file of a client's package, with its blocks.

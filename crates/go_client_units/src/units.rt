@@ -16,7 +16,6 @@ use go_base::memory::NoMemory;
 use go_base::text::Text;
 use go_client_files::client::read_client;
 use go_client_files::uses::ClientFiles;
-use go_units::unit_files::needed;
 use go_client_walks::units::{WalkedClient, client_walk, module_walk};
 use go_model::files::platform::Platform;
 use go_model::files::tree::Tree;
@@ -28,6 +27,7 @@ use go_units::folder::Folder;
 use go_units::reader::FolderReader;
 use go_units::unit::{Unit, UnitFile};
 use go_units::unit_error::UnitError;
+use go_units::unit_files::needed;
 use go_units::unit_list::Units;
 use std::alloc::Global;
 
