@@ -89,7 +89,7 @@ one_file("aliases of later ones", "", lambda n: "type t%d = t%d\n" % (n, n + 1),
 one_file("types of later ones", "", lambda n: "type t%d t%d\n" % (n, n + 1), lambda last: "type t%d int\n" % (last + 1))
 one_file("embedded pointers", "type t0 struct{ F int }\n", lambda n: "type t%d struct{ *t%d }\n" % (n, n - 1), lambda last: "type Top struct{ t%d }\n" % last)
 one_file("embedded interfaces", "type t0 interface{ M() }\n", lambda n: "type t%d interface{ t%d }\n" % (n, n - 1), lambda last: "type Top interface{ t%d }\n" % last)
-tree("an interface that one embeds again and again", "features", (0, 3))(lambda share: module("package p\ntype I interface {" + "".join("m%d();" % n for n in range(200000 // share)) + "}\ntype J interface {" + "I;" * (900000 // share) + "}\n"))
+tree("an interface that one embeds again and again", "features", (0,))(lambda share: module("package p\ntype I interface {" + "".join("m%d();" % n for n in range(49000 // share)) + "}\ntype J interface {" + "I;" * (900000 // share) + "}\n"))
 tree("interfaces that each embed a large one", "features", (0, 6))(lambda share: module("package p\ntype I interface {" + "".join("m%d();" % n for n in range(16000 // share)) + "}\n" + "".join("type t%d interface { I }\n" % n for n in range(16000 // share))))
 # a type of more than 100,000 nodes is refused
 one_file("fields", "type X struct {\n", lambda n: "F%d int\n" % n, lambda last: "}\n", (0, 3))
