@@ -57,8 +57,8 @@ one_file("one number", "const X = 1", lambda n: "0" * 64, statuses=(3,))
 one_file("one name", "var ", lambda n: "a" * 64, lambda last: " int\n")
 tree("lines before the package")(lambda share: module(filled(FILE // share, "", lambda n: "// a\n", lambda last: "package p\n")))
 one_file("imports of a header", "", lambda n: 'import _ "x/%d"\n' % n)
-tree("imports that aren't found, for what is left out")(lambda share: module("package p\n" + "".join('import a%d "x/%d"\n' % (n, n) for n in range(100000 // share)) + "".join(
-    "var v%d = a%d.X\n" % (n, n) for n in range(100000 // share))))
+tree("imports that aren't found, for what is left out")(lambda share: module("package p\n" + "".join('import a%d "x/%d"\n' % (n, n) for n in range(80000 // share)) + "".join(
+    "var v%d = a%d.X\n" % (n, n) for n in range(80000 // share))))
 tree("imports that aren't found, beside what is seen")(lambda share: {**module("package p\n" + "".join('import a%d "x/%d"\n' % (n, n) for n in range(40000 // share)) + 'import q "m/q"\n' + "".join(
     "var v%d = a%d.X\nvar V%d q.T\n" % (n, n, n) for n in range(40000 // share))), "new/q/q.go": "package q\ntype T int\n"})
 tree("terms of a build line")(lambda share: module(filled(FILE // share, "//go:build linux", lambda n: "&&linux", lambda last: "\n\npackage p\n")))

@@ -4,8 +4,6 @@ pub mod Heads
 pub mod Leading
 pub mod Lookups
 pub mod Places
-pub mod PrefixFree
-pub mod Putting
 pub mod Selected
 pub mod Spreading
 pub mod Tabling

@@ -8,9 +8,9 @@ use Rattle.indexmap.specs.IndexSet.{insert_key}
 use Rattle.go_base.specs.Lists.{Has, Once}
 use Rattle.go_base.proofs.Members.{found_has, has_found, has_split}
 use Rattle.go_type_images.specs.declared.pair.TypePair.{TypePair}
-use Rattle.api_correspond.specs.Codes.{Code, code_of_pair}
+use Rattle.go_type_codes.specs.Codes.{Code, code_of_pair}
 use Rattle.api_correspond.specs.inner.Tables.{At, AddsAt, KeepsTexts, InStep, AddsPair, AddsPairs}
-use Rattle.api_correspond.proofs.PrefixFree.{pairs_told}
+use Rattle.go_type_codes.proofs.PrefixFree.{pairs_told}
 use Rattle.api_correspond.proofs.Places.{at_left, at_has, at_unmap, has_map, map_last, once_more}
 
 get_at : {A : Type 0} (xs : List A) (i : ℕ) (x : A) → slice_get xs i ≡ Some x → At xs i x

@@ -1,4 +1,3 @@
-pub mod Codes
 pub mod Outermost
 pub mod OwnedPairs
 pub mod Publics

@@ -3,7 +3,6 @@
 #![tactic(auto)]
 
 pub mod by_sel;
-mod codes;
 pub mod embedded;
 pub mod leads;
 pub mod levels;

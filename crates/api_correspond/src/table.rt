@@ -2,9 +2,9 @@
 ghost use Rattle.std.specs.Prelude.{◌≡◌, [], IfOk, OnOk};
 ghost use Rattle.api_correspond.specs.inner.Tables.{InStep, AddsPair, AddsAt, ItemAt};
 
-use crate::codes::pair_code;
 use go_base::memory::NoMemory;
 use go_base::text::Text;
+use go_type_codes::codes::pair_code;
 use go_type_images::pair::TypePair;
 use indexmap::IndexSet;
 use std::alloc::Global;

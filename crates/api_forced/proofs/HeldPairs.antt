@@ -6,12 +6,12 @@ use Rattle.std.proofs.lemmas.Slice.Eq.{bytes_eq-Decides}
 use Rattle.go_base.specs.Lists.{Has}
 use Rattle.go_model.specs.declared.types.term.Term.{Term}
 use Rattle.go_model.specs.worlds.Worlds.{Packages}
-use Rattle.api_correspond.specs.Codes.{code_of_pair}
+use Rattle.go_type_codes.specs.Codes.{code_of_pair}
 use Rattle.api_correspond.specs.OwnedPairs.{FromObject, HoldsOwned, Leads, Owned, from_object, led_to}
 use Rattle.api_correspond.specs.Publics.{IsOwner, by_leader, by_name, qualified}
 use Rattle.go_type_images.specs.declared.pair.TypePair.{TypePair}
 use Rattle.api_correspond.proofs.Places.{at_has}
-use Rattle.api_correspond.proofs.PrefixFree.{pairs_told}
+use Rattle.go_type_codes.proofs.PrefixFree.{pairs_told}
 use Rattle.api_forced.specs.Ownerships.{IsOwnership}
 use Rattle.api_forced.specs.declared.claims.Claim.{Claim}
 

@@ -1,17 +1,18 @@
 //! Lines that are gathered, and then listed in the order of their texts.
-ghost use Rattle.std.specs.Prelude.{◌≡◌, ◌<◌, ◌≤◌, [], true, length, IfOk, OnOk};
+ghost use Rattle.std.specs.Prelude.{◌≡◌, [], true, IfOk, OnOk};
 ghost use Rattle.std.specs.List.Sorted.{IsPermutation};
 ghost use Rattle.go_base.specs.Lists.{Has};
 ghost use Rattle.go_base.specs.Growing.{Grows};
 ghost use Rattle.api_lines.specs.Lines.{AreInOrder, IsListing};
 
 use crate::line::Line;
-use crate::order::is_before;
+use crate::order::{is_before, known_order};
 use crate::package_lines::{PackageLines, push};
 use crate::printed::by_texts;
 use go_base::list::List;
 use go_base::memory::NoMemory;
 use std::alloc::Global;
+use std::cmp::Ordering;
 use std::marker::Model;
 
 /// Lines that are gathered.
@@ -36,31 +37,15 @@ impl Model for Lines {
     ghost view = { λ l. l.all.items ++ l.latest };
 }
 
-// Where the lines end that stand together with the one at a place and have its path.
-fn end_of_package(lines: &[Line], from: usize) -> usize
-    requires { from < length lines.now }
-    ensures after { from < result }
-    ensures within { result ≤ length lines.now }
+// Puts lines in the order of their texts as far as that is known without printing them, in few comparisons where parts of them came in order.
+fn sort(lines: &mut Vec<Line>) -> Result<(), NoMemory>
+    ensures { OnOk result (IsPermutation lines.old.items lines.new.items) }
 {
-    let path = &lines[from].path;
-    for at in from + 1..lines.len() {
-        if lines[at].path.cmp(path).is_ne() {
-            return at;
-        }
-    }
-    lines.len()
-}
-
-// Puts lines of one path that stand together in the order of their rests.
-fn sort_packages(lines: &mut [Line])
-    ensures { IsPermutation lines.old lines.new }
-{
-    let mut from = 0;
-    while from < lines.len() {
-        let to = end_of_package(lines, from);
-        lines[from..to].sort_unstable_by(|l, m| l.rest.cmp(&m.rest));
-        from = to;
-    }
+    lines.sort_by(|line, other| match known_order(line, other) {
+        Some(order) => order,
+        None => Ordering::Equal,
+    })?;
+    Ok(())
 }
 
 // Whether the lines are known to be in order.
@@ -82,7 +67,7 @@ pub(crate) fn listed(alloc: Global, mut all: Vec<Line>) -> Result<List<Line>, No
     if are_in_order(&all) {
         return Ok(List::from_vec(all));
     }
-    sort_packages(&mut all);
+    sort(&mut all)?;
     if are_in_order(&all) {
         return Ok(List::from_vec(all));
     }

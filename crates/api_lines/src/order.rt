@@ -4,9 +4,11 @@ ghost use Rattle.std.specs.Ordering.{nat_cmp};
 ghost use Rattle.std.specs.Cmp.Lexicographic.{slice_cmp};
 ghost use Rattle.std.specs.declared.cmp.Ordering.TheVariants.{Less};
 ghost use Rattle.go_model.specs.declared.files.platform.Platform.{Platform as Place};
+ghost use Rattle.go_model.specs.files.Platforms.{name_of};
 ghost use Rattle.api_lines.specs.Lines.{context_text, printed};
 
 use crate::line::Line;
+use go_model::files::platform::Platform;
 use std::cmp::Ordering;
 
 // Whether all lines of one path come before those of another. A blank or a comma follows a path.
@@ -24,8 +26,35 @@ fn is_path_before(path: &[u8], other: &[u8]) -> bool
     path.len() < other.len() && b',' < other[path.len()]
 }
 
-// The order of lines of one path: one with a context comes before those without, and else the rests decide. That of
-// lines with two contexts isn't told.
+// Whether all texts that begin with a name and a closing parenthesis come before those that begin so with another name.
+fn is_name_before(name: &[u8], other: &[u8]) -> bool
+    ensures { result ≡ true → (x y : Sequence ℕ) → slice_cmp nat_cmp (name.now ++ codes ")" ++ x) (other.now ++ codes ")" ++ y) ≡ Less }
+{
+    for i in 0..name.len() {
+        if other.len() <= i {
+            return false;
+        }
+        if name[i] != other[i] {
+            return name[i] < other[i];
+        }
+    }
+    name.len() < other.len() && b')' < other[name.len()]
+}
+
+// The order of lines of one path on two platforms; None where it isn't told by their names.
+fn order_of_platforms(platform: Platform, other: Platform) -> Option<Ordering>
+    ensures { IfSome result (λ order. (x y : Sequence ℕ) → order ≡ slice_cmp nat_cmp (name_of platform ++ codes ")" ++ x) (name_of other ++ codes ")" ++ y)) }
+{
+    if is_name_before(platform.name(), other.name()) {
+        return Some(Ordering::Less);
+    }
+    if is_name_before(other.name(), platform.name()) {
+        return Some(Ordering::Greater);
+    }
+    None
+}
+
+// The order of lines of one path: one with a context comes before those without, the names of two platforms decide, and else the rests.
 fn order_in_package(line: &Line, other: &Line) -> Option<Ordering>
     requires { line.now.path ≡ other.now.path }
     ensures { IfSome result (λ order. order ≡ slice_cmp nat_cmp (printed line.now) (printed other.now)) }
@@ -34,12 +63,17 @@ fn order_in_package(line: &Line, other: &Line) -> Option<Ordering>
         (None, None) => Some(line.rest.cmp(&other.rest)),
         (None, Some(_)) => Some(Ordering::Greater),
         (Some(_), None) => Some(Ordering::Less),
-        (Some(_), Some(_)) => None,
+        (Some(platform), Some(on)) => {
+            if platform == on {
+                return Some(line.rest.cmp(&other.rest));
+            }
+            order_of_platforms(platform, on)
+        }
     }
 }
 
-/// The order of two lines by their texts; None where it isn't told without printing them, as that of lines with
-/// contexts, or of paths of which one goes on behind the other with a byte that comes before a comma.
+/// The order of two lines by their texts; None where it isn't told without printing them, as that of paths of which one goes on behind
+/// the other with a byte that comes before a comma.
 pub(crate) fn known_order(line: &Line, other: &Line) -> Option<Ordering>
     ensures { IfSome result (λ order. order ≡ slice_cmp nat_cmp (printed line.now) (printed other.now)) }
 {

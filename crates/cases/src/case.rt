@@ -9,8 +9,9 @@ use archives::failing::{Trial, failing_of, outside_of};
 use archives::load::run_load;
 use archives::outline::run_outline;
 use archives::tries::tries_of;
-use archives::wanted::{error_fault, output_fault, read_fault, wanted_of};
+use archives::wanted::{Wanted, error_fault, output_fault, read_fault, wanted_of};
 use archives::words::words;
+use std::alloc::Global;
 use std::thread::Threads;
 
 // The ending of the run in this row and this trial.
@@ -114,6 +115,37 @@ fn try_prefixes<R: Threads + Sync + AllocGlobal>(
     Ok(())
 }
 
+// The words with three workers, or none where there are none or they say how many workers there are.
+fn shared_words(alloc: Global, pieces: &[&Piece], row: usize) -> anyhow::Result<Vec<String>> {
+    let mut all = words(alloc, section(pieces, "words"), row)?;
+    if all.is_empty() || all.iter().any(|word| word.as_str() == "--workers") {
+        return Ok(Vec::new(alloc));
+    }
+    for word in ["--workers", "3"] {
+        all.push(String::from_str(alloc, word)?)?;
+    }
+    Ok(all)
+}
+
+// Tells what differs where three workers share the run, which has to end as by one.
+fn try_workers<R: Threads + Sync + AllocGlobal>(
+    rt: &R,
+    found: &mut String,
+    pieces: &[&Piece],
+    row: usize,
+    wanted: &Wanted,
+) -> anyhow::Result<()> {
+    let alloc = rt.alloc();
+    let words = shared_words(alloc, pieces, row)?;
+    if words.is_empty() {
+        return Ok(());
+    }
+    let mut outside = outside_of(alloc, pieces, row, Trial::Plain)?;
+    let got = run_words(rt, &words, &mut outside)?;
+    add_differences(alloc, found, "3 workers: ", wanted, &got)?;
+    Ok(())
+}
+
 // What differs in a row, a difference in each line.
 fn differences<R: Threads + Sync + AllocGlobal>(
     rt: &R,
@@ -122,7 +154,7 @@ fn differences<R: Threads + Sync + AllocGlobal>(
 ) -> anyhow::Result<String> {
     let alloc = rt.alloc();
     let mut found = String::new(alloc);
-    let wanted = wanted_of(alloc, pieces, row)?;
+    let mut wanted = wanted_of(alloc, pieces, row)?;
     let plain = ending(rt, pieces, row, Trial::Plain)?;
     add_differences(alloc, &mut found, "", &wanted, &plain)?;
     let failing = failing_of(alloc, pieces, row, Trial::Plain)?;
@@ -136,6 +168,11 @@ fn differences<R: Threads + Sync + AllocGlobal>(
         try_error_writes(rt, &mut found, pieces, row, &plain)?;
     }
     try_prefixes(rt, &mut found, pieces, row)?;
+    if section(pieces, "differs").is_empty() {
+        // Several workers of a platform check what one takes over.
+        wanted.counts = String::new(alloc);
+        try_workers(rt, &mut found, pieces, row, &wanted)?;
+    }
     Ok(found)
 }
 

@@ -138,10 +138,10 @@ fn sifted(
 }
 
 /// The package of the declarations that are kept, with those that are left out; or its refusal at the first that is lost and is seen or
-/// isn't beyond the profile.
+/// isn't beyond the profile. Where none is lost the scopes are given up first, so that they don't stand in memory beside the package.
 pub(crate) fn answer(
     alloc: Global,
-    env: &mut Env<'_>,
+    mut env: Env<'_>,
     unit: &Unit,
     tables: &PackageTables<'_>,
     had: HadEntries,
@@ -154,13 +154,16 @@ pub(crate) fn answer(
     requires pathed { unit.now.path ≢ [] }
     requires once { (q : Spot) → IsRedeclared (source_of unit.now) q → ⊥ }
     requires found { (q : Spot) → IsMissing (source_of unit.now) q → ⊥ }
-    ensures answers { (s : Setting) → IsApart s (source_of unit.now) → IsScopeOf s (source_of unit.now) (entries_at had) env.old → AreAll s (source_of unit.now) (entries_at had)
+    ensures answers { (s : Setting) → IsApart s (source_of unit.now) → IsScopeOf s (source_of unit.now) (entries_at had) env.entry → AreAll s (source_of unit.now) (entries_at had)
         → AreSifted s (source_of unit.now) (entries_at had) (is_flagged lost.now) → Answers s (source_of unit.now) result }
-    ensures skipped { (s : Setting) → IsApart s (source_of unit.now) → IsScopeOf s (source_of unit.now) (entries_at had) env.old → AreAll s (source_of unit.now) (entries_at had)
+    ensures skipped { (s : Setting) → IsApart s (source_of unit.now) → IsScopeOf s (source_of unit.now) (entries_at had) env.entry → AreAll s (source_of unit.now) (entries_at had)
         → AreSifted s (source_of unit.now) (entries_at had) (is_flagged lost.now) → IfOk result (λ c. IsSkipped s (source_of unit.now) (all_skipped c.skipped)) }
 {
     match first_flagged(lost) {
-        None => complete(alloc, unit, tables, &had, lost),
-        Some(_) => sifted(alloc, env, unit, tables, had, lost),
+        None => {
+            drop(env);
+            complete(alloc, unit, tables, &had, lost)
+        }
+        Some(_) => sifted(alloc, &mut env, unit, tables, had, lost),
     }
 }

@@ -107,8 +107,8 @@ fn offer_declarations(
         methods: &methods,
     };
     let settled = settle(alloc, unit, imports, bits, profile, &tables, &hints)?;
-    let Settled { mut env, had, lost } = settled;
-    answer(alloc, &mut env, unit, &tables, had, &lost)
+    let Settled { env, had, lost } = settled;
+    answer(alloc, env, unit, &tables, had, &lost)
 }
 
 // The package as which a unit is typed, or its first unsound declaration, where no name is declared twice and each import is found.

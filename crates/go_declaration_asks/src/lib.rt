@@ -6,4 +6,4 @@ pub mod base;
 mod forms;
 mod methods;
 mod reserved;
-mod values;
+pub mod values;

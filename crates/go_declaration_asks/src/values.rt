@@ -82,7 +82,7 @@ fn are_usable_as(
 }
 
 /// Whether the values of so many variables fit their type, where they have one.
-pub(crate) fn values_fit(
+pub fn values_fit(
     context: &Context<'_>,
     alloc: Global,
     form: &Option<Type>,

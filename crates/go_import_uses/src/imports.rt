@@ -19,7 +19,7 @@ fn is_init(name: &Text) -> bool
 fn is_named(import: &UsedImport, name: &Text) -> bool
     ensures { result ≡ bytes_eq import.now.name name.now }
 {
-    import.name.bytes() == name.bytes()
+    import.name == *name
 }
 
 // The first import of a name.

@@ -9,9 +9,9 @@ ghost use Rattle.go_statement_rules.specs.Statements.{fits};
 ghost use Rattle.go_type_terms.specs.Answers.{Tells, env_in};
 ghost use Rattle.go_typings.specs.DeclarationNodes.{nodes};
 
-use crate::values::values_fit;
 use go_asks::meets::meet;
 use go_base::memory::NoMemory;
+use go_declaration_asks::values::values_fit;
 use go_declarations::form::Form;
 use go_entries::entry::Entry;
 use go_entries::given::entry;

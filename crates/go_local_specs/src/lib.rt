@@ -3,4 +3,3 @@
 
 pub mod entities;
 pub mod listing;
-mod values;

@@ -7,4 +7,3 @@ pub mod SameStdWorlds
 pub mod SameUnits
 pub mod StdWorlds
 pub mod TwoModules
-pub mod TypedNames

@@ -1,5 +1,4 @@
--- The names in the types of a package that is offered are its own, or of packages that it reaches: `typed_names` of go_std_worlds, which stands on more
--- crates and can take it from here.
+-- The names in the types of a package that is offered are its own, or of packages that it reaches.
 use Rattle.std.proofs.Common.{◌≡◌, ℕ, zero, suc, Bool, true, false, ◌||◌, List, [], ◌∷◌, Option, Some, None, refl, sym, ap, ◌∙◌, subst}
 use Rattle.std.specs.Prelude.{slice_get}
 use Rattle.go_base.specs.Gathered.{gather}

@@ -11,7 +11,8 @@ use Rattle.go_model.specs.declared.types.term.Field.{Field, out-Field, roll-Fiel
 use Rattle.go_model.specs.declared.types.term.Method.{Method, out-Method, roll-Method, roll-out-Method, fold_out-Method}
 use Rattle.go_model.specs.declared.types.term.Signature.{Signature, out-Signature, roll-Signature, roll-out-Signature, fold_out-Signature}
 use Rattle.go_model.specs.types.Terms.{Layer}
-use Rattle.go_type_codes.specs.Codes.{Code, code_of_text, code_of_list, code_of_rest, digits, code_of_number, code_of_flag, code_of_direction, code_of_basic, code_of_sel, field_code, method_code, signature_code, layer_code, code, code_of_field, code_of_method, code_of_signature}
+use Rattle.go_type_codes.specs.Codes.{Code, code_of_text, code_of_list, code_of_rest, digits, code_of_number, code_of_flag, code_of_direction, code_of_basic, code_of_sel, field_code, method_code, signature_code, layer_code, code, code_of_field, code_of_method, code_of_signature, code_of_pair}
+use Rattle.go_type_images.specs.declared.pair.TypePair.{TypePair}
 use Rattle.go_type_images.proofs.Trees.{Tree, tree_plain, tree_named, tree_pointer, tree_slice, tree_array, tree_map, tree_chan, tree_func, tree_struct, tree_interface, SignatureTree, signature_tree, Trees, trees_none, trees_more, FieldTrees, fields_none, fields_more, MethodTrees, methods_none, methods_more, grown}
 
 -- where the first codes stand before rests that make them equal, the fact holds and the rests are equal
@@ -278,7 +279,14 @@ mutual
 pub types_told : (t u : Term) → code t ≡ code u → t ≡ u
 types_told t u e = (told (grown t) u [] [] (ap (λ w. w ++ []) e)).0
 
--- of which it has some
+-- a pair of types is told by its bytes
+pub pairs_told : (p q : TypePair) → code_of_pair p ≡ code_of_pair q → p ≡ q
+pairs_told p q e =
+    let k = told (grown p.old) q.old (code p.new) (code q.new) e in
+    let j = told (grown p.new) q.new [] [] (ap (λ w. w ++ []) k.1) in
+    (λ i. record { old = k.0 i; new = j.0 i })
+
+-- of its bytes a type has some
 pub some_code : (t : Term) → code t ≡ [] → ⊥
 some_code t e = let i = code_is t (out-Term t) refl in none_coded (sym e ∙ i)
   where

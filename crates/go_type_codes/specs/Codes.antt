@@ -1,4 +1,4 @@
--- Bytes that tell types apart.
+-- Bytes that tell types apart, and pairs of types.
 -- Own: no code is the beginning of another one.
 use Rattle.std.specs.Prelude.{ℕ, zero, suc, ◌/◌, ◌%◌, List, [], ◌∷◌, ◌++◌, Bool, true, false}
 use Rattle.go_model.specs.declared.constants.value.Basic.{Basic}
@@ -10,6 +10,7 @@ use Rattle.go_model.specs.declared.types.term.Term.{Term, Term-F, fold-Term}
 use Rattle.go_model.specs.declared.types.term.Field.{Field, Field-F, fold-Field}
 use Rattle.go_model.specs.declared.types.term.Method.{Method, Method-F, fold-Method}
 use Rattle.go_model.specs.declared.types.term.Signature.{Signature, Signature-F, fold-Signature}
+use Rattle.go_type_images.specs.declared.pair.TypePair.{TypePair}
 
 abbrev pub Code : Type 0
 Code = List ℕ
@@ -100,3 +101,7 @@ code_of_method = fold-Method Code Code Code Code layer_code field_code method_co
 
 abbrev pub code_of_signature : Signature → Code
 code_of_signature = fold-Signature Code Code Code Code layer_code field_code method_code signature_code
+
+-- of a pair of types
+abbrev pub code_of_pair : TypePair → Code
+code_of_pair p = code p.old ++ code p.new

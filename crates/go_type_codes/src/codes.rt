@@ -1,6 +1,6 @@
-//! Bytes that tell types apart, so that a set of texts finds types by their bytes.
+//! Bytes that tell types and pairs of types apart, so that a set of texts finds them by their bytes.
 ghost use Rattle.std.specs.Prelude.{◌≡◌, ◌++◌, ◌∷◌, [], IfOk, OnOk, map};
-ghost use Rattle.go_type_codes.specs.Codes.{code, code_of_text, code_of_list, code_of_number, code_of_flag, code_of_direction, code_of_basic, code_of_sel, code_of_field, code_of_method, code_of_signature};
+ghost use Rattle.go_type_codes.specs.Codes.{code, code_of_text, code_of_list, code_of_number, code_of_flag, code_of_direction, code_of_basic, code_of_sel, code_of_field, code_of_method, code_of_signature, code_of_pair};
 
 use go_base::memory::NoMemory;
 use go_base::shared::Shared;
@@ -8,6 +8,7 @@ use go_base::text::Text;
 use go_model::constants::value::Basic;
 use go_model::types::names::{Sel, TypeName};
 use go_model::types::term::{Direction, Field, Method, Signature, Term};
+use go_type_images::pair::TypePair;
 use std::alloc::Global;
 
 fn put(out: &mut Vec<u8>, byte: u8) -> Result<(), NoMemory>
@@ -236,5 +237,15 @@ pub fn type_code(alloc: Global, term: &Term) -> Result<Text, NoMemory>
 {
     let mut out = Vec::new(alloc);
     put_term(&mut out, term)?;
+    Text::from_vec(alloc, out)
+}
+
+/// The bytes that tell a pair of types apart from every other one.
+pub fn pair_code(alloc: Global, pair: &TypePair) -> Result<Text, NoMemory>
+    ensures { IfOk result (λ text. text ≡ code_of_pair pair.now) }
+{
+    let mut out = Vec::new(alloc);
+    put_term(&mut out, &pair.old)?;
+    put_term(&mut out, &pair.new)?;
     Text::from_vec(alloc, out)
 }

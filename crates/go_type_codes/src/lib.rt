@@ -1,4 +1,4 @@
-//! Bytes that tell types apart.
+//! Bytes that tell types and pairs of types apart.
 #![tactic(auto)]
 
 pub mod codes;

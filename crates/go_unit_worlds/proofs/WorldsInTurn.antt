@@ -22,7 +22,7 @@ use Rattle.go_exposed.specs.OfferedPackages.{IsOfferedAs}
 use Rattle.go_exposed.specs.OfferedWorlds.{Become, become_none, become_more}
 use Rattle.go_exposed.proofs.SameImports.{offered_same}
 use Rattle.go_std_worlds.proofs.MoreLists.{found_after, found_still, has_key, key_finds, mapped}
-use Rattle.go_std_worlds.proofs.TypedNames.{typed_names}
+use Rattle.go_taken_packages.proofs.TypedNames.{typed_names}
 use Rattle.go_std_worlds.specs.StdSources.{HaveOwnPaths, HavePaths, source_path}
 
 -- ---- the packages of a world

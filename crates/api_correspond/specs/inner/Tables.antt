@@ -5,7 +5,7 @@ use denote.Ref.{Bor}
 use lib.ListN.{get_or}
 use Rattle.go_base.specs.Lists.{Has, Once}
 use Rattle.go_type_images.specs.declared.pair.TypePair.{TypePair}
-use Rattle.api_correspond.specs.Codes.{Code, code_of_pair}
+use Rattle.go_type_codes.specs.Codes.{Code, code_of_pair}
 
 -- the item stands at the place
 abbrev pub At : {A : Type 0} → List A → ℕ → A → Type 0

@@ -1,4 +1,4 @@
-use Rattle.go_std_worlds.proofs.TypedNames.{typed_names}
+use Rattle.go_taken_packages.proofs.TypedNames.{typed_names}
 use Rattle.go_std_worlds.proofs.laws.typed_names.Goals as goal
 
 pub returns : goal.returns

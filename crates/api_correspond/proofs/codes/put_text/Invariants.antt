@@ -1,6 +1,0 @@
-use Rattle.std.proofs.Common.{◌≡◌, ◌++◌, drop}
-use Rattle.api_correspond.specs.Codes.{code_of_text}
-use Rattle.api_correspond.proofs.codes.put_text.Given as goal
-
-abbrev pub invariant-loop-byte : goal.invariant-loop-byte
-invariant-loop-byte l = l.out.items ++ code_of_text (drop l.byte-index l.bytes) ≡ l.fn.out.items ++ code_of_text l.bytes
