@@ -5,8 +5,8 @@ use Rattle.api_clients.specs.inner.ClientSteps.{IsAdded, IsAnsweredAlike, listed
 use Rattle.api_reports.specs.declared.clients.ClientAnswer.{ClientAnswer}
 use Rattle.api_worlds.specs.PlatformWorlds.{sources_of}
 use Rattle.go_base.specs.Lists.{Has}
-use Rattle.go_client_units.specs.ClientUnits.{AreClientUnits}
-use Rattle.go_client_units.specs.declared.units.ClientUnits.{ClientUnits}
+use Rattle.go_client_unit_laws.specs.go_client_units.ClientUnits.{AreClientUnits}
+use Rattle.go_client_unit_laws.specs.go_client_units.declared.units.ClientUnits.{ClientUnits}
 use Rattle.go_clients.specs.Vetting.{IsVettedAs}
 use Rattle.go_exposed.specs.OfferedWorlds.{IsWorldOf}
 use Rattle.go_file_choices.specs.AlikePlatforms.{AllChosenAlike, AreAlike, files_of}

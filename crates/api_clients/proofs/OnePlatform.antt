@@ -12,9 +12,9 @@ use Rattle.api_worlds.specs.PlatformWorlds.{sources_of}
 use Rattle.api_worlds.specs.Refused.{IsUnitRefusal}
 use Rattle.api_worlds.specs.declared.error.PlatformError.{PlatformError}
 use Rattle.api_worlds.specs.declared.error.PlatformError.TheVariants as error
-use Rattle.go_client_units.specs.ClientUnits.{AreClientUnits, IsClientOf}
-use Rattle.go_client_units.specs.declared.units.ClientUnit.{ClientUnit}
-use Rattle.go_client_units.specs.declared.units.ClientUnits.{ClientUnits}
+use Rattle.go_client_unit_laws.specs.go_client_units.ClientUnits.{AreClientUnits, IsClientOf}
+use Rattle.go_client_unit_laws.specs.go_client_units.declared.units.ClientUnit.{ClientUnit}
+use Rattle.go_client_unit_laws.specs.go_client_units.declared.units.ClientUnits.{ClientUnits}
 use Rattle.go_clients.specs.Vetting.{IsClientPath, client_in}
 use Rattle.go_exposed.specs.OfferedWorlds.{IsWorldOf}
 use Rattle.go_model.specs.declared.files.platform.Platform.{Platform}
@@ -26,9 +26,9 @@ use Rattle.go_syntax.specs.declared.statement.LiteralBlock.{LiteralBlock}
 use Rattle.go_units.specs.declared.unit.UnitFile.{UnitFile}
 use Rattle.go_units.specs.declared.unit.«Unit».{«Unit» as PackageUnit}
 use Rattle.go_units.specs.declared.unit_error.UnitError.{UnitError}
-use Rattle.go_work.specs.Answers.{sources}
-use Rattle.go_work.specs.TypedUnits.{AreTypedUnits}
-use Rattle.go_work.specs.declared.typed.TypedUnits.{TypedUnits}
+use Rattle.api_worlds.specs.go_work.Answers.{sources}
+use Rattle.api_worlds.specs.go_work.TypedUnits.{AreTypedUnits}
+use Rattle.api_worlds.specs.go_work.declared.typed.TypedUnits.{TypedUnits}
 
 pathed : (files : List UnitFile) (blocks : List (List LiteralBlock)) (c : Option ClientUnit) → IsClientOf files blocks c → IsClientPath c
 pathed files blocks None h = tt

@@ -12,9 +12,9 @@ use Rattle.go_client_typings.specs.Clients.{Blocks, IsVetted}
 use Rattle.go_client_typings.specs.declared.vetted.Vetted.{Vetted}
 use Rattle.go_client_typings.specs.declared.vetted.Vetted.TheVariants as vetted
 use Rattle.go_client_unit_laws.specs.WrittenClients.{AreWrittenAlike}
-use Rattle.go_client_units.specs.ClientUnits.{AreClientUnits}
-use Rattle.go_client_units.specs.declared.units.ClientUnit.{ClientUnit}
-use Rattle.go_client_units.specs.declared.units.ClientUnits.{ClientUnits}
+use Rattle.go_client_unit_laws.specs.go_client_units.ClientUnits.{AreClientUnits}
+use Rattle.go_client_unit_laws.specs.go_client_units.declared.units.ClientUnit.{ClientUnit}
+use Rattle.go_client_unit_laws.specs.go_client_units.declared.units.ClientUnits.{ClientUnits}
 use Rattle.go_clients.specs.Vetting.{IsVettedAs}
 use Rattle.go_exposed.specs.OfferedWorlds.{IsFirstRefused, IsWorldOf}
 use Rattle.go_model.specs.declared.files.platform.Platform.{Platform}

@@ -2,7 +2,7 @@
 -- Own: the counter of checks.
 use Rattle.std.specs.Prelude.{◌≤◌, ◌+◌, ℕ, List, [], ◌∷◌, length}
 use Rattle.api_clients.specs.ClientAnswers.{AreUnitsOn}
-use Rattle.go_client_units.specs.declared.units.ClientUnits.{ClientUnits}
+use Rattle.go_client_unit_laws.specs.go_client_units.declared.units.ClientUnits.{ClientUnits}
 use Rattle.go_model.specs.declared.files.platform.Platform.{Platform}
 use Rattle.go_model.specs.declared.files.tree.Tree.{Tree}
 

@@ -1,7 +1,7 @@
 //! What was typed on the platform before.
 ghost use Rattle.api_clients.specs.inner.Chains.{IsChain};
 
-use go_work::typed::TypedUnits;
+use api_worlds::go_work::typed::TypedUnits;
 
 /// The packages of the last platform that was looked at as they were typed there, for the next one to take over.
 pub(crate) struct Chain {

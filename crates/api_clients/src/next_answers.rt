@@ -6,7 +6,7 @@ ghost use Rattle.api_clients.specs.inner.ClientSteps.{AnswersOfUnits, AnswersOn}
 ghost use Rattle.go_base.specs.Lists.{Has};
 ghost use Rattle.go_clients.specs.Vetting.{IsClientPath};
 ghost use Rattle.go_model.specs.files.Trees.{IsTree};
-ghost use Rattle.go_work.specs.Paths.{AreOfPackages};
+ghost use Rattle.api_worlds.specs.go_work.Paths.{AreOfPackages};
 
 use crate::chain::Chain;
 use crate::told::told;
@@ -15,17 +15,17 @@ use crate::units::units_over;
 use api_reports::clients::ClientAnswer;
 use api_texts::lines::Side;
 use api_worlds::error::PlatformError;
+use api_worlds::go_work::error::WorkError;
+use api_worlds::go_work::typed::typed;
 use api_worlds::known::known_of;
 use api_worlds::refused::{refused_package, refused_units};
 use api_worlds::trees::PlatformTrees;
 use go_base::memory::NoMemory;
 use go_base::steps::Steps;
+use go_client_unit_laws::go_client_units::units::ClientUnits;
 use go_client_unit_laws::laws::client_unit_paths;
-use go_client_units::units::ClientUnits;
 use go_model::files::platform::Platform;
 use go_outside::gate::Gate;
-use go_work::error::WorkError;
-use go_work::typed::typed;
 use std::alloc::Global;
 
 fn next_answer_of<G: Gate, L: Copy>(

@@ -10,7 +10,7 @@ use api_reports::clients::ClientAnswer;
 use go_base::memory::NoMemory;
 use go_base::text::Text;
 use go_client_typings::vetted::Vetted;
-use go_client_units::units::ClientUnit;
+use go_client_unit_laws::go_client_units::units::ClientUnit;
 use go_clients::vet::vet;
 use go_model::files::tree::TreeFile;
 use go_model::types::world::World;

@@ -1,11 +1,11 @@
 //! The packages of a module with a client on a platform.
 ghost use Rattle.go_base.specs.Lists.{Has};
-ghost use Rattle.go_client_units.specs.ClientUnits.{AreClientUnits};
+ghost use Rattle.go_client_unit_laws.specs.go_client_units.ClientUnits.{AreClientUnits};
 ghost use Rattle.go_model.specs.files.Trees.{IsTree};
 
 use crate::trees::ClientTrees;
 use go_base::memory::NoMemory;
-use go_client_units::units::{ClientUnits, client_units};
+use go_client_unit_laws::go_client_units::units::{ClientUnits, client_units};
 use go_model::files::platform::Platform;
 use go_reading::known::KnownOutlines;
 use go_units::unit_error::UnitError;

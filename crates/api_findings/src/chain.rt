@@ -1,7 +1,7 @@
 //! What was typed on the platform before.
 ghost use Rattle.api_findings.specs.inner.Chains.{IsChain};
 
-use go_work::typed::TypedUnits;
+use api_worlds::go_work::typed::TypedUnits;
 
 /// The packages of each tree of a run as they were typed on the platform before, where there is one, for the next platform to take over.
 pub(crate) struct Chain {

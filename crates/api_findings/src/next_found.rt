@@ -7,7 +7,7 @@ ghost use Rattle.api_findings.specs.inner.Chains.{IsChain};
 ghost use Rattle.api_findings.specs.inner.Found.{AnswersFound};
 ghost use Rattle.api_findings.specs.inner.Sides.{AnswersNextListed, AreTrees, IsListedOn};
 ghost use Rattle.api_worlds.specs.PlatformWorlds.{CountsAtMost as CountsAtMostOn};
-ghost use Rattle.go_work.specs.TypedUnits.{AreTypedUnits};
+ghost use Rattle.api_worlds.specs.go_work.TypedUnits.{AreTypedUnits};
 
 use crate::chain::Chain;
 use crate::found::{Found, featured, verdict_of};
@@ -17,6 +17,7 @@ use api_features::features::features;
 use api_lines::line::Line;
 use api_texts::lines::Side;
 use api_worlds::error::PlatformError;
+use api_worlds::go_work::typed::TypedUnits;
 use api_worlds::next_world::{NextWorld, next_world_on};
 use api_worlds::trees::PlatformTrees;
 use go_base::list::List;
@@ -25,7 +26,6 @@ use go_base::steps::Steps;
 use go_model::files::platform::Platform;
 use go_model::files::tree::Tree;
 use go_outside::gate::Gate;
-use go_work::typed::TypedUnits;
 use std::alloc::Global;
 
 /// The packages of one tree on a platform as they were typed, and what is listed of them.

@@ -9,8 +9,8 @@ use Rattle.api_judge.specs.declared.verdict.Verdict.{Verdict}
 use Rattle.api_lines.specs.declared.line.Line.{Line}
 use Rattle.api_preservation.specs.JudgedTrees.{AreJudged}
 use Rattle.api_words.specs.declared.request.Request.{Request}
-use Rattle.api_worlds.specs.PlatformWorlds.{IsWorldOn}
-use Rattle.go_clients.specs.ProfileClients.{IsProfileTyped}
+use Rattle.api_findings.specs.api_worlds.PlatformWorlds.{IsWorldOn}
+use Rattle.api_clients.specs.go_clients.ProfileClients.{IsProfileTyped}
 use Rattle.go_model.specs.declared.files.platform.Platform.{Platform}
 use Rattle.go_model.specs.declared.files.tree.Tree.{Tree}
 use Rattle.go_model.specs.files.Platforms.{bits_of}

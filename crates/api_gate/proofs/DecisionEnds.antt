@@ -10,8 +10,8 @@ use Rattle.api_advice.specs.declared.class.Class.{Class}
 use Rattle.api_advice.specs.declared.release.Release.{Release}
 use Rattle.api_texts.specs.FaultLines.{no_version_line, not_release_line}
 use Rattle.api_words.specs.declared.request.AskedVersion.{AskedVersion}
-use Rattle.api_worlds.specs.declared.error.PlatformError.{PlatformError}
-use Rattle.api_worlds.specs.declared.error.PlatformError.TheVariants as platform
+use Rattle.api_findings.specs.api_worlds.declared.error.PlatformError.{PlatformError}
+use Rattle.api_findings.specs.api_worlds.declared.error.PlatformError.TheVariants as platform
 use Rattle.go_model.specs.declared.files.platform.Platform.{Platform}
 use Rattle.go_model.specs.declared.files.tree.Tree.{Tree}
 use Rattle.api_generator.specs.MadeTrees.{made_contents}

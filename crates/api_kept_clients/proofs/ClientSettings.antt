@@ -19,10 +19,10 @@ use Rattle.api_correspond.specs.Publics.{IsPublic, of_std, package_at, types_of}
 use Rattle.api_correspond.specs.Rules.{Compatible}
 use Rattle.api_correspond.specs.SharedStd.{ShareStd}
 use Rattle.api_kept_clients.specs.ServedClients.{ImportsShown, ServesClients, for_client}
-use Rattle.api_kept_relations.proofs.Objects.{object_kept}
-use Rattle.api_kept_relations.proofs.Pairs.{Worlds}
-use Rattle.api_kept_relations.proofs.Preserving.{preserves}
-use Rattle.api_kept_relations.specs.StdTypes.{StdMethodsStay, StdStandsAlone, is_open_sel, shared_std}
+use Rattle.api_std_types.proofs.api_kept_relations_proofs.Objects.{object_kept}
+use Rattle.api_std_types.proofs.api_kept_relations_proofs.Pairs.{Worlds}
+use Rattle.api_std_types.proofs.api_kept_relations_proofs.Preserving.{preserves}
+use Rattle.api_std_types.specs.api_kept_relations.StdTypes.{StdMethodsStay, StdStandsAlone, is_open_sel, shared_std}
 
 pub record AreCompatible (old new before after : Packages) (pairs : List TypePair) : Type 0 where
   pub holds : HoldsOwned old new pairs

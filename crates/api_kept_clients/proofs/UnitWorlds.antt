@@ -4,11 +4,11 @@ use Rattle.go_model.specs.worlds.Worlds.{IsWorld, Packages}
 use Rattle.go_type_images.specs.declared.pair.TypePair.{TypePair}
 use Rattle.go_typings.specs.Sources.{PackageSource}
 use Rattle.go_exposed.specs.OfferedWorlds.{IsWorldOf}
-use Rattle.go_std_worlds.proofs.SameStdWorlds.{same_std, written_side}
-use Rattle.go_std_worlds.proofs.StdWorlds as standard
-use Rattle.go_std_worlds.specs.StdSources.{HavePaths, KeepStdApart}
-use Rattle.go_unit_worlds.proofs.JoinedInTurn.{no_world, none_there, world_in_turn}
-use Rattle.go_unit_worlds.proofs.SharedWorlds.{all_held}
+use Rattle.api_std_types.proofs.go_std_worlds_proofs.SameStdWorlds.{same_std, written_side}
+use Rattle.api_std_types.proofs.go_std_worlds_proofs.StdWorlds as standard
+use Rattle.api_std_types.specs.go_std_worlds.StdSources.{HavePaths, KeepStdApart}
+use Rattle.api_std_types.proofs.go_unit_worlds_proofs.JoinedInTurn.{no_world, none_there, world_in_turn}
+use Rattle.api_std_types.proofs.go_unit_worlds_proofs.SharedWorlds.{all_held}
 use Rattle.api_correspond.specs.OwnedPairs.{HoldsOwned}
 use Rattle.api_correspond.specs.Publics.{package_at}
 use Rattle.api_correspond.specs.Rules.{Compatible}

@@ -6,7 +6,7 @@ use Rattle.go_model.specs.types.Terms.{client_path}
 use Rattle.go_model.specs.worlds.Worlds.{Packages}
 use Rattle.go_typings.specs.Sources.{PackageSource}
 use Rattle.go_exposed.specs.OfferedWorlds.{IsWorldOf}
-use Rattle.go_std_worlds.specs.StdSources.{HaveSameStd, KeepStdApart}
+use Rattle.api_std_types.specs.go_std_worlds.StdSources.{HaveSameStd, KeepStdApart}
 
 -- no path is empty or a client's
 abbrev pub HaveOtherPaths : List PackageSource → Type 0

@@ -10,7 +10,7 @@ ghost use Rattle.api_correspond.specs.Rules.{Compatible};
 ghost use Rattle.api_correspond.specs.SharedStd.{ShareStd};
 ghost use Rattle.api_kept_clients.specs.ServedClients.{ImportsShown, ServesClients, for_client};
 ghost use Rattle.api_kept_clients.specs.ServedUnits.{ServesUnits, ShareStdUnits};
-ghost use Rattle.api_kept_relations.specs.StdTypes.{StdMethodsStay, StdStandsAlone};
+ghost use Rattle.api_std_types.specs.api_kept_relations.StdTypes.{StdMethodsStay, StdStandsAlone};
 
 /// Where a new world is compatible with an old one, a client of the profile that is typed with its bodies over the old one is so over the
 /// new one: both with the packages of the standard library that it brings, and it imports public packages of the module and packages of the

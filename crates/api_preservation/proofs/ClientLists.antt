@@ -2,12 +2,12 @@
 use Rattle.std.proofs.Common.{◌≡◌, ℕ, suc, Bool, true, false, Option, Some, None, List, [], ◌∷◌, map, refl, sym, ap, ◌∙◌, subst, inl, inr, arith}
 use Rattle.std.specs.Prelude.{slice_get}
 use Rattle.go_base.specs.Lists.{Has}
-use Rattle.go_client_files.specs.ClientFiles.{AreClientFiles, GivesClientFile, GivesNamed, UsesAllIn}
-use Rattle.go_client_files.specs.declared.parsed.ParsedFile.{ParsedFile}
-use Rattle.go_client_files.specs.declared.uses.ClientFile.{ClientFile}
-use Rattle.go_client_files.specs.declared.uses.ClientFiles.{ClientFiles}
-use Rattle.go_client_units.specs.ClientUnits.{IsClientOf}
-use Rattle.go_client_units.specs.declared.units.ClientUnit.{ClientUnit}
+use Rattle.go_client_unit_laws.specs.go_client_files.ClientFiles.{AreClientFiles, GivesClientFile, GivesNamed, UsesAllIn}
+use Rattle.go_client_unit_laws.specs.go_client_files.declared.parsed.ParsedFile.{ParsedFile}
+use Rattle.go_client_unit_laws.specs.go_client_files.declared.uses.ClientFile.{ClientFile}
+use Rattle.go_client_unit_laws.specs.go_client_files.declared.uses.ClientFiles.{ClientFiles}
+use Rattle.go_client_unit_laws.specs.go_client_units.ClientUnits.{IsClientOf}
+use Rattle.go_client_unit_laws.specs.go_client_units.declared.units.ClientUnit.{ClientUnit}
 use Rattle.go_clients.specs.ProfileClients.{IsInProfile}
 use Rattle.go_existence.proofs.FiniteSets.{has_right}
 use Rattle.go_imports.proofs.Members.{has_left}

@@ -16,7 +16,7 @@ use Rattle.go_std_worlds.specs.StdSources.{HaveOwnPaths, HavePaths, HaveSameStd,
 use Rattle.go_std_worlds.specs.TwoModules.{sources_of}
 use Rattle.go_typings.specs.PackageWorlds.{AreTyped, is_public, no_packages, over}
 use Rattle.go_typings.specs.Sources.{PackageSource}
-use Rattle.go_unit_worlds.specs.SharedSources.{HaveSame}
+use Rattle.api_kept_clients.specs.go_unit_worlds.SharedSources.{HaveSame}
 use Rattle.go_units.proofs.Giving.{gives_as_many}
 use Rattle.go_units.proofs.WalkedFiles.{holds_some}
 use Rattle.go_units.specs.Folders.{folder_of}
@@ -26,8 +26,8 @@ use Rattle.go_units.specs.declared.folder.Folder.{Folder}
 use Rattle.go_units.specs.declared.package_uses.PackageFile.{PackageFile}
 use Rattle.go_units.specs.declared.reader.Reading.{Reading}
 use Rattle.go_units.specs.declared.unit.«Unit».{«Unit» as PackageUnit}
-use Rattle.go_work.proofs.TypedUnits.{typed_more}
-use Rattle.go_work.proofs.UnitPrefixes.{imports_typed}
+use Rattle.api_worlds.proofs.go_work_proofs.TypedUnits.{typed_more}
+use Rattle.api_worlds.proofs.go_work_proofs.UnitPrefixes.{imports_typed}
 use Rattle.api_preservation.proofs.OfferedAgain.{offered_again, std_again}
 use Rattle.api_preservation.proofs.ReachedFolders.{Known, client_files, std_old}
 use Rattle.api_preservation.proofs.SameStd.{path_same, share_units, source_same}

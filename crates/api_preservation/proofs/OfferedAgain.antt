@@ -19,9 +19,9 @@ use Rattle.go_typings.specs.PackageEnvironments.{had_path}
 use Rattle.go_typings.specs.PackageWorlds.{AreTyped, over}
 use Rattle.go_typings.specs.ReachedPackages.{HoldImports, ReachesSame, is_reached}
 use Rattle.go_typings.specs.Sources.{PackageSource}
-use Rattle.go_unit_worlds.proofs.SharedWorlds.{all_same}
-use Rattle.go_unit_worlds.proofs.WorldsInTurn as whole
-use Rattle.go_unit_worlds.specs.SharedSources.{HaveSame}
+use Rattle.api_kept_clients.proofs.go_unit_worlds_proofs.SharedWorlds.{all_same}
+use Rattle.api_kept_clients.proofs.go_unit_worlds_proofs.WorldsInTurn as whole
+use Rattle.api_kept_clients.specs.go_unit_worlds.SharedSources.{HaveSame}
 use Rattle.api_preservation.proofs.PublicPackages.{package_there, source_at}
 
 both : (a b : Bool) → a ≡ true → b ≡ true → (a && b) ≡ true

@@ -1,12 +1,12 @@
 -- Where the new module is compatible with the old one, a client of the profile that is typed against the old tree is typed against the new one.
 use Rattle.std.proofs.Common.{◌≡◌, ◌⊎◌, ◌<◌, ℕ, Bool, true, false, Option, Some, None, List, length, Ok, sym, ap, ◌∙◌, subst, inl, inr}
 use Rattle.go_base.specs.Lists.{Has}
-use Rattle.go_client_files.specs.ClientFiles.{ReadsClient}
-use Rattle.go_client_files.specs.declared.uses.ClientFiles.{ClientFiles}
+use Rattle.go_client_unit_laws.specs.go_client_files.ClientFiles.{ReadsClient}
+use Rattle.go_client_unit_laws.specs.go_client_files.declared.uses.ClientFiles.{ClientFiles}
 use Rattle.go_client_typings.specs.Clients.{Blocks, IsTypedClient}
-use Rattle.go_client_units.specs.ClientUnits.{AreClientUnits, AreUnitsWith, IsClientOf}
-use Rattle.go_client_units.specs.declared.units.ClientUnit.{ClientUnit}
-use Rattle.go_client_units.specs.declared.units.ClientUnits.{ClientUnits}
+use Rattle.go_client_unit_laws.specs.go_client_units.ClientUnits.{AreClientUnits, AreUnitsWith, IsClientOf}
+use Rattle.go_client_unit_laws.specs.go_client_units.declared.units.ClientUnit.{ClientUnit}
+use Rattle.go_client_unit_laws.specs.go_client_units.declared.units.ClientUnits.{ClientUnits}
 use Rattle.go_client_walks.specs.ClientWalks as client_walks
 use Rattle.go_clients.specs.ProfileClients.{IsInProfile, IsProfileTyped}
 use Rattle.go_exposed.specs.OfferedWorlds.{IsWorldOf}

@@ -14,7 +14,7 @@ use Rattle.go_std_worlds.proofs.MoreLists.{key_finds, mapped}
 use Rattle.go_std_worlds.specs.StdSources.{HaveOwnPaths, HavePaths, source_path}
 use Rattle.go_typings.specs.PackageWorlds.{Outcome, blocked, is_public, is_typed, refused, typed}
 use Rattle.go_typings.specs.Sources.{PackageSource}
-use Rattle.go_unit_worlds.proofs.WorldsInTurn.{all_new, each_there, keeps_all, keeps_none}
+use Rattle.api_kept_clients.proofs.go_unit_worlds_proofs.WorldsInTurn.{all_new, each_there, keeps_all, keeps_none}
 
 -- ---- texts in their places
 

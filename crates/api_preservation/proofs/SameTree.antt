@@ -14,7 +14,7 @@ use Rattle.go_sources.specs.UnitSources.{file_of, source_of}
 use Rattle.go_std_worlds.specs.TwoModules.{sources_of}
 use Rattle.go_typings.proofs.Cells.{either, none_some}
 use Rattle.go_typings.specs.Sources.{PackageSource}
-use Rattle.go_unit_worlds.specs.SharedSources.{HaveSame}
+use Rattle.api_kept_clients.specs.go_unit_worlds.SharedSources.{HaveSame}
 use Rattle.go_units.proofs.FolderLookups.{at_once}
 use Rattle.go_units.proofs.Giving.{gives_as_many}
 use Rattle.go_units.proofs.ReachedFolders.{filled_here, filled_other}

@@ -41,8 +41,8 @@ use Rattle.go_typings.specs.Receivers.{selector}
 use Rattle.go_typings.specs.Sources.{Import, PackageSource, imports_of}
 use Rattle.go_exposed.specs.OfferedPackages.{IsOfferedAs}
 use Rattle.go_exposed.specs.OfferedWorlds.{Become, IsWorldOf, become_more, become_none}
-use Rattle.go_std_worlds.proofs.MoreLists.{found_after, found_still, key_finds}
-use Rattle.go_std_worlds.specs.StdSources.{HavePaths, KeepStdApart}
+use Rattle.go_unit_worlds.proofs.go_std_worlds_proofs.MoreLists.{found_after, found_still, key_finds}
+use Rattle.go_unit_worlds.specs.go_std_worlds.StdSources.{HavePaths, KeepStdApart}
 use Rattle.go_unit_worlds.proofs.WorldsInTurn.{AreNew, Keeps, all_new, keeps_next, keeps_none, new_rest, or_left, or_right}
 use Rattle.api_correspond.specs.Publics.{of_std, package_at, types_of}
 use Rattle.api_correspond.specs.Rules.{is_std_sel}

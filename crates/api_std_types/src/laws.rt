@@ -2,7 +2,7 @@
 ghost use Rattle.std.specs.Prelude.{ℕ, List};
 ghost use Rattle.go_exposed.specs.OfferedWorlds.{IsWorldOf};
 ghost use Rattle.go_model.specs.worlds.Worlds.{Packages};
-ghost use Rattle.go_std_worlds.specs.StdSources.{HavePaths, KeepStdApart};
+ghost use Rattle.go_unit_worlds.specs.go_std_worlds.StdSources.{HavePaths, KeepStdApart};
 ghost use Rattle.go_typings.specs.Sources.{PackageSource};
 ghost use Rattle.api_kept_relations.specs.StdTypes.{StdMethodsStay, StdStandsAlone};
 

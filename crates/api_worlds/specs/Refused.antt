@@ -7,8 +7,8 @@ use Rattle.api_refusals.specs.declared.refusals.PackageFault.{PackageFault}
 use Rattle.api_texts.specs.declared.lines.Side.{Side}
 use Rattle.api_worlds.specs.declared.error.PlatformError.{PlatformError}
 use Rattle.api_worlds.specs.declared.error.PlatformError.TheVariants as error
-use Rattle.go_check.specs.Answers.{refusal_of as told_by}
-use Rattle.go_check.specs.declared.error.CheckError.{CheckError}
+use Rattle.go_work.specs.go_check.Answers.{refusal_of as told_by}
+use Rattle.go_work.specs.go_check.declared.error.CheckError.{CheckError}
 use Rattle.go_model.specs.declared.files.platform.Platform.{Platform}
 use Rattle.go_model.specs.declared.files.tree.Tree.{Tree}
 use Rattle.go_model.specs.declared.files.tree.TreeFile.{TreeFile}

@@ -1,6 +1,8 @@
 //! The worlds of trees on platforms.
 #![tactic(auto)]
 
+pub use go_work;
+
 pub mod error;
 pub mod known;
 pub mod laws;

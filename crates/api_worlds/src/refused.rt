@@ -7,10 +7,10 @@ use crate::trees::PlatformTrees;
 use api_refusals::refusals::{PackageFault, package_line, unit_line};
 use api_texts::lines::Side;
 use go_base::memory::NoMemory;
-use go_check::error::CheckError;
 use go_model::files::tree::TreeFile;
 use go_units::unit::Unit;
 use go_units::unit_error::UnitError;
+use go_work::go_check::error::CheckError;
 use std::alloc::Global;
 
 /// That the packages of trees, or the files of a client over them, aren't taken. Where there is no client it has no files.

@@ -2,7 +2,7 @@
 use Rattle.std.proofs.Common.{◌≡◌, Bool, true, false, Option, Some, None, Err, sym, ◌∙◌, subst}
 use Rattle.go_model.specs.declared.types.term.Term.{Term, out-Term}
 use Rattle.go_model.specs.types.Underlying.{under}
-use Rattle.go_operations.proofs.Typed.{true_false}
+use Rattle.go_expr.proofs.go_operations_proofs.Typed.{true_false}
 use Rattle.go_rules.specs.Asks.{EmbedsField, EmbedsInterface, IsOwnLayer, MayEmbed, MayStandUnder}
 use Rattle.go_rules.specs.Environments.{Env, Entered}
 use Rattle.go_rules.specs.Expressions.{IsTypeName, NamesType}

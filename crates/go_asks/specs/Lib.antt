@@ -1,2 +1,3 @@
+pub use Rattle.go_expr.specs as go_expr
 pub mod Signatures
 pub mod inner

@@ -7,14 +7,14 @@ ghost use Rattle.go_selectors.specs.Answers.{Decides};
 ghost use Rattle.go_type_terms.specs.Answers.{Tells, env_in};
 
 use go_base::memory::NoMemory;
+use go_expr::go_operations::names::{imported, named};
+use go_expr::go_operators::values::type_in;
+use go_expr::go_usability::context::Context;
 use go_model::types::names::is_imported;
 use go_model::types::term::Term;
-use go_operations::names::{imported, named};
-use go_operators::values::type_in;
 use go_rules::operand::Operand;
 use go_syntax::name::QualifiedName;
 use go_type_terms::error::ExprError;
-use go_usability::context::Context;
 use std::alloc::Global;
 
 // What a name denotes, with its qualifier where there is one.

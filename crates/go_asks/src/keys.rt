@@ -7,12 +7,12 @@ ghost use Rattle.go_selectors.specs.Answers.{Decides};
 ghost use Rattle.go_type_terms.specs.Answers.{env_in};
 
 use go_base::memory::NoMemory;
+use go_expr::go_usability::comparison::compares;
+use go_expr::go_usability::context::Context;
 use go_expr::typing::type_of;
 use go_model::types::term::Term;
 use go_syntax::types::Type;
 use go_type_terms::error::ExprError;
-use go_usability::comparison::compares;
-use go_usability::context::Context;
 use std::alloc::Global;
 
 // Whether values of a type can be compared.

@@ -11,12 +11,12 @@ ghost use Rattle.go_type_terms.specs.Answers.{env_in};
 use crate::keys::key_compares;
 use crate::members::{interface_meets, structure_meets};
 use go_base::memory::NoMemory;
+use go_expr::go_usability::context::Context;
 use go_nodes::distinct::are_distinct;
 use go_nodes::names::signature_names;
 use go_nodes::tree::Tree;
 use go_nodes::trees::Trees;
 use go_syntax::types::{Signature, Type};
-use go_usability::context::Context;
 use std::alloc::Global;
 
 // Whether a type form by itself meets what it is asked.

@@ -9,11 +9,11 @@ ghost use Rattle.go_type_terms.specs.Answers.{env_in};
 
 use crate::embedding::{embeds_field, embeds_interface};
 use go_base::memory::NoMemory;
+use go_expr::go_usability::context::Context;
 use go_nodes::distinct::{are_distinct, are_once};
 use go_nodes::names::{fields_names, methods_names};
 use go_rules::blank::is_blank;
 use go_syntax::types::{FieldDecl, InterfaceElem};
-use go_usability::context::Context;
 use std::alloc::Global;
 
 fn field_meets(context: &Context<'_>, alloc: Global, decl: &FieldDecl) -> Result<bool, NoMemory>

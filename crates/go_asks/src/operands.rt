@@ -4,6 +4,7 @@ ghost use Rattle.go_rules.specs.Asks.{HasOperand, IsType};
 ghost use Rattle.go_type_terms.specs.Answers.{Tells, env_in};
 
 use crate::meets::meets;
+use go_expr::go_usability::context::Context;
 use go_expr::typing::{signature_of, type_expr, type_of};
 use go_model::types::term::{Signature as Signed, Term};
 use go_nodes::tree::Tree;
@@ -11,7 +12,6 @@ use go_rules::operand::Operand;
 use go_syntax::expression::Expr;
 use go_syntax::types::{Signature, Type};
 use go_type_terms::error::ExprError;
-use go_usability::context::Context;
 use std::alloc::Global;
 
 /// The operand of an expression in which all that is asked is met. `Untyped` exactly where there is none.

@@ -1,13 +1,13 @@
 -- What follows an expression, post by post.
 use Rattle.std.proofs.Common.{◌≡◌, ◌∙◌, ◌<◌, ◌≤◌, ◌+◌, ◌-◌, ℕ, suc, List, [], ◌∷◌, ◌++◌, None, Some, length, get_or, take, drop, arith, refl, sym, ap, subst, inl, inr}
 use Rattle.std.specs.List.{slice_get}
-use Rattle.go_expr.specs.Chains.{Makes, NamesImported}
-use Rattle.go_expr.proofs.ImportedNames.{one_name, one_selector}
+use Rattle.go_asks.specs.go_expr.Chains.{Makes, NamesImported}
+use Rattle.go_asks.proofs.go_expr_proofs.ImportedNames.{one_name, one_selector}
 use Rattle.go_rules.specs.Environments.{Env}
 use Rattle.go_rules.specs.Expressions.{chain, Denotes, DenotesImported, Has, has_imported, has_operand, has_primary, HasForm, has_name, HasPosts, posts_more, posts_none}
 use Rattle.go_rules.specs.Nodes.{ExprLayer}
 use Rattle.go_rules.specs.declared.operand.Operand.{Operand}
-use Rattle.go_expr.proofs.PrimaryExprs.{behind_first}
+use Rattle.go_asks.proofs.go_expr_proofs.PrimaryExprs.{behind_first}
 use Rattle.go_rules.proofs.OneName.{no_import, none_some, one_imported, one_some}
 use Rattle.go_rules.proofs.OneOperand.{form_once, has_once, post_once}
 use Rattle.go_selectors.proofs.Lists.{drop_all, drop_next}

@@ -1,3 +1,5 @@
+pub use Rattle.go_asks.proofs as go_asks_proofs
+pub use Rattle.go_entries.proofs as go_entries_proofs
 pub mod Pairs
 pub mod Decided
 pub mod SideForms

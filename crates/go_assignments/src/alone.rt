@@ -8,10 +8,10 @@ ghost use Rattle.go_statement_rules.specs.Assignments.{IsReceiveAlone, may_be_ca
 ghost use Rattle.go_syntax.specs.declared.expression.Post.{out-Post};
 ghost use Rattle.go_type_terms.specs.Answers.{Tells, env_in};
 
+use go_asks::go_expr::typing::{type_expr, type_imported, type_post};
 use go_asks::operands::operand;
 use go_base::memory::NoMemory;
 use go_base::operator::PrefixOperator;
-use go_expr::typing::{type_expr, type_imported, type_post};
 use go_rules::operand::{Mode, Operand, Shape};
 use go_rules::predeclared::Predeclared;
 use go_syntax::expression::{Expr, Post};

@@ -2,6 +2,10 @@
 //! declarations, and the values of `return`.
 #![tactic(auto)]
 
+pub use go_asks;
+pub use go_asks::go_expr;
+pub use go_entries;
+
 pub mod added;
 pub mod alone;
 pub mod assigned;

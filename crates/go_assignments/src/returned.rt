@@ -10,10 +10,10 @@ ghost use Rattle.go_type_terms.specs.Answers.{Tells, env_in};
 ghost use Rattle.go_usability.specs.Answers.{Gives};
 
 use crate::sides::are_met;
+use go_asks::go_expr::typing::type_expr;
 use go_base::list::List;
 use go_base::memory::NoMemory;
 use go_entries::initializers::initialize;
-use go_expr::typing::type_expr;
 use go_model::types::term::Term;
 use go_operators::operands::plain_like;
 use go_operators::values::is_usable;

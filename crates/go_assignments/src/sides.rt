@@ -9,9 +9,9 @@ ghost use Rattle.go_type_terms.specs.Answers.{env_in};
 ghost use Rattle.go_usability.specs.Answers.{Gives};
 
 use crate::values::has_type;
+use go_asks::go_expr::typing::type_expr;
 use go_asks::meets::meets;
 use go_base::memory::NoMemory;
-use go_expr::typing::type_expr;
 use go_model::types::term::Term;
 use go_nodes::tree::Tree;
 use go_operators::values::is_usable;

@@ -16,8 +16,8 @@ use Rattle.go_statement_rules.specs.Scopes.{Scopes, opened}
 use Rattle.go_statement_rules.specs.Statements.{typed_block}
 use Rattle.go_syntax.specs.declared.statement.LiteralBlock.{LiteralBlock}
 use Rattle.go_syntax.specs.declared.statement.Stmt.{Stmt}
-use Rattle.go_walks.specs.Below.{blocks_of, enclosing_of}
-use Rattle.go_walks.specs.declared.frame.Frame.{Frame}
+use Rattle.go_switch_statements.specs.go_walks.Below.{blocks_of, enclosing_of}
+use Rattle.go_switch_statements.specs.go_walks.declared.frame.Frame.{Frame}
 
 -- ---- iota
 

@@ -1,6 +1,6 @@
 -- What is found in statements one after another.
 use Rattle.std.proofs.Common.{◌≡◌, ◌≤◌, ◌<◌, ◌+◌, ℕ, true, false, List, ◌∷◌, length, drop, get_or, sym, subst}
-use Rattle.go_flat_statements.specs.Judging.{JudgesKind}
+use Rattle.go_switch_statements.specs.go_flat_statements.Judging.{JudgesKind}
 use Rattle.go_judged.specs.declared.judged.Judged.{Judged}
 use Rattle.go_local_scopes.proofs.Standing.{reached, unreached}
 use Rattle.go_rules.specs.Environments.{Env}

@@ -3,7 +3,7 @@ use Rattle.std.proofs.Common.{◌≡◌, List, [], ◌∷◌, Result, sym, ap, �
 use Rattle.std.proofs.lemmas.Result.{IfOk-weaker}
 use Rattle.std.specs.Prelude.{IfOk}
 use Rattle.go_base.specs.declared.memory.NoMemory.{NoMemory}
-use Rattle.go_flat_statements.specs.Judging.{JudgesHere, JudgesKind, JudgesStatement}
+use Rattle.go_switch_statements.specs.go_flat_statements.Judging.{JudgesHere, JudgesKind, JudgesStatement}
 use Rattle.go_judged.specs.Judging.{Judges, JudgesTo}
 use Rattle.go_judged.specs.declared.judged.Judged.{Judged}
 use Rattle.go_judged.proofs.Joining.{reaches_by, so_reached}
@@ -17,8 +17,8 @@ use Rattle.go_syntax.specs.declared.name.Name.{Name}
 use Rattle.go_syntax.specs.declared.statement.LiteralBlock.{LiteralBlock}
 use Rattle.go_syntax.specs.declared.statement.Stmt.{Stmt}
 use Rattle.go_syntax.specs.declared.statement.StmtKind.{StmtKind-F}
-use Rattle.go_walks.specs.Below.{blocks_of, enclosing_of}
-use Rattle.go_walks.specs.declared.frame.Frame.{Frame}
+use Rattle.go_switch_statements.specs.go_walks.Below.{blocks_of, enclosing_of}
+use Rattle.go_switch_statements.specs.go_walks.declared.frame.Frame.{Frame}
 
 module _ (E : Env) (blocks : List LiteralBlock) (r : Enclosing) where
   of_block : {s u : Scopes} (ss : List Stmt) → Leaves E blocks r s (StmtKind-F.Block ss) u → IsTypedBlock E blocks r s ss

@@ -4,7 +4,7 @@ ghost use Rattle.go_blocks.specs.Answers.{FindsBlock, TellsBlock, answer_by};
 ghost use Rattle.go_local_scopes.specs.States.{IsAt, around};
 ghost use Rattle.go_rules.specs.Environments.{Env as Around};
 ghost use Rattle.go_statement_rules.specs.Scopes.{Scopes};
-ghost use Rattle.go_walks.specs.Below.{blocks_of, enclosing_of};
+ghost use Rattle.go_switch_statements.specs.go_walks.Below.{blocks_of, enclosing_of};
 
 use crate::error::BlockError;
 use crate::levels::place_in;
@@ -13,8 +13,8 @@ use go_literal_blocks::blocks::Blocks;
 use go_model::types::term::Term;
 use go_rules::env::Env;
 use go_selectors::lookup::error_type;
+use go_switch_statements::go_walks::frame::Frame;
 use go_syntax::statement::Stmt;
-use go_walks::frame::Frame;
 use std::alloc::Global;
 
 // What is told of a block by what is found in it.

@@ -11,13 +11,12 @@ ghost use Rattle.go_statement_rules.specs.Functions.{EntersBody, OfReceiver};
 ghost use Rattle.go_statement_rules.specs.Scopes.{Declares, Scopes, opened};
 ghost use Rattle.go_syntax.specs.declared.types.Signature.{out-Signature};
 ghost use Rattle.go_usability.specs.Answers.{Gives};
-ghost use Rattle.go_walks.specs.Below.{blocks_of};
+ghost use Rattle.go_switch_statements.specs.go_walks.Below.{blocks_of};
 
 use crate::levels::place_in;
 use crate::receivers::receiver_terms;
 use go_base::list::List;
 use go_base::memory::NoMemory;
-use go_expr::typing::signature_of;
 use go_judged::judged::Judged;
 use go_literal_blocks::blocks::Blocks;
 use go_local_scopes::declaring::declare_all;
@@ -25,13 +24,14 @@ use go_local_scopes::slots::{push_locals, push_receiver, push_signature};
 use go_model::types::term::{Signature as Signed, Term};
 use go_rules::env::Env;
 use go_selectors::lookup::error_type;
+use go_switch_statements::go_expr::typing::signature_of;
+use go_switch_statements::go_walks::answers::found;
+use go_switch_statements::go_walks::frame::Frame;
 use go_syntax::body::BodyRange;
 use go_syntax::declaration::Func;
 use go_syntax::statement::Stmt;
 use go_syntax::types::Signature;
 use go_usability::context::Context;
-use go_walks::answers::found;
-use go_walks::frame::Frame;
 use std::alloc::Global;
 
 // The signature of a function, where it has one.

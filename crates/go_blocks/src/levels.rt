@@ -1,16 +1,16 @@
 //! Statements to a depth.
 ghost use Rattle.std.specs.Prelude.{◌≢◌, []};
 ghost use Rattle.go_local_scopes.specs.States.{Kept};
-ghost use Rattle.go_walks.specs.Below.{Runs};
-ghost use Rattle.go_walks.specs.Inners.{statements_in};
+ghost use Rattle.go_switch_statements.specs.go_walks.Below.{Runs};
+ghost use Rattle.go_switch_statements.specs.go_walks.Inners.{statements_in};
 
 use crate::statements::statements;
 use go_base::memory::NoMemory;
 use go_rules::env::Env;
+use go_switch_statements::go_walks::frame::Frame;
+use go_switch_statements::go_walks::inner::Inner;
+use go_switch_statements::go_walks::walk::Walk;
 use go_syntax::statement::Stmt;
-use go_walks::frame::Frame;
-use go_walks::inner::Inner;
-use go_walks::walk::Walk;
 
 /// More than how deep statements and function literals stand in one another: as many as a `usize` counts, so that no tree is
 /// refused for its depth.

@@ -7,8 +7,8 @@ ghost use Rattle.go_rules.specs.Environments.{Env as Around};
 ghost use Rattle.go_statement_rules.specs.Functions.{outside};
 ghost use Rattle.go_statement_rules.specs.Scopes.{Scopes};
 ghost use Rattle.go_untyped_places.specs.LiteralRuns.{IsLiteralRun};
-ghost use Rattle.go_walks.specs.Below.{blocks_of, enclosing_of};
-ghost use Rattle.go_walks.specs.Literals.{LiteralsTyped};
+ghost use Rattle.go_switch_statements.specs.go_walks.Below.{blocks_of, enclosing_of};
+ghost use Rattle.go_switch_statements.specs.go_walks.Literals.{LiteralsTyped};
 
 use crate::levels::{DEPTH, below};
 use go_base::memory::NoMemory;
@@ -17,8 +17,8 @@ use go_literal_blocks::blocks::Blocks;
 use go_nodes::trees::Trees;
 use go_rules::env::Env;
 use go_selectors::lookup::error_type;
-use go_walks::frame::Frame;
-use go_walks::walk::Walk;
+use go_switch_statements::go_walks::frame::Frame;
+use go_switch_statements::go_walks::walk::Walk;
 use std::alloc::Global;
 
 // The function literals in trees, of a function or outside of functions.

@@ -8,14 +8,14 @@ ghost use Rattle.go_usability.specs.Answers.{Gives};
 
 use go_base::list::List;
 use go_base::memory::NoMemory;
-use go_expr::typing::type_of;
 use go_model::types::term::Term;
 use go_rules::env::Env;
+use go_switch_statements::go_expr::typing::type_of;
+use go_switch_statements::go_walks::answers::found;
+use go_switch_statements::go_walks::frame::Frame;
 use go_syntax::name::Name;
 use go_syntax::types::ParameterDecl;
 use go_usability::context::Context;
-use go_walks::answers::found;
-use go_walks::frame::Frame;
 use std::alloc::Global;
 
 // So many copies of a type.

@@ -1,30 +1,30 @@
 //! Statements by their kind, and statements one after another.
 ghost use Rattle.std.specs.Prelude.{◌≡◌, ◌≢◌, []};
 ghost use Rattle.go_blocks.specs.Kinds.{is_declaring};
-ghost use Rattle.go_flat_statements.specs.Judging.{JudgesHere, JudgesStatement};
+ghost use Rattle.go_switch_statements.specs.go_flat_statements.Judging.{JudgesHere, JudgesStatement};
 ghost use Rattle.go_local_scopes.specs.States.{Kept};
 ghost use Rattle.go_syntax.specs.declared.statement.StmtKind.{StmtKind-F, out-StmtKind};
 ghost use Rattle.go_untyped_places.specs.Surveys.{place_or};
-ghost use Rattle.go_walks.specs.Below.{Runs, RunsBelow};
+ghost use Rattle.go_switch_statements.specs.go_walks.Below.{Runs, RunsBelow};
 
 use go_base::list::List;
 use go_base::memory::NoMemory;
-use go_flat_statements::declared::{constants, variables};
-use go_flat_statements::defined::definition;
-use go_flat_statements::flat::flat;
-use go_flat_statements::kinds::is_flat;
 use go_judged::judged::Judged;
-use go_nested_statements::branches::branches;
-use go_nested_statements::loops::{counted, repeated};
-use go_nested_statements::ranges::{assigned, bare, defined};
 use go_rules::env::Env;
+use go_switch_statements::go_flat_statements::declared::{constants, variables};
+use go_switch_statements::go_flat_statements::defined::definition;
+use go_switch_statements::go_flat_statements::flat::flat;
+use go_switch_statements::go_flat_statements::kinds::is_flat;
+use go_switch_statements::go_nested_statements::branches::branches;
+use go_switch_statements::go_nested_statements::loops::{counted, repeated};
+use go_switch_statements::go_nested_statements::ranges::{assigned, bare, defined};
+use go_switch_statements::go_walks::frame::Frame;
+use go_switch_statements::go_walks::inner::Inner;
+use go_switch_statements::go_walks::walk::Walk;
 use go_switch_statements::selects::select;
 use go_switch_statements::switches::switch;
 use go_switch_statements::type_switches::type_switch;
 use go_syntax::statement::{Stmt, StmtKind};
-use go_walks::frame::Frame;
-use go_walks::inner::Inner;
-use go_walks::walk::Walk;
 
 fn is_declaring(kind: &StmtKind) -> bool
     ensures { result ≡ is_declaring (out-StmtKind kind.now) }

@@ -16,9 +16,9 @@ use Rattle.go_function_literals.specs.StatementPlaces.{stmts_places}
 use Rattle.go_function_literals.proofs.BodyEnds.{parsed_end}
 use Rattle.go_function_literals.proofs.Sites.{end_and, end_none, end_one, map_both, stand_within}
 use Rattle.go_function_literals.proofs.StatementSites.{stmts_sites}
-use Rattle.go_stmt_descent.specs.Statements.{statements}
-use Rattle.go_stmt_descent.proofs.CompleteKinds.{statements_read}
-use Rattle.go_stmt_descent.proofs.OtherBodies as others
+use Rattle.go_stmts.specs.go_stmt_descent.Statements.{statements}
+use Rattle.go_stmts.proofs.go_stmt_descent_proofs.CompleteKinds.{statements_read}
+use Rattle.go_stmts.proofs.go_stmt_descent_proofs.OtherBodies as others
 use Rattle.go_syntax.specs.declared.statement.LiteralBlock.{LiteralBlock}
 use Rattle.go_syntax.specs.declared.statement.ParsedBody.{ParsedBody}
 use Rattle.go_syntax.specs.declared.statement.Stmt.{Stmt}

@@ -14,7 +14,7 @@ use Rattle.go_cursor.specs.declared.error.ParseError.TheVariants.{NoMemory, Synt
 use Rattle.go_function_literals.specs.declared.place.LiteralPlace.{LiteralPlace}
 use Rattle.go_function_literals.specs.Places.{below}
 use Rattle.go_function_literals.specs.StatementPlaces.{stmts_places}
-use Rattle.go_stmt_descent.specs.Statements.{statements}
+use Rattle.go_stmts.specs.go_stmt_descent.Statements.{statements}
 use Rattle.go_syntax.specs.declared.statement.LiteralBlock.{LiteralBlock}
 use Rattle.go_syntax.specs.declared.statement.ParsedBody.{ParsedBody}
 use Rattle.go_syntax.specs.declared.statement.Stmt.{Stmt}

@@ -12,10 +12,10 @@ use Rattle.go_rules.specs.Usability.{UsableAs}
 use Rattle.go_rules.specs.declared.operand.Operand.{Operand}
 use Rattle.go_rules.proofs.OneKind.{one_type}
 use Rattle.go_selectors.specs.Answers.{Decides}
-use Rattle.go_usability.specs.Answers.{Gives}
+use Rattle.go_elements.specs.go_usability.Answers.{Gives}
 use Rattle.go_calls.specs.Builtins.{Appends, appends_elements, appends_slice, appends_string, Copies, copies_slice, copies_string, int_value}
 use Rattle.go_calls.specs.inner.Appended.{IsBytesFrom, MayAppend, append_bytes, append_same, MayAppendAll, append_each, append_last, MayCopy, copy_bytes, copy_same}
-use Rattle.go_operators.proofs.Answers.{given, false_true}
+use Rattle.go_elements.proofs.go_operators_proofs.Answers.{given, false_true}
 use Rattle.go_calls.proofs.LevelParts.{same_element}
 
 pub decide : (P : Type 0) (b : Bool) → (IsTrue b ↔ P) → Decides b P

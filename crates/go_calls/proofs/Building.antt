@@ -15,11 +15,11 @@ use Rattle.go_rules.specs.Usability.{DefaultHolds, UsableAs}
 use Rattle.go_rules.specs.declared.operand.Operand.{Operand}
 use Rattle.go_rules.proofs.OneKind.{one_type}
 use Rattle.go_selectors.specs.Answers.{Decides}
-use Rattle.go_usability.specs.Answers.{Gives}
+use Rattle.go_elements.specs.go_usability.Answers.{Gives}
 use Rattle.go_calls.specs.Builtins.{Closes, closes, Deletes, deletes, Panics, panics, Prints, prints_each, OfOne, OfTwo, OfMore, OfAny, OfNone}
-use Rattle.go_operators.proofs.Answers.{given, given_test}
-use Rattle.go_operators.proofs.TypedOperands.{typed_by_constant}
-use Rattle.go_operators.proofs.LevelForms.{same_direction}
+use Rattle.go_elements.proofs.go_operators_proofs.Answers.{given, given_test}
+use Rattle.go_elements.proofs.go_operators_proofs.TypedOperands.{typed_by_constant}
+use Rattle.go_elements.proofs.go_operators_proofs.LevelForms.{same_direction}
 use Rattle.go_calls.proofs.LevelParts.{same_key}
 
 module _ (E : Env) where

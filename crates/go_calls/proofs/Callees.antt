@@ -11,12 +11,12 @@ use Rattle.go_rules.specs.declared.operand.Shape.{Shape}
 use Rattle.go_rules.specs.declared.operand.Shape.TheVariants as shape
 use Rattle.go_rules.specs.declared.predeclared.Predeclared.{Predeclared}
 use Rattle.go_rules.proofs.OneKind.{no_truth}
-use Rattle.go_usability.specs.Answers.{Gives}
+use Rattle.go_elements.specs.go_usability.Answers.{Gives}
 use Rattle.go_calls.specs.Builtins.{CallsBuiltin}
 use Rattle.go_calls.specs.Calls.{Calls, calls_type, calls_builtin, calls_value}
 use Rattle.go_calls.specs.Functions.{CallsFunction, calls_function}
 use Rattle.go_calls.specs.inner.Conversions.{ConvertsOne, converts_one}
-use Rattle.go_operators.proofs.Answers.{false_true}
+use Rattle.go_elements.proofs.go_operators_proofs.Answers.{false_true}
 
 -- a value is of a mode of values, or constant
 pub typed_mode : {o : Operand} {t : Term} {m : Mode} → IsTyped o t → o.mode ≡ m → is_value_mode m ≡ false → is_constant m ≡ false → ⊥

@@ -14,10 +14,10 @@ use Rattle.go_rules.specs.declared.operand.Shape.{Shape}
 use Rattle.go_rules.specs.declared.operand.Shape.TheVariants as shape
 use Rattle.go_rules.proofs.OneKind.{one_type}
 use Rattle.go_selectors.specs.Answers.{Decides}
-use Rattle.go_usability.specs.Answers.{Gives}
+use Rattle.go_elements.specs.go_usability.Answers.{Gives}
 use Rattle.go_calls.specs.Functions.{CallsFunction, calls_function, Passes, passes_each, passes_results}
 use Rattle.go_calls.specs.inner.Arguments.{CallsSignature, calls_signature, CallsWith, calls_with, RestFits, rest_slice, rest_elements, UsableEach}
-use Rattle.go_operators.proofs.Answers.{decided_true, decided_false}
+use Rattle.go_elements.proofs.go_operators_proofs.Answers.{decided_true, decided_false}
 use Rattle.go_calls.proofs.Callees.{typed_mode}
 use Rattle.go_calls.proofs.LevelParts.{same_element, same_function}
 

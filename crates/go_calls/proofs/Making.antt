@@ -14,11 +14,11 @@ use Rattle.go_rules.specs.declared.operand.Shape.{Shape}
 use Rattle.go_rules.specs.declared.operand.Shape.TheVariants as shape
 use Rattle.go_rules.proofs.OneResult.{one_index}
 use Rattle.go_selectors.specs.Answers.{Decides}
-use Rattle.go_usability.specs.Answers.{Gives}
+use Rattle.go_elements.specs.go_usability.Answers.{Gives}
 use Rattle.go_calls.specs.Builtins.{AreSizes, no_sizes, more_sizes, MakesOf, makes_of, News, news}
 use Rattle.go_calls.specs.inner.Made.{FitSizes}
 use Rattle.go_calls.proofs.LevelParts.{at_chan, at_map, at_slice}
-use Rattle.go_operators.proofs.Answers.{given, false_true}
+use Rattle.go_elements.proofs.go_operators_proofs.Answers.{given, false_true}
 
 -- ---- how many sizes
 

@@ -17,10 +17,10 @@ use Rattle.go_rules.specs.declared.predeclared.Predeclared.{Predeclared}
 use Rattle.go_rules.specs.declared.predeclared.Predeclared.TheVariants as p
 use Rattle.go_rules.proofs.OneKind.{one_type}
 use Rattle.go_rules.proofs.OneResult.{one_length, one_string}
-use Rattle.go_usability.specs.Answers.{Gives}
+use Rattle.go_elements.specs.go_usability.Answers.{Gives}
 use Rattle.go_calls.specs.Builtins.{Measures, measures_string, measures_constant_array, measures_array, measures_value, int_value}
 use Rattle.go_calls.specs.inner.Lengths.{IntWithin, int_within, MeasuresArray, quiet_array, loud_array, MeasuresValue, value_measured, MeasuresTyped, typed_array, typed_other, MeasuresString, constant_string}
-use Rattle.go_operators.proofs.Answers.{given_test, none_some, false_true}
+use Rattle.go_elements.proofs.go_operators_proofs.Answers.{given_test, none_some, false_true}
 
 module _ (E : Env) where
   within : {n : ℕ} {r : Operand} → IntWithin E n r → is_representable (value.Int (pos n)) basic.Int E.bits ≡ true

@@ -4,21 +4,21 @@ ghost use Rattle.go_model.specs.declared.constants.value.Basic.TheVariants as ba
 ghost use Rattle.go_rules.specs.Operands.{basic_term};
 ghost use Rattle.go_rules.specs.Scopes.{env_of};
 ghost use Rattle.go_selectors.specs.Answers.{Decides};
-ghost use Rattle.go_usability.specs.Answers.{Gives};
+ghost use Rattle.go_elements.specs.go_usability.Answers.{Gives};
 ghost use Rattle.go_calls.specs.Builtins.{Appends, Copies};
 ghost use Rattle.go_calls.specs.inner.Appended.{IsBytesFrom, MayAppend, MayAppendAll, MayCopy};
 
 use crate::arguments::{sole, usable_all};
 use go_base::memory::NoMemory;
+use go_elements::go_operators::levels::slice_under;
+use go_elements::go_operators::operands::{int_where, plain_where};
+use go_elements::go_operators::values::{is_usable, type_of};
+use go_elements::go_usability::context::Context;
 use go_elements::strings::string_length;
 use go_model::constants::value::Basic;
 use go_model::types::term::{Term, slice_of};
-use go_operators::levels::slice_under;
-use go_operators::operands::{int_where, plain_where};
-use go_operators::values::{is_usable, type_of};
 use go_rules::operand::Operand;
 use go_selectors::identity::identical;
-use go_usability::context::Context;
 use std::alloc::Global;
 
 fn is_byte(element: &Term) -> bool

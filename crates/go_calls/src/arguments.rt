@@ -9,14 +9,14 @@ ghost use Rattle.go_rules.specs.Scopes.{env_of};
 ghost use Rattle.go_rules.specs.Usability.{UsableAs};
 ghost use Rattle.go_rules.specs.declared.operand.Operand.{Operand};
 ghost use Rattle.go_selectors.specs.Answers.{Decides};
-ghost use Rattle.go_usability.specs.Answers.{Gives};
+ghost use Rattle.go_elements.specs.go_usability.Answers.{Gives};
 ghost use Rattle.go_calls.specs.inner.Arguments.{RestFits, UsableEach};
 
 use go_base::memory::NoMemory;
+use go_elements::go_operators::values::is_usable;
+use go_elements::go_usability::context::Context;
 use go_model::types::term::Term;
-use go_operators::values::is_usable;
 use go_rules::operand::Operand;
-use go_usability::context::Context;
 use std::alloc::Global;
 
 // ---- how many there are

@@ -7,7 +7,7 @@ ghost use Rattle.go_rules.specs.Operands.{IsTyped, any_term, constant_of, plain}
 ghost use Rattle.go_rules.specs.Scopes.{env_of};
 ghost use Rattle.go_rules.specs.declared.operand.Operand.{Operand};
 ghost use Rattle.go_selectors.specs.Answers.{Decides};
-ghost use Rattle.go_usability.specs.Answers.{Gives};
+ghost use Rattle.go_elements.specs.go_usability.Answers.{Gives};
 ghost use Rattle.go_calls.specs.Builtins.{CallsBuiltin, Closes, Copies, Deletes, MakesOf, Measures, News, OfAny, OfMore, OfNone, OfOne, OfTwo, Panics, Prints};
 
 use crate::append::{append, copy};
@@ -17,16 +17,16 @@ use crate::makes::{make, new};
 use go_base::list::List;
 use go_base::memory::NoMemory;
 use go_base::shared::Shared;
+use go_elements::go_operators::conversions::default_holds;
+use go_elements::go_operators::levels::{channel_under, map_under};
+use go_elements::go_operators::operands::{nothing_where, plain};
+use go_elements::go_operators::values::{constant_of, is_usable, loose_of, type_of};
+use go_elements::go_usability::context::Context;
 use go_model::constants::value::Value;
 use go_model::types::package::ConstTerm;
 use go_model::types::term::{Direction, Term};
-use go_operators::conversions::default_holds;
-use go_operators::levels::{channel_under, map_under};
-use go_operators::operands::{nothing_where, plain};
-use go_operators::values::{constant_of, is_usable, loose_of, type_of};
 use go_rules::operand::Operand;
 use go_rules::predeclared::Predeclared;
-use go_usability::context::Context;
 use std::alloc::Global;
 
 fn sends(direction: Direction) -> bool

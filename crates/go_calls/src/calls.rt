@@ -2,7 +2,7 @@
 ghost use Rattle.std.specs.Prelude.{◌≡◌, IfOk};
 ghost use Rattle.go_rules.specs.Operands.{builtin};
 ghost use Rattle.go_rules.specs.Scopes.{env_of};
-ghost use Rattle.go_usability.specs.Answers.{Gives};
+ghost use Rattle.go_elements.specs.go_usability.Answers.{Gives};
 ghost use Rattle.go_calls.specs.Calls.{Calls};
 ghost use Rattle.go_calls.specs.inner.Conversions.{ConvertsOne};
 
@@ -10,12 +10,12 @@ use crate::arguments::one;
 use crate::builtins::call_builtin;
 use crate::functions::call_function;
 use go_base::memory::NoMemory;
+use go_elements::go_operators::conversions::conversion;
+use go_elements::go_operators::values::type_in;
+use go_elements::go_usability::context::Context;
 use go_model::types::term::Term;
-use go_operators::conversions::conversion;
-use go_operators::values::type_in;
 use go_rules::operand::{Mode, Operand, Shape};
 use go_rules::predeclared::Predeclared;
-use go_usability::context::Context;
 use std::alloc::Global;
 
 // The builtin function that it is.

@@ -4,19 +4,19 @@ ghost use Rattle.go_model.specs.declared.types.term.Term.{Term};
 ghost use Rattle.go_rules.specs.Expressions.{results_of};
 ghost use Rattle.go_rules.specs.Operands.{plain, tuple};
 ghost use Rattle.go_rules.specs.Scopes.{env_of};
-ghost use Rattle.go_usability.specs.Answers.{Gives};
+ghost use Rattle.go_elements.specs.go_usability.Answers.{Gives};
 ghost use Rattle.go_calls.specs.Functions.{CallsFunction};
 ghost use Rattle.go_calls.specs.inner.Arguments.{CallsSignature, CallsWith};
 
 use crate::arguments::{arguments_fit, sole};
 use go_base::list::List;
 use go_base::memory::NoMemory;
+use go_elements::go_operators::levels::function_under;
+use go_elements::go_operators::operands::{no_value, plain_like};
+use go_elements::go_operators::values::type_of;
+use go_elements::go_usability::context::Context;
 use go_model::types::term::{Signature, Term};
-use go_operators::levels::function_under;
-use go_operators::operands::{no_value, plain_like};
-use go_operators::values::type_of;
 use go_rules::operand::{Mode, Operand, Shape};
-use go_usability::context::Context;
 use std::alloc::Global;
 
 // Equal types.

@@ -5,21 +5,21 @@ ghost use Rattle.go_model.specs.declared.types.term.Term.{out-Term};
 ghost use Rattle.go_rules.specs.Expressions.{IsString, int_constant, measures};
 ghost use Rattle.go_rules.specs.Scopes.{env_of};
 ghost use Rattle.go_selectors.specs.Answers.{Decides};
-ghost use Rattle.go_usability.specs.Answers.{Gives};
+ghost use Rattle.go_elements.specs.go_usability.Answers.{Gives};
 ghost use Rattle.go_calls.specs.Builtins.{Measures};
 ghost use Rattle.go_calls.specs.inner.Lengths.{IntWithin, MeasuresArray, MeasuresString, MeasuresTyped, MeasuresValue};
 
-use go_const::representation::representable;
 use go_elements::arrays::array_length;
+use go_elements::go_const::representation::representable;
+use go_elements::go_operators::operands::{constant, int_value, int_where};
+use go_elements::go_operators::values::{is_constant, type_of};
+use go_elements::go_usability::context::Context;
 use go_elements::strings::string_length;
 use go_model::constants::value::{Basic, Value};
 use go_model::types::package::ConstTerm;
 use go_model::types::term::Term;
-use go_operators::operands::{constant, int_value, int_where};
-use go_operators::values::{is_constant, type_of};
 use go_rules::operand::Operand;
 use go_rules::predeclared::Predeclared;
-use go_usability::context::Context;
 
 fn whole(number: u64) -> Value
     ensures { result ≡ v.Int (pos number) }

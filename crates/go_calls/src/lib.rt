@@ -2,6 +2,9 @@
 //! operands. Each answer is the operand that the definition of the call gives, or None where it gives none.
 #![tactic(auto)]
 
+pub use go_elements;
+pub use go_elements::{go_operators, go_usability};
+
 mod append;
 mod arguments;
 pub mod builtins;

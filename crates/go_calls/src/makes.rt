@@ -4,17 +4,17 @@ ghost use Rattle.go_model.specs.declared.types.term.Term.{out-Term};
 ghost use Rattle.go_rules.specs.Expressions.{Makes, UpTo};
 ghost use Rattle.go_rules.specs.Scopes.{env_of};
 ghost use Rattle.go_selectors.specs.Answers.{Decides};
-ghost use Rattle.go_usability.specs.Answers.{Gives};
+ghost use Rattle.go_elements.specs.go_usability.Answers.{Gives};
 ghost use Rattle.go_calls.specs.Builtins.{MakesOf, News};
 ghost use Rattle.go_calls.specs.inner.Made.{FitSizes};
 
 use go_base::memory::NoMemory;
+use go_elements::go_operators::operands::{plain, plain_where};
+use go_elements::go_operators::values::type_in;
+use go_elements::go_usability::context::Context;
 use go_elements::indices::index_of;
 use go_model::types::term::{Term, pointer_to};
-use go_operators::operands::{plain, plain_where};
-use go_operators::values::type_in;
 use go_rules::operand::Operand;
-use go_usability::context::Context;
 use std::alloc::Global;
 
 // Whether the first constant value isn't above the second.

@@ -2,8 +2,8 @@
 use Rattle.std.proofs.Common.{◌≡◌, ◌<◌, ◌≤◌, ◌+◌, ℕ, zero, suc, Bool, true, false, List, [], ◌∷◌, Option, None, arith, length, nat_eq, refl, sym, ap, ◌∙◌, subst, inl, inr}
 use Rattle.std.proofs.lemmas.Bool.Decides.{nat_tests}
 use Rattle.std.specs.Prelude.{◌&&◌, ◌||◌, if◌then◌else◌, nat_lt, not}
-use Rattle.go_entries.specs.declared.entry.Entry.{Entry as Had}
-use Rattle.go_entries.specs.HadEntries.{entries_at}
+use Rattle.go_packages.specs.go_entries.declared.entry.Entry.{Entry as Had}
+use Rattle.go_packages.specs.go_entries.HadEntries.{entries_at}
 use Rattle.go_exposed.specs.KeptDeclarations.{entries_of, not_lost}
 use Rattle.go_graphs.specs.Flags.{is_flagged}
 use Rattle.go_graphs.proofs.Flagging.{apart, either}

@@ -1,7 +1,7 @@
 -- The setting that scopes keep, and the parts of what is settled.
 use Rattle.std.proofs.Common.{◌≡◌, List, Option, sym, subst}
-use Rattle.go_entries.specs.declared.entry.Entry.{Entry as Had}
-use Rattle.go_entries.specs.HadEntries.{entries_at}
+use Rattle.go_packages.specs.go_entries.declared.entry.Entry.{Entry as Had}
+use Rattle.go_packages.specs.go_entries.HadEntries.{entries_at}
 use Rattle.go_package_entries.specs.Settings.{setting_of}
 use Rattle.go_package_scopes.specs.KeptScopes.{Keeps}
 use Rattle.go_rules.specs.Scopes.{Scopes}

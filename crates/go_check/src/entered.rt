@@ -2,11 +2,11 @@
 ghost use Rattle.std.specs.Prelude.{◌≡◌, length, true, IfOk};
 ghost use Rattle.go_check.specs.inner.Entered.{entered};
 ghost use Rattle.go_graphs.specs.Flags.{AreFlagsOf};
-ghost use Rattle.go_entries.specs.HadEntries.{entries_at};
+ghost use Rattle.go_packages.specs.go_entries.HadEntries.{entries_at};
 ghost use Rattle.go_soundness.specs.Settled.{is_had};
 
 use go_base::memory::NoMemory;
-use go_entries::had::HadEntries;
+use go_packages::go_entries::had::HadEntries;
 use std::alloc::Global;
 
 /// Flags of the declarations that have an entry.

@@ -1,10 +1,10 @@
 //! The entries of the declarations that are kept.
 ghost use Rattle.std.specs.Prelude.{◌≡◌, ◌<◌, ◌&&◌, ℕ, None, length, if◌then◌else◌, nat_eq};
-ghost use Rattle.go_entries.specs.HadEntries.{entries_at};
+ghost use Rattle.go_packages.specs.go_entries.HadEntries.{entries_at};
 ghost use Rattle.go_graphs.specs.Flags.{is_flagged};
 
-use go_entries::had::HadEntries;
 use go_graphs::flags::flag;
+use go_packages::go_entries::had::HadEntries;
 
 // Takes the entry of a declaration away, where it is lost.
 fn leave(had: &mut HadEntries, lost: &[bool], number: usize)

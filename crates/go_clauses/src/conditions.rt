@@ -10,7 +10,7 @@ ghost use Rattle.go_selectors.specs.Answers.{Decides};
 ghost use Rattle.go_statement_rules.specs.Statements.{IsTruth};
 ghost use Rattle.go_type_terms.specs.Answers.{Tells, env_in};
 
-use go_asks::operands::operand;
+use go_assignments::go_asks::operands::operand;
 use go_model::constants::value::{Basic, Untyped};
 use go_model::types::term::Term;
 use go_operators::levels::basic_under;

@@ -11,7 +11,7 @@ ghost use Rattle.go_statement_rules.specs.Clauses.{IsNil, Lists, ListsAll};
 ghost use Rattle.go_type_terms.specs.Answers.{Tells, env_in};
 ghost use Rattle.go_usability.specs.Answers.{Gives};
 
-use go_asks::operands::{form_type, operand};
+use go_assignments::go_asks::operands::{form_type, operand};
 use go_base::list::List;
 use go_base::memory::NoMemory;
 use go_base::text::Text;

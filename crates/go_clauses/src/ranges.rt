@@ -10,7 +10,7 @@ ghost use Rattle.go_rules.specs.Operands.{basic_term};
 ghost use Rattle.go_statement_rules.specs.Clauses.{Ranges};
 ghost use Rattle.go_type_terms.specs.Answers.{Tells, env_in};
 
-use go_asks::operands::operand;
+use go_assignments::go_asks::operands::operand;
 use go_base::list::List;
 use go_base::memory::NoMemory;
 use go_elements::strings::string_length;

@@ -7,12 +7,12 @@ ghost use Rattle.go_selectors.specs.Answers.{Decides};
 ghost use Rattle.go_statement_rules.specs.Clauses.{IsCase};
 ghost use Rattle.go_type_terms.specs.Answers.{Tells, env_in};
 
-use go_asks::operands::operand;
+use go_assignments::go_asks::operands::operand;
+use go_assignments::go_expr::typing::type_expr;
 use go_assignments::sides::are_met;
 use go_assignments::values::value_type;
 use go_base::memory::NoMemory;
 use go_base::operator::CompareOp;
-use go_expr::typing::type_expr;
 use go_model::constants::value::Basic;
 use go_model::types::term::Term;
 use go_operators::comparisons::compare;

@@ -1,3 +1,4 @@
+pub use Rattle.go_reading.proofs as go_reading_proofs
 pub mod ParsedFiles
 pub mod ClientReadings
 pub mod MadeFiles

@@ -20,7 +20,7 @@ use go_lex::laws::one_list;
 use go_lex::scan::scan;
 use go_load::names::under;
 use go_model::files::tree::TreeFile;
-use go_parse::outline::{one_tree, parse_outline};
+use go_reading::go_parse::outline::{one_tree, parse_outline};
 use go_syntax::declaration::File;
 use go_syntax::statement::LiteralBlock;
 use go_syntax::token::Token;

@@ -2,8 +2,8 @@
 use Rattle.std.proofs.Common.{◌≡◌, ◌≢◌, ◌⊎◌, ◌<◌, ℕ, Bool, true, false, Option, Some, None, List, [], ◌∷◌, length, Result, Ok, Err, refl, sym, ap, ◌∙◌, inl, inr, arith}
 use mathlib.Core.Bool.{true≢false}
 use Rattle.go_base.specs.Lists.{Has}
-use Rattle.go_client_files.specs.ClientFiles.{ReadsClient}
-use Rattle.go_client_files.specs.declared.uses.ClientFiles.{ClientFiles}
+use Rattle.go_client_units.specs.go_client_files.ClientFiles.{ReadsClient}
+use Rattle.go_client_units.specs.go_client_files.declared.uses.ClientFiles.{ClientFiles}
 use Rattle.go_client_outcomes.proofs.FolderReads.{folders_end}
 use Rattle.go_client_outcomes.proofs.ReadClients.{client_read}
 use Rattle.go_client_units.proofs.JoinedClients.{given_alike, given_few, read_alike, read_few}

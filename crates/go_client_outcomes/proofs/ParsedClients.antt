@@ -1,10 +1,10 @@
 -- The files of a client are parsed, or the first one is refused that isn't.
 use Rattle.std.proofs.Common.{◌≡◌, ◌⊎◌, ℕ, Bool, true, false, List, [], ◌∷◌, ◌++◌, append_assoc, append-nil, Option, Some, None, refl, sym, subst, inl, inr}
-use Rattle.go_client_files.specs.ClientFiles.{GivesParsed, IsFaultyFile, IsFirstFaulty}
-use Rattle.go_client_files.specs.declared.parsed.ParsedFile.{ParsedFile}
+use Rattle.go_client_units.specs.go_client_files.ClientFiles.{GivesParsed, IsFaultyFile, IsFirstFaulty}
+use Rattle.go_client_units.specs.go_client_files.declared.parsed.ParsedFile.{ParsedFile}
 use Rattle.go_existence.specs.Existence.{NotNone}
 use Rattle.go_existence.proofs.DoubleNegation.{decided, so, sure, bind}
-use Rattle.go_file_blocks.specs.FileBlocks.{HasFileBlocks}
+use Rattle.go_client_units.specs.go_file_blocks.FileBlocks.{HasFileBlocks}
 use Rattle.go_imports.specs.Gives.{Gives, next, none, optional}
 use Rattle.go_model.specs.declared.files.build.Header.{Header}
 use Rattle.go_model.specs.declared.files.platform.Platform.{Platform}

@@ -1,9 +1,9 @@
 -- A client is read, or is refused.
 use Rattle.std.proofs.Common.{◌≡◌, ℕ, false, List, map, Option, Some, None, Result, Ok, Err, refl, inl, inr}
-use Rattle.go_client_files.specs.ClientFiles.{AreClientFiles, AreOfOne, GivesClientFile, GivesNamed, GivesParsed, ReadsClient, UsesAllIn, client_files, named_import}
-use Rattle.go_client_files.specs.declared.parsed.ParsedFile.{ParsedFile}
-use Rattle.go_client_files.specs.declared.uses.ClientFile.{ClientFile}
-use Rattle.go_client_files.specs.declared.uses.ClientFiles.{ClientFiles}
+use Rattle.go_client_units.specs.go_client_files.ClientFiles.{AreClientFiles, AreOfOne, GivesClientFile, GivesNamed, GivesParsed, ReadsClient, UsesAllIn, client_files, named_import}
+use Rattle.go_client_units.specs.go_client_files.declared.parsed.ParsedFile.{ParsedFile}
+use Rattle.go_client_units.specs.go_client_files.declared.uses.ClientFile.{ClientFile}
+use Rattle.go_client_units.specs.go_client_files.declared.uses.ClientFiles.{ClientFiles}
 use Rattle.go_client_outcomes.proofs.ParsedClients.{files_end}
 use Rattle.go_existence.specs.Existence.{NotNone}
 use Rattle.go_existence.proofs.DoubleNegation.{decided, so, sure, bind}

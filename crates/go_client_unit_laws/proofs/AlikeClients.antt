@@ -3,9 +3,9 @@ use Rattle.std.proofs.Common.{ℕ, Bool, true, false, Option, Some, None, List, 
 use Rattle.std.specs.List.{filter}
 use Rattle.std.specs.Prelude.{bytes_eq}
 use Rattle.go_base.specs.Lists.{Has}
-use Rattle.go_client_files.specs.ClientFiles.{GivesParsed, IsFaultyFile, IsFirstFaulty, ReadsClient, client_files, root_files}
-use Rattle.go_client_files.specs.declared.parsed.ParsedFile.{ParsedFile}
-use Rattle.go_client_files.specs.declared.uses.ClientFiles.{ClientFiles}
+use Rattle.go_client_units.specs.go_client_files.ClientFiles.{GivesParsed, IsFaultyFile, IsFirstFaulty, ReadsClient, client_files, root_files}
+use Rattle.go_client_units.specs.go_client_files.declared.parsed.ParsedFile.{ParsedFile}
+use Rattle.go_client_units.specs.go_client_files.declared.uses.ClientFiles.{ClientFiles}
 use Rattle.go_client_units.proofs.MoreReadings.{answers_more}
 use Rattle.go_client_units.specs.ClientUnits.{AnswersOfClient, AnswersWith, AreClientUnits}
 use Rattle.go_client_units.specs.declared.units.ClientUnits.{ClientUnits}

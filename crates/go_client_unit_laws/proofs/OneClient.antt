@@ -1,8 +1,8 @@
 -- A module with a client has one answer.
 use Rattle.std.proofs.Common.{◌≡◌, ◌≢◌, ◌<◌, ℕ, Bool, true, false, Option, Some, None, List, [], ◌∷◌, length, map, Result, Ok, Err, refl, sym, ap, ◌∙◌, subst, inl, inr, arith}
 use Rattle.std.specs.Prelude.{◌↔◌}
-use Rattle.go_client_files.specs.ClientFiles.{ReadsClient}
-use Rattle.go_client_files.specs.declared.uses.ClientFiles.{ClientFiles}
+use Rattle.go_client_units.specs.go_client_files.ClientFiles.{ReadsClient}
+use Rattle.go_client_units.specs.go_client_files.declared.uses.ClientFiles.{ClientFiles}
 use Rattle.go_client_unit_laws.proofs.OneClientFiles.{files_or_error, one_error as one_own_error, one_files}
 use Rattle.go_client_unit_laws.proofs.OneReading.{Below}
 use Rattle.go_client_unit_laws.proofs.OneRefusal.{first_or_all, one_first, one_slots}

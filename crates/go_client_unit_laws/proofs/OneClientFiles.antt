@@ -1,9 +1,9 @@
 -- The files of a client's package are one list, and what a client is refused for is one thing.
 use Rattle.std.proofs.Common.{◌≡◌, ◌≢◌, ℕ, false, Option, Some, None, List, map, Result, Ok, Err, refl, sym, ap, ◌∙◌, subst, inl, inr}
-use Rattle.go_client_files.specs.ClientFiles.{AreClientFiles, AreOfOne, GivesClientFile, GivesNamed, GivesParsed, IsFirstFaulty, ReadsClient, UsesAllIn, client_files}
-use Rattle.go_client_files.specs.declared.parsed.ParsedFile.{ParsedFile}
-use Rattle.go_client_files.specs.declared.uses.ClientFile.{ClientFile}
-use Rattle.go_client_files.specs.declared.uses.ClientFiles.{ClientFiles}
+use Rattle.go_client_units.specs.go_client_files.ClientFiles.{AreClientFiles, AreOfOne, GivesClientFile, GivesNamed, GivesParsed, IsFirstFaulty, ReadsClient, UsesAllIn, client_files}
+use Rattle.go_client_units.specs.go_client_files.declared.parsed.ParsedFile.{ParsedFile}
+use Rattle.go_client_units.specs.go_client_files.declared.uses.ClientFile.{ClientFile}
+use Rattle.go_client_units.specs.go_client_files.declared.uses.ClientFiles.{ClientFiles}
 use Rattle.go_client_unit_laws.proofs.OneReading.{Below, all_parsed, one_faulty, parsed_or_faulty}
 use Rattle.go_imports.specs.Gives.{Gives}
 use Rattle.go_imports.specs.declared.used_imports.Import.{Import}

@@ -2,10 +2,10 @@
 use Rattle.std.proofs.Common.{◌≡◌, ◌⊎◌, ℕ, Option, Some, None, List, [], ◌∷◌, ◌++◌, drop, refl, sym, ap, ◌∙◌, subst, inl, inr}
 use mathlib.Core.Bool.{true≢false}
 use Rattle.go_base.specs.Lists.{Has}
-use Rattle.go_client_files.specs.ClientFiles.{GivesParsed, IsFaultyFile, IsFirstFaulty, IsParsed}
-use Rattle.go_client_files.specs.declared.parsed.ParsedFile.{ParsedFile}
-use Rattle.go_client_files.specs.inner.Causes.{HasBadText}
-use Rattle.go_file_blocks.specs.FileBlocks.{HasFileBlocks}
+use Rattle.go_client_units.specs.go_client_files.ClientFiles.{GivesParsed, IsFaultyFile, IsFirstFaulty, IsParsed}
+use Rattle.go_client_units.specs.go_client_files.declared.parsed.ParsedFile.{ParsedFile}
+use Rattle.go_client_units.specs.go_client_files.inner.Causes.{HasBadText}
+use Rattle.go_client_units.specs.go_file_blocks.FileBlocks.{HasFileBlocks}
 use Rattle.go_imports.specs.Gives.{Gives}
 use Rattle.go_model.specs.declared.files.build.Header.{Header}
 use Rattle.go_model.specs.declared.files.platform.Platform.{Platform}

@@ -14,9 +14,9 @@ ghost use Rattle.go_units.specs.declared.unit.«Unit».{«Unit» as PackageUnit}
 ghost use Rattle.go_units.specs.declared.unit_error.UnitError.{UnitError};
 ghost use Rattle.go_units.specs.declared.unit_error.UnitError.TheVariants.{NoMemory};
 
-use go_file_blocks::blocks::one_list as one_block_list;
+use go_client_units::go_file_blocks::blocks::one_list as one_block_list;
 use go_lex::laws::one_list;
-use go_parse::outline::one_tree;
+use go_reading::go_parse::outline::one_tree;
 use go_reading::laws::{files_by_name, one_folder_list, one_reading};
 use go_tags::laws::one_header;
 

@@ -12,11 +12,11 @@ use Rattle.go_imports.specs.Gives.{Gives}
 use Rattle.go_model.specs.declared.files.platform.Platform.{Platform}
 use Rattle.go_model.specs.declared.files.tree.Tree.{Tree}
 use Rattle.go_model.specs.files.Trees.{IsTree}
-use Rattle.go_reading.specs.TreeFolders.{AreTreeFolders, ReadsFolder}
-use Rattle.go_reading.specs.declared.heads.HeadedFile.{HeadedFile}
-use Rattle.go_reading.specs.inner.Heads.{IsHeadedReading}
-use Rattle.go_reading.specs.inner.Listing.{AreContents}
-use Rattle.go_reading.proofs.TreeReadings.{reads_folder}
+use Rattle.go_client_files.specs.go_reading.TreeFolders.{AreTreeFolders, ReadsFolder}
+use Rattle.go_client_files.specs.go_reading.declared.heads.HeadedFile.{HeadedFile}
+use Rattle.go_client_files.specs.go_reading.inner.Heads.{IsHeadedReading}
+use Rattle.go_client_files.specs.go_reading.inner.Listing.{AreContents}
+use Rattle.go_client_files.proofs.go_reading_proofs.TreeReadings.{reads_folder}
 use Rattle.go_units.specs.Reached.{ReadFolders}
 use Rattle.go_units.specs.UnitsOfModules.{GivesUnitFile}
 use Rattle.go_units.specs.declared.folder.Folder.{Folder}

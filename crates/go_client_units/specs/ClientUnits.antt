@@ -10,7 +10,7 @@ use Rattle.go_imports.specs.Gives.{Gives}
 use Rattle.go_model.specs.declared.files.platform.Platform.{Platform}
 use Rattle.go_model.specs.declared.files.tree.Tree.{Tree}
 use Rattle.go_model.specs.types.Terms.{client_path}
-use Rattle.go_reading.specs.TreeFolders.{AreTreeFolders, ReadsFolder}
+use Rattle.go_client_files.specs.go_reading.TreeFolders.{AreTreeFolders, ReadsFolder}
 use Rattle.go_syntax.specs.declared.statement.LiteralBlock.{LiteralBlock}
 use Rattle.go_units.specs.Reached.{ReadFolders}
 use Rattle.go_units.specs.UnitsOfModules.{AreUnits, GivesUnitFile, packages_in}

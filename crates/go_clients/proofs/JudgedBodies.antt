@@ -25,7 +25,7 @@ use Rattle.go_typings.specs.PackageEnvironments.{iota_of}
 use Rattle.go_typings.specs.Refusals.{offset_of}
 use Rattle.go_untyped_places.specs.LiteralRuns.{IsLiteralRun}
 use Rattle.go_untyped_places.specs.Surveys.{Surveyed}
-use Rattle.go_walks.specs.Literals.{LiteralsTyped}
+use Rattle.go_blocks.specs.go_walks.Literals.{LiteralsTyped}
 
 module _ (E : Env) (blocks : List LiteralBlock) where
   pub no_function : Judges E blocks (IsTypedFunc E blocks None) (HasOwnRun E blocks None) (tested true)

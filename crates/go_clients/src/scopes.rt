@@ -10,10 +10,10 @@ ghost use Rattle.go_sources.specs.UnitSources.{source_of};
 ghost use Rattle.go_typings.specs.Declarations.{declarations as all_declarations};
 
 use go_base::memory::NoMemory;
+use go_check::go_new_scopes::scopes::new_scopes;
+use go_check::go_package_entries::entries::entries;
 use go_declared::package::PackageTables;
 use go_model::types::world::World;
-use go_new_scopes::scopes::new_scopes;
-use go_package_entries::entries::entries;
 use go_package_scopes::laws::kept_scopes;
 use go_rules::env::Env;
 use go_soundness::laws::{entries_of_all, sieve_of_typing};

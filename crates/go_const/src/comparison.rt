@@ -2,8 +2,8 @@
 ghost use Rattle.std.specs.Prelude.{◌≡◌};
 ghost use Rattle.go_model.specs.constants.Constants.{comparison, holds_at};
 
-use go_base::operator::CompareOp;
 use go_model::constants::value::Value;
+use go_model::go_base::operator::CompareOp;
 use std::cmp::Ordering;
 
 /// Whether the operator holds of two values in this order.

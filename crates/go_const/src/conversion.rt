@@ -4,10 +4,10 @@ ghost use Rattle.std.specs.Char.{encode_utf8};
 ghost use Rattle.go_model.specs.constants.Constants.{as_text, character_of, converted};
 
 use crate::representation::{is_constant, representable};
-use go_base::memory::NoMemory;
-use go_base::text::Text;
 use go_model::constants::class::Class;
 use go_model::constants::value::{Basic, Kind, Value};
+use go_model::go_base::memory::NoMemory;
+use go_model::go_base::text::Text;
 use std::alloc::Global;
 
 /// The character of that number, or U+FFFD where there is none.

@@ -6,9 +6,9 @@ ghost use Rattle.go_model.specs.declared.constants.value.Value.TheVariants as v;
 
 use crate::number::{changed, combined, shifted_left, shifted_right};
 use crate::results::{number_result, text_result, truth_result};
-use go_base::memory::NoMemory;
 use go_model::constants::class::Class;
 use go_model::constants::value::{BinaryOp, Kind, UnaryOp, Value};
+use go_model::go_base::memory::NoMemory;
 use std::alloc::Global;
 
 fn truth_changed(op: UnaryOp, truth: bool) -> Option<bool>

@@ -5,9 +5,9 @@ ghost use Rattle.go_model.specs.constants.Constants.{kept};
 ghost use Rattle.go_model.specs.declared.constants.value.Value.TheVariants as v;
 
 use crate::representation::{MOST_BYTES, is_constant, is_of_kind};
-use go_base::memory::NoMemory;
-use go_base::text::Text;
 use go_model::constants::value::{Kind, Value};
+use go_model::go_base::memory::NoMemory;
+use go_model::go_base::text::Text;
 use std::alloc::Global;
 
 /// The value, where it is a constant's and of the kind.

@@ -1,7 +1,7 @@
 -- What a function that reads ensures: what the reading finds, unless memory fails.
 -- Own: how the parser reads what the grammar derives.
 use Rattle.std.specs.Prelude.{◌≡◌, Bool, if◌then◌else◌, List, reverse, Option, Some, None, Result, Ok, Err}
-use Rattle.go_base.specs.declared.memory.NoMemory.{NoMemory as NoRoom}
+use Rattle.go_syntax.specs.go_base.declared.memory.NoMemory.{NoMemory as NoRoom}
 use Rattle.go_syntax.specs.declared.token.TokenKind.{TokenKind}
 use Rattle.go_syntax.specs.declared.token.Token.{Token}
 use Rattle.go_syntax.specs.grammar.Terminals.{Terminal, terminals}

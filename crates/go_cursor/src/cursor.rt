@@ -9,9 +9,9 @@ ghost use Rattle.go_cursor.specs.Skipping as skipping;
 ghost use Rattle.go_cursor.specs.LookAheads as look;
 
 use crate::error::ParseError;
-use go_base::memory::NoMemory;
-use go_base::text::Text;
 use go_syntax::expression::Literal;
+use go_syntax::go_base::memory::NoMemory;
+use go_syntax::go_base::text::Text;
 use go_syntax::name::Name;
 use go_syntax::token::{Token, TokenKind, TokenValue};
 use std::alloc::Global;

@@ -1,5 +1,5 @@
 //! Why there is no tree.
-use go_base::memory::NoMemory;
+use go_syntax::go_base::memory::NoMemory;
 use thiserror::Error;
 
 /// Why there is no tree.

@@ -2,6 +2,9 @@
 //! are skipped.
 #![tactic(auto)]
 
+pub use go_syntax;
+pub use go_syntax::go_base;
+
 pub mod cursor;
 pub mod error;
 pub mod looks;

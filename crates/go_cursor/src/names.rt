@@ -8,8 +8,8 @@ ghost use Rattle.go_cursor.specs.Names as name_rules;
 
 use crate::cursor::Cursor;
 use crate::error::ParseError;
-use go_base::list::List;
-use go_base::text::Text;
+use go_syntax::go_base::list::List;
+use go_syntax::go_base::text::Text;
 use go_syntax::name::{Name, QualifiedName};
 use go_syntax::token::TokenKind;
 use std::alloc::Global;

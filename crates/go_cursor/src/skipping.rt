@@ -9,8 +9,8 @@ ghost use Rattle.go_cursor.specs.Skipping as skipping;
 
 use crate::cursor::Cursor;
 use crate::error::ParseError;
-use go_base::memory::NoMemory;
 use go_syntax::body::BodyRange;
+use go_syntax::go_base::memory::NoMemory;
 use go_syntax::token::TokenKind;
 use std::alloc::Global;
 

@@ -7,7 +7,7 @@ use Rattle.go_model.specs.worlds.Worlds.{bars_methods}
 use Rattle.go_rules.specs.Environments.{Env}
 use Rattle.go_rules.specs.Expressions.{is_blank}
 use Rattle.go_rules.proofs.OneName.{none_some, one_some}
-use Rattle.go_operations.proofs.Typed.{true_false}
+use Rattle.go_asks.proofs.go_operations_proofs.Typed.{true_false}
 use Rattle.go_selectors.specs.Answers.{Decides}
 use Rattle.go_syntax.specs.declared.declaration.Func.{Func}
 use Rattle.go_syntax.specs.declared.types.ParameterDecl.{ParameterDecl}

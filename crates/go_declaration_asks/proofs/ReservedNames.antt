@@ -1,6 +1,6 @@
 -- Names that only functions have, and functions that are called by themselves.
 use Rattle.std.proofs.Common.{◌≡◌, ℕ, Bool, true, false, not, ◌||◌, List, sym, ◌∙◌, refl}
-use Rattle.go_operations.proofs.Typed.{true_false}
+use Rattle.go_asks.proofs.go_operations_proofs.Typed.{true_false}
 use Rattle.go_selectors.specs.Answers.{Decides}
 use Rattle.go_syntax.specs.declared.declaration.Func.{Func}
 use Rattle.go_syntax.specs.declared.name.Name.{Name}

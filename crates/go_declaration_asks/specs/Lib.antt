@@ -1,2 +1,3 @@
+pub use Rattle.go_entries.specs as go_entries
 pub mod Bases
 pub mod inner

@@ -16,7 +16,7 @@ use go_asks::meets::meet;
 use go_base::memory::NoMemory;
 use go_declarations::form::Form;
 use go_nodes::declarations::trees_of;
-use go_usability::context::Context;
+use go_type_terms::go_usability::context::Context;
 use std::alloc::Global;
 
 // Whether all that is asked in the types, values and signatures of a declaration is met.

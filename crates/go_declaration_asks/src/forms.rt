@@ -18,7 +18,7 @@ use go_syntax::declaration::Func;
 use go_syntax::expression::Expr;
 use go_syntax::name::Name;
 use go_syntax::types::{ParameterDecl, Type};
-use go_usability::context::Context;
+use go_type_terms::go_usability::context::Context;
 use std::alloc::Global;
 
 // Whether variables meet what they are asked.

@@ -7,17 +7,17 @@ ghost use Rattle.go_type_terms.specs.Answers.{Tells, env_in};
 ghost use Rattle.go_typings.specs.DeclarationAsks.{AreUsable, ValuesFit};
 ghost use Rattle.go_declaration_asks.specs.inner.Values.{GivesValues};
 
+use go_asks::go_expr::typing::type_of;
 use go_base::list::List;
 use go_base::memory::NoMemory;
 use go_entries::initializers::initialize;
-use go_expr::typing::type_of;
 use go_model::types::term::Term;
 use go_rules::operand::Operand;
 use go_syntax::expression::Expr;
 use go_syntax::types::Type;
 use go_type_terms::error::ExprError;
-use go_usability::context::Context;
-use go_usability::usable::usable;
+use go_type_terms::go_usability::context::Context;
+use go_type_terms::go_usability::usable::usable;
 use std::alloc::Global;
 
 // Whether each operand may be used as a value of a type.

@@ -1,1 +1,2 @@
+pub use Rattle.go_typings.proofs as go_typings_proofs
 pub mod Repeated

@@ -1,6 +1,6 @@
 //! The declarations of a file in order.
 ghost use Rattle.std.specs.Prelude.{◌≡◌, ◌++◌, map, OnOk};
-ghost use Rattle.go_base.specs.Gathered.{gather};
+ghost use Rattle.go_typings.specs.go_base.Gathered.{gather};
 ghost use Rattle.go_declarations.specs.Forms.{form_of, spec_of};
 ghost use Rattle.go_declarations.specs.Listings.{declarations_of};
 ghost use Rattle.go_declarations.specs.inner.Repeating.{HasSame, given_by, with_names};
@@ -8,9 +8,9 @@ ghost use Rattle.go_typings.specs.Declarations as declarations;
 ghost use Rattle.go_typings.specs.Declarations.{constants_from, forms, func_form, in_file, no_spec, repeated, variables};
 
 use crate::form::{Constants, Form};
-use go_base::list::List;
-use go_base::memory::NoMemory;
-use go_syntax::declaration::{ConstSpec, Decl, Func, TypeSpec, VarSpec};
+use go_typings::go_base::list::List;
+use go_typings::go_base::memory::NoMemory;
+use go_typings::go_syntax::declaration::{ConstSpec, Decl, Func, TypeSpec, VarSpec};
 
 /// A declaration, and the number of its file.
 #[derive(Clone, Copy)]

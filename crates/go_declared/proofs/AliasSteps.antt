@@ -1,8 +1,8 @@
 -- The name that a name is after aliases, step by step.
 use Rattle.std.proofs.Common.{◌≡◌, ℕ, zero, suc, List, None, Some, refl, ap}
 use Rattle.go_syntax.specs.declared.name.QualifiedName.{QualifiedName}
-use Rattle.go_typings.specs.Declarations.{Declaration}
-use Rattle.go_typings.specs.Receivers.{next_or, own_aliased, unaliased}
+use Rattle.go_declarations.specs.go_typings.Declarations.{Declaration}
+use Rattle.go_declarations.specs.go_typings.Receivers.{next_or, own_aliased, unaliased}
 
 module _ (ds : List Declaration) where
   pub alias_done : (n : ℕ) (q : QualifiedName) → own_aliased ds q.qualifier q.name ≡ None → unaliased ds n q ≡ q

@@ -14,9 +14,9 @@ use Rattle.go_rules.proofs.OneName.{none_some}
 use Rattle.go_rules.specs.Names.{Named, value_at}
 use Rattle.go_syntax.specs.declared.name.Name.{Name}
 use Rattle.go_syntax.specs.declared.name.QualifiedName.{QualifiedName}
-use Rattle.go_typings.proofs.Cells.{some_once}
-use Rattle.go_typings.specs.Declarations.{declared, Declaration, Declared}
-use Rattle.go_typings.specs.Receivers.{after_aliases, aliased, aliased_by, own_aliased, unaliased}
+use Rattle.go_declarations.proofs.go_typings_proofs.Cells.{some_once}
+use Rattle.go_declarations.specs.go_typings.Declarations.{declared, Declaration, Declared}
+use Rattle.go_declarations.specs.go_typings.Receivers.{after_aliases, aliased, aliased_by, own_aliased, unaliased}
 use Rattle.go_declared.proofs.AliasSteps.{alias_done, alias_more, alias_start}
 use Rattle.go_declared.proofs.Declared.{as_long}
 use Rattle.go_declared.proofs.NumberTables.{each_step, one_on, walked_fixed, walked_none, walked_past}

@@ -9,9 +9,9 @@ use Rattle.go_rules.specs.Expressions.{is_blank}
 use Rattle.go_syntax.specs.declared.declaration.TypeSpec.{TypeSpec}
 use Rattle.go_syntax.specs.declared.name.Name.{Name}
 use Rattle.go_syntax.specs.declared.types.ParameterDecl.{ParameterDecl}
-use Rattle.go_typings.proofs.Cells.{none_some, some_once}
-use Rattle.go_typings.specs.Declarations.{alias, constants, declared, declared_by, declared_from, Declaration, Declared, definition, Form, function, is_init, method, names_of, place_from, variables}
-use Rattle.go_typings.specs.Receivers.{after_aliases, base, base_in, defined_name, definition_name, NameForm, own_definition, receiver_form}
+use Rattle.go_declarations.proofs.go_typings_proofs.Cells.{none_some, some_once}
+use Rattle.go_declarations.specs.go_typings.Declarations.{alias, constants, declared, declared_by, declared_from, Declaration, Declared, definition, Form, function, is_init, method, names_of, place_from, variables}
+use Rattle.go_declarations.specs.go_typings.Receivers.{after_aliases, base, base_in, defined_name, definition_name, NameForm, own_definition, receiver_form}
 
 pub only_name : (n q : List ℕ) (place : ℕ) → place_from 0 (n ∷ []) q ≡ Some place → n ≡ q
 only_name n q place e = by (bytes_eq n q) refl e

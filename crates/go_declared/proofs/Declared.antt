@@ -14,7 +14,7 @@ use Rattle.go_rules.specs.Asks.{texts}
 use Rattle.go_rules.specs.Expressions.{is_blank}
 use Rattle.go_rules.specs.Names.{Named, value_at}
 use Rattle.go_syntax.specs.declared.name.Name.{Name}
-use Rattle.go_typings.specs.Declarations.{declared_by, declared_from, Declaration, Declared, Form, is_init, names_of, place_from}
+use Rattle.go_declarations.specs.go_typings.Declarations.{declared_by, declared_from, Declaration, Declared, Form, is_init, names_of, place_from}
 use Rattle.go_declared.specs.NameTables.{AreDeclared, place_of}
 use Rattle.go_declared.specs.declared.names.NamePlace.{NamePlace}
 use Rattle.go_declared.specs.inner.Adding.{with_declarations, with_name, with_names}

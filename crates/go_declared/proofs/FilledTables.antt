@@ -7,9 +7,9 @@ use Rattle.go_base.proofs.Lists.{length_take, take_past}
 use Rattle.go_declarations.specs.Forms.{form_of}
 use Rattle.go_declarations.specs.Listings.{declaration_of, declarations_of}
 use Rattle.go_declarations.specs.declared.listing.Declaration.{Declaration as Borrowed}
-use Rattle.go_typings.specs.Declarations.{Form, constants, variables, alias, definition, function, method, declarations, Declaration}
-use Rattle.go_typings.specs.Receivers.{base, declared_methods, DeclaredMethod, is_named, is_pointer_form, method_by, methods_from, receiver_form, selector}
-use Rattle.go_typings.specs.Sources.{PackageSource}
+use Rattle.go_declarations.specs.go_typings.Declarations.{Form, constants, variables, alias, definition, function, method, declarations, Declaration}
+use Rattle.go_declarations.specs.go_typings.Receivers.{base, declared_methods, DeclaredMethod, is_named, is_pointer_form, method_by, methods_from, receiver_form, selector}
+use Rattle.go_declarations.specs.go_typings.Sources.{PackageSource}
 use Rattle.go_declared.specs.MethodTables.{method_name, method_of, name_by, name_in}
 use Rattle.go_declared.specs.declared.methods.MethodRow.{MethodRow}
 use Rattle.go_declared.specs.inner.AddingMethods.{with_based, with_form, with_forms}

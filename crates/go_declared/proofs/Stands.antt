@@ -11,8 +11,8 @@ use Rattle.go_rules.proofs.OneName.{none_some}
 use Rattle.go_rules.specs.Asks.{texts}
 use Rattle.go_rules.specs.Expressions.{is_blank}
 use Rattle.go_rules.specs.Names.{Named, value_at}
-use Rattle.go_typings.proofs.Cells.{some_once}
-use Rattle.go_typings.specs.Declarations.{declared, declared_by, declared_from, Declaration, Declared, Form, is_init, names_of, place_from}
+use Rattle.go_declarations.proofs.go_typings_proofs.Cells.{some_once}
+use Rattle.go_declarations.specs.go_typings.Declarations.{declared, declared_by, declared_from, Declaration, Declared, Form, is_init, names_of, place_from}
 use Rattle.go_declared.specs.NameTables.{AreDeclared, declared_form, found_form, place_of}
 use Rattle.go_declared.specs.inner.FormsAt.{FormAt}
 use Rattle.go_declared.specs.declared.names.NamePlace.{NamePlace}

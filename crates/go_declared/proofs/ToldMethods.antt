@@ -8,9 +8,9 @@ use Rattle.std.specs.Cmp.Lexicographic.{bytes_decides}
 use Rattle.std.proofs.lemmas.List.{map-append}
 use Rattle.go_rules.specs.Names.{Named, items_at, value_at}
 use Rattle.go_rules.proofs.NamedEntries.{put_is}
-use Rattle.go_typings.specs.Declarations.{Declaration}
-use Rattle.go_typings.specs.Receivers.{DeclaredMethod}
-use Rattle.go_typings.specs.Sources.{PackageSource}
+use Rattle.go_declarations.specs.go_typings.Declarations.{Declaration}
+use Rattle.go_declarations.specs.go_typings.Receivers.{DeclaredMethod}
+use Rattle.go_declarations.specs.go_typings.Sources.{PackageSource}
 use Rattle.go_declared.specs.MethodTables.{AreMethods, method_of}
 use Rattle.go_declared.specs.declared.methods.MethodRow.{MethodRow}
 use Rattle.go_declared.specs.inner.AddingMethods.{with_forms, with_row}

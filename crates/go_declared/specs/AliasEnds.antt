@@ -4,8 +4,8 @@ use Rattle.std.specs.Prelude.{◌≡◌, ◌-◌, ℕ, List, length, map, get_or
 use denote.Ref.{Bor}
 use Rattle.go_base.specs.Keys.{item_of}
 use Rattle.go_syntax.specs.declared.name.QualifiedName.{QualifiedName}
-use Rattle.go_typings.specs.Declarations.{Declaration}
-use Rattle.go_typings.specs.Receivers.{aliased_by, unaliased}
+use Rattle.go_declarations.specs.go_typings.Declarations.{Declaration}
+use Rattle.go_declarations.specs.go_typings.Receivers.{aliased_by, unaliased}
 
 -- the name that a table has for the declaration of a number
 abbrev pub name_at : List (Option (Bor QualifiedName)) → ℕ → Option QualifiedName

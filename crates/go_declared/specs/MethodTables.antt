@@ -2,9 +2,9 @@
 -- Public source: Go specification, "Method declarations".
 use Rattle.std.specs.Prelude.{◌≡◌, ℕ, List, [], map, Option, None, Some, slice_get}
 use Rattle.go_rules.specs.Names.{Named, items_at}
-use Rattle.go_typings.specs.Declarations.{declarations, Declaration, Form, method}
-use Rattle.go_typings.specs.Receivers.{DeclaredMethod, declared_methods, selector}
-use Rattle.go_typings.specs.Sources.{PackageSource}
+use Rattle.go_declarations.specs.go_typings.Declarations.{declarations, Declaration, Form, method}
+use Rattle.go_declarations.specs.go_typings.Receivers.{DeclaredMethod, declared_methods, selector}
+use Rattle.go_declarations.specs.go_typings.Sources.{PackageSource}
 use Rattle.go_declared.specs.declared.methods.MethodRow.{MethodRow}
 
 abbrev pub name_by : Form → List ℕ

@@ -5,7 +5,7 @@ use Rattle.std.specs.Map.{keys_of}
 use Rattle.go_rules.specs.Names.{Named, value_at}
 use Rattle.go_declarations.specs.Forms.{form_of}
 use Rattle.go_declarations.specs.declared.form.Form.{Form as Borrowed}
-use Rattle.go_typings.specs.Declarations.{declared, Declaration, Declared, Form}
+use Rattle.go_declarations.specs.go_typings.Declarations.{declared, Declaration, Declared, Form}
 use Rattle.go_declared.specs.declared.names.ListedName.{ListedName}
 use Rattle.go_declared.specs.declared.names.NamePlace.{NamePlace}
 

@@ -3,9 +3,9 @@
 use Rattle.std.specs.Prelude.{◌≡◌, ℕ, Bool, List, map, filter}
 use Rattle.std.specs.Str.{bytes_eq}
 use Rattle.go_rules.specs.Names.{Named, items_at}
-use Rattle.go_typings.specs.Declarations.{declarations, Declaration}
-use Rattle.go_typings.specs.Receivers.{DeclaredMethod, declared_methods}
-use Rattle.go_typings.specs.Sources.{PackageSource}
+use Rattle.go_declarations.specs.go_typings.Declarations.{declarations, Declaration}
+use Rattle.go_declarations.specs.go_typings.Receivers.{DeclaredMethod, declared_methods}
+use Rattle.go_declarations.specs.go_typings.Sources.{PackageSource}
 use Rattle.go_declared.specs.MethodTables.{method_of}
 use Rattle.go_declared.specs.declared.methods.MethodRow.{MethodRow}
 

@@ -2,7 +2,7 @@
 -- Public source: Go specification, "Method declarations". Own: words of contracts.
 use Rattle.std.specs.Prelude.{ℕ, List, Option, None, Some}
 use denote.Ref.{Bor}
-use Rattle.go_typings.specs.Receivers.{NameForm}
+use Rattle.go_declarations.specs.go_typings.Receivers.{NameForm}
 use Rattle.go_declared.specs.declared.receivers.WrittenName.{WrittenName}
 
 abbrev pub form_of : Option WrittenName → Option NameForm

@@ -1,9 +1,9 @@
 //! The defined types for which methods are declared, after the aliases of the package.
 ghost use Rattle.std.specs.Prelude.{◌≡◌, ℕ, List, Some};
 ghost use Rattle.go_declarations.specs.Listings.{declarations_of};
-ghost use Rattle.go_typings.specs.DeclarationRules.{is_qualified};
-ghost use Rattle.go_typings.specs.Receivers.{after_aliases, base, base_in, name_form as form_by, named_definition, written_name as name_by};
-ghost use Rattle.go_typings.specs.Declarations.{declared, Declaration as Declared};
+ghost use Rattle.go_declarations.specs.go_typings.DeclarationRules.{is_qualified};
+ghost use Rattle.go_declarations.specs.go_typings.Receivers.{after_aliases, base, base_in, name_form as form_by, named_definition, written_name as name_by};
+ghost use Rattle.go_declarations.specs.go_typings.Declarations.{declared, Declaration as Declared};
 ghost use Rattle.go_declared.specs.AliasEnds.{AreEnds};
 ghost use Rattle.go_declared.specs.NameTables.{AreDeclared, declared_form, found_form, place_of};
 ghost use Rattle.go_declared.specs.inner.FormsAt.{FormAt};

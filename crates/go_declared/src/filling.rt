@@ -2,7 +2,7 @@
 ghost use Rattle.std.specs.Prelude.{◌≡◌, ℕ, List as Items, OnOk};
 ghost use Rattle.go_declarations.specs.Forms.{form_of};
 ghost use Rattle.go_declarations.specs.Listings.{declarations_of};
-ghost use Rattle.go_typings.specs.Receivers.{base, is_pointer_form, receiver_form};
+ghost use Rattle.go_declarations.specs.go_typings.Receivers.{base, is_pointer_form, receiver_form};
 ghost use Rattle.go_declared.specs.AliasEnds.{AreEnds};
 ghost use Rattle.go_declared.specs.NameTables.{AreDeclared};
 ghost use Rattle.go_declared.specs.declared.methods.MethodRow as row;

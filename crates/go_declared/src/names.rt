@@ -4,7 +4,7 @@ ghost use Rattle.go_base.specs.Lists.{Ascending};
 ghost use Rattle.go_declarations.specs.Forms.{form_of};
 ghost use Rattle.go_declarations.specs.Listings.{declarations_of};
 ghost use Rattle.go_rules.specs.Names.{value_at};
-ghost use Rattle.go_typings.specs.Declarations.{is_init, names_of};
+ghost use Rattle.go_declarations.specs.go_typings.Declarations.{is_init, names_of};
 ghost use Rattle.go_rules.specs.Expressions.{is_blank};
 ghost use Rattle.go_declared.specs.NameTables.{AreDeclared, entries_of, is_first, names_in};
 ghost use Rattle.go_declared.specs.inner.Adding.{with_name, with_names};

@@ -2,7 +2,7 @@
 ghost use Rattle.std.specs.Prelude.{◌≡◌};
 ghost use Rattle.go_base.specs.Keys.{item_of};
 ghost use Rattle.go_declarations.specs.Forms.{form_of as declared_form};
-ghost use Rattle.go_typings.specs.Receivers.{aliased_by, definition_name, form_text, is_pointer_form, name_form, pointer_form, receiver_form, receiver_name, written_name};
+ghost use Rattle.go_declarations.specs.go_typings.Receivers.{aliased_by, definition_name, form_text, is_pointer_form, name_form, pointer_form, receiver_form, receiver_name, written_name};
 ghost use Rattle.go_declared.specs.ReceiverNames.{form_of, text_of};
 
 use go_base::text::Text;

@@ -2,5 +2,7 @@
 //! this is what the grammar derives, and how a tree's parts of lower heights are read.
 #![tactic(auto)]
 
+pub use go_cursor;
+
 pub mod grammar;
 pub mod laws;

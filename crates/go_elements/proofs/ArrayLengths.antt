@@ -5,7 +5,7 @@ use Rattle.go_model.specs.types.Terms.{Layer}
 use Rattle.go_model.specs.types.Underlying.{under}
 use Rattle.go_rules.specs.Environments.{Env}
 use Rattle.go_rules.specs.Expressions.{IsArray, array_itself, array_pointer}
-use Rattle.go_usability.specs.Answers.{Gives}
+use Rattle.go_operators.specs.go_usability.Answers.{Gives}
 use Rattle.go_elements.specs.inner.Arrays.{BaseLength, LengthAt}
 
 abbrev pub HasArray : Env → Term → ℕ → Type 0

@@ -9,8 +9,8 @@ use Rattle.go_rules.specs.Operands.{IsTyped, plain}
 use Rattle.go_rules.specs.Usability.{Implements}
 use Rattle.go_rules.specs.declared.operand.Operand.{Operand}
 use Rattle.go_rules.proofs.OneKind.{one_type}
-use Rattle.go_selectors.specs.Answers.{Decides}
-use Rattle.go_usability.specs.Answers.{Gives}
+use Rattle.go_operators.specs.go_selectors.Answers.{Decides}
+use Rattle.go_operators.specs.go_usability.Answers.{Gives}
 use Rattle.go_elements.specs.Assertions.{Asserts, asserts}
 use Rattle.go_operators.proofs.Answers.{given}
 

@@ -17,8 +17,8 @@ use Rattle.go_rules.specs.Operands.{constant_of}
 use Rattle.go_rules.specs.declared.operand.Operand.{Operand}
 use Rattle.go_rules.proofs.OneKind.{no_truth}
 use Rattle.go_rules.proofs.OneResult.{one_index}
-use Rattle.go_selectors.specs.Answers.{Decides}
-use Rattle.go_usability.specs.Answers.{Gives}
+use Rattle.go_operators.specs.go_selectors.Answers.{Decides}
+use Rattle.go_operators.specs.go_usability.Answers.{Gives}
 use Rattle.go_elements.specs.SliceExpressions.{IsOptionalIndex, index_left_out, index_given}
 use Rattle.go_elements.specs.inner.Indices.{IsInt, IsIntegerKind}
 use Rattle.go_elements.specs.inner.Elements.{IsIndexBelow, index_below}

@@ -14,8 +14,8 @@ use Rattle.go_rules.specs.declared.operand.Mode.{Mode}
 use Rattle.go_rules.specs.declared.operand.Operand.{Operand}
 use Rattle.go_rules.proofs.OneKind.{one_type}
 use Rattle.go_rules.proofs.OneResult.{one_string, string_under}
-use Rattle.go_selectors.specs.Answers.{Decides}
-use Rattle.go_usability.specs.Answers.{Gives}
+use Rattle.go_operators.specs.go_selectors.Answers.{Decides}
+use Rattle.go_operators.specs.go_usability.Answers.{Gives}
 use Rattle.go_elements.specs.Indexes.{Indexes, indexes_array, indexes_array_pointer, indexes_slice, indexes_string, indexes_map}
 use Rattle.go_elements.specs.inner.Elements.{IsIndexBelow, index_below, ElementOfBase, ElementAt, ByteAt}
 

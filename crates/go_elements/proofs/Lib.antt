@@ -1,3 +1,4 @@
+pub use Rattle.go_operators.proofs as go_operators_proofs
 pub mod ArrayLengths
 pub mod Asserting
 pub mod Bounds

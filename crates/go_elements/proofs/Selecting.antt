@@ -14,7 +14,7 @@ use Rattle.go_rules.specs.declared.operand.Operand.{Operand}
 use Rattle.go_rules.proofs.OneFound.{field_or_method, one_found}
 use Rattle.go_rules.proofs.OneForm.{typed_no_type}
 use Rattle.go_rules.proofs.OneKind.{no_truth, one_type}
-use Rattle.go_usability.specs.Answers.{FindsIn, Gives}
+use Rattle.go_operators.specs.go_usability.Answers.{FindsIn, Gives}
 use Rattle.go_elements.specs.Selections.{Selects, selects_field, selects_method, selects_function}
 use Rattle.go_elements.specs.inner.Selected.{SelectsFunction, selects_expression, SelectsMethod, selects_value, SelectsIn, in_field, in_method}
 

@@ -14,7 +14,7 @@ use Rattle.go_rules.specs.Operands.{IsTyped, typed_value, untyped_constant, basi
 use Rattle.go_rules.specs.declared.operand.Operand.{Operand}
 use Rattle.go_rules.proofs.OneKind.{one_type, typed_or_untyped}
 use Rattle.go_rules.proofs.OneResult.{string_under}
-use Rattle.go_usability.specs.Answers.{Gives}
+use Rattle.go_operators.specs.go_usability.Answers.{Gives}
 use Rattle.go_elements.specs.inner.Sliced.{IsUntypedText, SlicesAt, SlicesBase, SlicesUntyped}
 use Rattle.go_operators.proofs.Answers.{false_true}
 use Rattle.go_operators.proofs.TypedOperands.{typed_variable}

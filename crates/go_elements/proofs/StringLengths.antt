@@ -13,7 +13,7 @@ use Rattle.go_rules.specs.Expressions.{IsString, string_value, string_typed, str
 use Rattle.go_rules.specs.Operands.{constant_of}
 use Rattle.go_rules.specs.declared.operand.Operand.{Operand}
 use Rattle.go_rules.proofs.OneKind.{no_truth}
-use Rattle.go_selectors.specs.Answers.{Decides}
+use Rattle.go_operators.specs.go_selectors.Answers.{Decides}
 use Rattle.go_elements.specs.inner.Strings.{IsStringKind}
 use Rattle.go_operators.specs.inner.Values.{IsStringValue}
 

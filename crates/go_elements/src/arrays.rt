@@ -3,11 +3,11 @@ ghost use Rattle.std.specs.Prelude.{Bool};
 ghost use Rattle.go_model.specs.declared.types.term.Term.{Term, out-Term};
 ghost use Rattle.go_rules.specs.Expressions.{IsArray};
 ghost use Rattle.go_rules.specs.Scopes.{env_of};
-ghost use Rattle.go_usability.specs.Answers.{Gives};
+ghost use Rattle.go_operators.specs.go_usability.Answers.{Gives};
 ghost use Rattle.go_elements.specs.inner.Arrays.{BaseLength, LengthAt};
 
 use go_model::types::term::Term;
-use go_usability::context::Context;
+use go_operators::go_usability::context::Context;
 
 // The length of an array type.
 fn base_length(under: &Term) -> Option<u64>

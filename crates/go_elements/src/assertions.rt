@@ -2,18 +2,18 @@
 ghost use Rattle.std.specs.Prelude.{◌≡◌, IfOk};
 ghost use Rattle.go_rules.specs.Expressions.{MayHold};
 ghost use Rattle.go_rules.specs.Scopes.{env_of};
-ghost use Rattle.go_selectors.specs.Answers.{Decides};
-ghost use Rattle.go_usability.specs.Answers.{Gives};
+ghost use Rattle.go_operators.specs.go_selectors.Answers.{Decides};
+ghost use Rattle.go_operators.specs.go_usability.Answers.{Gives};
 ghost use Rattle.go_elements.specs.Assertions.{Asserts};
 
 use go_base::memory::NoMemory;
 use go_model::types::term::Term;
+use go_operators::go_usability::context::Context;
+use go_operators::go_usability::implementing::implements;
 use go_operators::levels::is_interface;
 use go_operators::operands::plain_where;
 use go_operators::values::type_of;
 use go_rules::operand::Operand;
-use go_usability::context::Context;
-use go_usability::implementing::implements;
 use std::alloc::Global;
 
 // Whether a value of an interface type may be of another type.

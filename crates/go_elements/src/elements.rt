@@ -6,8 +6,8 @@ ghost use Rattle.go_rules.specs.Expressions.{reached};
 ghost use Rattle.go_rules.specs.Operands.{basic_term, plain, value_of};
 ghost use Rattle.go_rules.specs.Scopes.{env_of};
 ghost use Rattle.go_rules.specs.Usability.{UsableAs};
-ghost use Rattle.go_selectors.specs.Answers.{Decides};
-ghost use Rattle.go_usability.specs.Answers.{Gives};
+ghost use Rattle.go_operators.specs.go_selectors.Answers.{Decides};
+ghost use Rattle.go_operators.specs.go_usability.Answers.{Gives};
 ghost use Rattle.go_elements.specs.Indexes.{Indexes};
 ghost use Rattle.go_elements.specs.inner.Elements.{ByteAt, ElementAt, ElementOfBase, IsIndexBelow};
 
@@ -16,11 +16,11 @@ use crate::strings::string_length;
 use go_base::memory::NoMemory;
 use go_model::constants::value::Basic;
 use go_model::types::term::Term;
+use go_operators::go_usability::context::Context;
+use go_operators::go_usability::usable::usable;
 use go_operators::operands::{plain, value_where};
 use go_operators::values::{is_variable, type_of};
 use go_rules::operand::{Mode, Operand};
-use go_usability::context::Context;
-use go_usability::usable::usable;
 use std::alloc::Global;
 
 // Whether an operand is an index below the length, where there is one.

@@ -5,18 +5,18 @@ ghost use Rattle.go_model.specs.declared.constants.value.Value.TheVariants as v;
 ghost use Rattle.go_rules.specs.Expressions.{Below, IsIndex};
 ghost use Rattle.go_rules.specs.Operands.{constant_of};
 ghost use Rattle.go_rules.specs.Scopes.{env_of};
-ghost use Rattle.go_selectors.specs.Answers.{Decides};
-ghost use Rattle.go_usability.specs.Answers.{Gives};
+ghost use Rattle.go_operators.specs.go_selectors.Answers.{Decides};
+ghost use Rattle.go_operators.specs.go_usability.Answers.{Gives};
 ghost use Rattle.go_elements.specs.SliceExpressions.{IsOptionalIndex};
 ghost use Rattle.go_elements.specs.inner.Indices.{IsInt, IsIntegerKind};
 
-use go_const::representation::representable;
 use go_model::constants::value::{Basic, Value};
 use go_model::types::package::ConstTerm;
+use go_operators::go_const::representation::representable;
+use go_operators::go_usability::context::Context;
 use go_operators::levels::is_integer;
 use go_operators::values::{constant_of, is_integer_value};
 use go_rules::operand::Operand;
-use go_usability::context::Context;
 
 // The number from 0, where it fits into 64 bits.
 fn natural(value: &Value) -> Option<u64>

@@ -2,6 +2,9 @@
 //! that the definition gives, or None where it gives none.
 #![tactic(auto)]
 
+pub use go_operators;
+pub use go_operators::{go_const, go_usability};
+
 pub mod arrays;
 pub mod assertions;
 pub mod elements;

@@ -5,7 +5,7 @@ ghost use Rattle.go_model.specs.declared.types.found.Found.TheVariants as find;
 ghost use Rattle.go_rules.specs.Expressions.{reached, with_receiver};
 ghost use Rattle.go_rules.specs.Operands.{function_of, plain, value_of};
 ghost use Rattle.go_rules.specs.Scopes.{env_of};
-ghost use Rattle.go_usability.specs.Answers.{Gives};
+ghost use Rattle.go_operators.specs.go_usability.Answers.{Gives};
 ghost use Rattle.go_elements.specs.Selections.{Selects};
 ghost use Rattle.go_elements.specs.inner.Selected.{SelectsFunction, SelectsIn, SelectsMethod};
 
@@ -16,12 +16,12 @@ use go_base::shared::Shared;
 use go_model::types::found::{FieldFound, Found};
 use go_model::types::names::Sel;
 use go_model::types::term::{Signature, Term};
+use go_operators::go_usability::context::Context;
+use go_operators::go_usability::finding::{found, has_method};
 use go_operators::operands::{plain, value_of};
 use go_operators::values::{is_variable, type_in, type_of};
 use go_rules::blank::is_blank;
 use go_rules::operand::Operand;
-use go_usability::context::Context;
-use go_usability::finding::{found, has_method};
 use std::alloc::Global;
 
 // A type, and others after it.

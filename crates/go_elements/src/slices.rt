@@ -6,8 +6,8 @@ ghost use Rattle.go_model.specs.types.Terms.{slice_of};
 ghost use Rattle.go_rules.specs.Expressions.{Ascend, IsString, Slices, UpTo};
 ghost use Rattle.go_rules.specs.Operands.{plain};
 ghost use Rattle.go_rules.specs.Scopes.{env_of};
-ghost use Rattle.go_selectors.specs.Answers.{Decides};
-ghost use Rattle.go_usability.specs.Answers.{Gives};
+ghost use Rattle.go_operators.specs.go_selectors.Answers.{Decides};
+ghost use Rattle.go_operators.specs.go_usability.Answers.{Gives};
 ghost use Rattle.go_elements.specs.SliceExpressions.{SlicesFully, SlicesSimply};
 ghost use Rattle.go_elements.specs.inner.Sliced.{IsUntypedText, SlicesAt, SlicesBase, SlicesUntyped};
 
@@ -17,10 +17,10 @@ use go_base::memory::NoMemory;
 use go_model::constants::value::{Basic, Value};
 use go_model::types::package::ConstTerm;
 use go_model::types::term::{Term, slice_of};
+use go_operators::go_usability::context::Context;
 use go_operators::operands::{plain, plain_like};
 use go_operators::values::{constant_of, is_variable, type_of};
 use go_rules::operand::Operand;
-use go_usability::context::Context;
 use std::alloc::Global;
 
 // The length of a constant's text, where it has no type.

@@ -3,16 +3,16 @@ ghost use Rattle.std.specs.Prelude.{◌≡◌, Some};
 ghost use Rattle.go_rules.specs.Expressions.{IsString};
 ghost use Rattle.go_rules.specs.Operands.{constant_of};
 ghost use Rattle.go_rules.specs.Scopes.{env_of};
-ghost use Rattle.go_selectors.specs.Answers.{Decides};
-ghost use Rattle.go_usability.specs.Answers.{Gives};
+ghost use Rattle.go_operators.specs.go_selectors.Answers.{Decides};
+ghost use Rattle.go_operators.specs.go_usability.Answers.{Gives};
 ghost use Rattle.go_elements.specs.inner.Strings.{IsStringKind};
 
 use go_model::constants::value::Value;
 use go_model::types::package::ConstTerm;
+use go_operators::go_usability::context::Context;
 use go_operators::levels::is_string;
 use go_operators::values::{constant_of, is_string_value};
 use go_rules::operand::Operand;
-use go_usability::context::Context;
 
 // Whether it is a string type, or an untyped kind.
 fn is_string_kind(context: &Context<'_>, term: &ConstTerm) -> bool

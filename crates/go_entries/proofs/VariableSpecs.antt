@@ -17,7 +17,7 @@ use Rattle.go_type_terms.specs.declared.error.ExprError.{ExprError}
 use Rattle.go_type_terms.proofs.NamedTypes.{same_tells}
 use Rattle.go_typings.specs.Initializers.{Initialize, TypeOfValue, own_type, default_of_constant, default_of_truth, TypesOfValues, types_none, types_more}
 use Rattle.go_typings.proofs.OneEntry.{initialize_once}
-use Rattle.go_usability.specs.Answers.{Gives}
+use Rattle.go_expr.specs.go_usability.Answers.{Gives}
 use Rattle.go_entries.specs.inner.Variables.{AreTypedVariables, AreUntypedVariables, AreVariablesBy, AreVariablesOf, HasConstantDefault, HasDefault, default_constant, default_truth, IsDefaultType, IsVariable}
 
 module _ (E : Env) where

@@ -10,16 +10,16 @@ ghost use Rattle.go_typings.specs.DeclarationRules.{AreConstants};
 
 use go_base::list::List;
 use go_declarations::form::Constants;
+use go_expr::go_operators::values::constant_of;
+use go_expr::go_usability::context::Context;
+use go_expr::go_usability::usable::usable;
 use go_expr::typing::{type_expr, type_of};
 use go_model::types::package::{ConstTerm, Entity};
 use go_model::types::term::Term;
-use go_operators::values::constant_of;
 use go_rules::operand::Operand;
 use go_syntax::expression::Expr;
 use go_syntax::types::Type;
 use go_type_terms::error::ExprError;
-use go_usability::context::Context;
-use go_usability::usable::usable;
 use std::alloc::Global;
 
 // The constant that an operand is.

@@ -1,16 +1,16 @@
 //! Functions and methods.
 ghost use Rattle.go_entries.specs.inner.Functions.{IsFunctionOf, IsSignatureOf, IsWithin};
 ghost use Rattle.go_type_terms.specs.Answers.{Tells, env_in};
-ghost use Rattle.go_usability.specs.Answers.{Gives};
+ghost use Rattle.go_expr.specs.go_usability.Answers.{Gives};
 
 use go_base::list::List;
+use go_expr::go_usability::context::Context;
 use go_expr::typing::signature_of;
 use go_model::types::bounds::is_within_bounds;
 use go_model::types::package::Entity;
 use go_model::types::term::{Signature as Signed, Term};
 use go_syntax::types::Signature;
 use go_type_terms::error::ExprError;
-use go_usability::context::Context;
 use std::alloc::Global;
 
 // A signature, where its function type is within bounds.

@@ -12,8 +12,8 @@ use crate::functions::{function, signature};
 use crate::types::{alias, definition};
 use crate::variables::variables;
 use go_declarations::form::Form;
+use go_expr::go_usability::context::Context;
 use go_type_terms::error::ExprError;
-use go_usability::context::Context;
 use std::alloc::Global;
 
 /// What a declaration is given in the environment of a context; `Untyped` exactly where it is given nothing. For the definition

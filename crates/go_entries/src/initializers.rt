@@ -7,11 +7,11 @@ ghost use Rattle.go_typings.specs.Initializers.{Initialize};
 use crate::assertions::is_assertion_or_receive;
 use crate::several::several;
 use go_base::list::List;
+use go_expr::go_usability::context::Context;
 use go_expr::typing::type_expr;
 use go_rules::operand::Operand;
 use go_syntax::expression::Expr;
 use go_type_terms::error::ExprError;
-use go_usability::context::Context;
 use std::alloc::Global;
 
 // What each expression is.

@@ -4,13 +4,13 @@ ghost use Rattle.go_base.specs.Keys.{item_of};
 ghost use Rattle.go_entries.specs.inner.Values.{AreResults, AreTwo, AreValuesOf, IsTuple, IsWithTruth, value_and_truth};
 ghost use Rattle.go_rules.specs.Operands.{plain};
 ghost use Rattle.go_type_terms.specs.Answers.{Tells};
-ghost use Rattle.go_usability.specs.Answers.{Gives, term_of};
+ghost use Rattle.go_expr.specs.go_usability.Answers.{Gives, term_of};
 
 use go_base::list::List;
 use go_base::memory::NoMemory;
+use go_expr::go_operators::operands::{loose, plain_like};
 use go_model::constants::value::Untyped;
 use go_model::types::term::Term;
-use go_operators::operands::{loose, plain_like};
 use go_rules::operand::{Mode, Operand, Shape};
 use go_type_terms::error::ExprError;
 use std::alloc::Global;

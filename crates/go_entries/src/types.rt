@@ -7,12 +7,12 @@ ghost use Rattle.go_type_terms.specs.Answers.{Tells, env_in};
 ghost use Rattle.go_typings.specs.DeclarationRules.{is_name, is_struct_or_interface};
 
 use go_base::list::List;
+use go_expr::go_usability::context::Context;
 use go_expr::typing::type_of;
 use go_model::types::package::Entity;
 use go_model::types::term::Term;
 use go_syntax::types::Type;
 use go_type_terms::error::ExprError;
-use go_usability::context::Context;
 use std::alloc::Global;
 
 // Whether a type is a name.

@@ -5,24 +5,24 @@ ghost use Rattle.go_entries.specs.inner.Variables.{AreTypedVariables, AreUntyped
 ghost use Rattle.go_model.specs.declared.types.package.Entity.TheVariants as entity;
 ghost use Rattle.go_type_terms.specs.Answers.{Tells, env_in};
 ghost use Rattle.go_typings.specs.Initializers.{TypeOfValue};
-ghost use Rattle.go_usability.specs.Answers.{Gives};
+ghost use Rattle.go_expr.specs.go_usability.Answers.{Gives};
 
 use crate::initializers::initialize;
 use go_base::list::List;
 use go_base::memory::NoMemory;
+use go_expr::go_operators::values::{constant_of, is_loose_truth};
+use go_expr::go_usability::context::Context;
+use go_expr::go_usability::operands::{default_basic, type_of as own_type};
+use go_expr::go_usability::usable::default_holds;
 use go_expr::typing::type_of;
 use go_model::constants::value::Untyped;
 use go_model::types::package::{ConstTerm, Entity};
 use go_model::types::term::Term;
-use go_operators::values::{constant_of, is_loose_truth};
 use go_rules::operand::Operand;
 use go_syntax::declaration::VarSpec;
 use go_syntax::expression::Expr;
 use go_syntax::types::Type;
 use go_type_terms::error::ExprError;
-use go_usability::context::Context;
-use go_usability::operands::{default_basic, type_of as own_type};
-use go_usability::usable::default_holds;
 use std::alloc::Global;
 
 // The untyped kind of a constant whose default type can hold it.

@@ -3,11 +3,11 @@ use Rattle.std.proofs.Common.{◌≡◌, ℕ, ◌<◌, Bool, true, false, Option
 use Rattle.std.specs.Prelude.{◌&&◌, is_some, not, slice_get}
 use Rattle.std.proofs.lemmas.Bool.Decides.{nat_tests}
 use Rattle.go_base.specs.Lists.{Each, Has}
-use Rattle.go_rules.specs.Environments.{Env}
-use Rattle.go_rules.specs.Growth.{Grows}
-use Rattle.go_rules.specs.Nodes.{Node, Stands}
-use Rattle.go_rules.specs.Regions.{IsClosed, NameIn, RefersIn, Region, cut, node_names}
-use Rattle.go_rules.proofs.LocalTypes.{each_made}
+use Rattle.go_typings.specs.go_rules.Environments.{Env}
+use Rattle.go_typings.specs.go_rules.Growth.{Grows}
+use Rattle.go_typings.specs.go_rules.Nodes.{Node, Stands}
+use Rattle.go_typings.specs.go_rules.Regions.{IsClosed, NameIn, RefersIn, Region, cut, node_names}
+use Rattle.go_typings.proofs.go_rules_proofs.LocalTypes.{each_made}
 use Rattle.go_syntax.specs.declared.name.Name.{Name}
 use Rattle.go_typings.specs.Assignments.{At, all_of}
 use Rattle.go_typings.specs.DeclarationNodes.{nodes}

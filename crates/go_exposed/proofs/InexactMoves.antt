@@ -2,20 +2,20 @@
 use Rattle.std.proofs.Common.{◌≡◌, List, [], ◌∷◌, Option, Some, None, map, refl, subst, inl, inr}
 use Rattle.go_base.specs.Lists.{Each, Has}
 use Rattle.go_model.specs.declared.types.term.Term.{Term, Term-F}
-use Rattle.go_rules.specs.Environments.{Env}
-use Rattle.go_rules.specs.Expressions.{Has as HasOperand, OfType}
-use Rattle.go_rules.specs.Growth.{Grows}
-use Rattle.go_rules.specs.Nodes.{expression, optional, type}
-use Rattle.go_rules.specs.Operands.{plain}
-use Rattle.go_rules.specs.Regions.{IsClosed, RefersIn, Region, TermIn, cut}
-use Rattle.go_rules.specs.Usability.{UsableAs}
-use Rattle.go_rules.proofs.GrowOperand.{has_more, type_more}
-use Rattle.go_rules.proofs.GrowRelations.{usable_more}
-use Rattle.go_rules.proofs.GrowTypes.{form_more, joined_is}
-use Rattle.go_rules.proofs.LocalOperand.{has_local, type_local}
-use Rattle.go_rules.proofs.LocalParts.{each_left, each_right}
-use Rattle.go_rules.proofs.LocalRelations.{usable_local}
-use Rattle.go_rules.proofs.LocalTypes.{form_same}
+use Rattle.go_typings.specs.go_rules.Environments.{Env}
+use Rattle.go_typings.specs.go_rules.Expressions.{Has as HasOperand, OfType}
+use Rattle.go_typings.specs.go_rules.Growth.{Grows}
+use Rattle.go_typings.specs.go_rules.Nodes.{expression, optional, type}
+use Rattle.go_typings.specs.go_rules.Operands.{plain}
+use Rattle.go_typings.specs.go_rules.Regions.{IsClosed, RefersIn, Region, TermIn, cut}
+use Rattle.go_typings.specs.go_rules.Usability.{UsableAs}
+use Rattle.go_typings.proofs.go_rules_proofs.GrowOperand.{has_more, type_more}
+use Rattle.go_typings.proofs.go_rules_proofs.GrowRelations.{usable_more}
+use Rattle.go_typings.proofs.go_rules_proofs.GrowTypes.{form_more, joined_is}
+use Rattle.go_typings.proofs.go_rules_proofs.LocalOperand.{has_local, type_local}
+use Rattle.go_typings.proofs.go_rules_proofs.LocalParts.{each_left, each_right}
+use Rattle.go_typings.proofs.go_rules_proofs.LocalRelations.{usable_local}
+use Rattle.go_typings.proofs.go_rules_proofs.LocalTypes.{form_same}
 use Rattle.go_syntax.specs.declared.declaration.ConstSpec.{ConstSpec}
 use Rattle.go_syntax.specs.declared.expression.Expr.{Expr}
 use Rattle.go_syntax.specs.declared.types.«Type».{«Type» as Typ}

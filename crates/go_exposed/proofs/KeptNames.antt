@@ -5,7 +5,7 @@ use Rattle.go_model.specs.declared.types.package.Defined.{Defined}
 use Rattle.go_model.specs.declared.types.package.Entity.{Entity}
 use Rattle.go_model.specs.declared.types.package.Package.{Package}
 use Rattle.go_model.specs.worlds.Worlds.{name_of, object_name}
-use Rattle.go_rules.specs.Scopes.{entity_of}
+use Rattle.go_typings.specs.go_rules.Scopes.{entity_of}
 use Rattle.go_typings.specs.Declarations.{Form, constants, variables, alias, definition, function, method, Declared, declarations, declared}
 use Rattle.go_typings.specs.PackageEnvironments.{Entries, defined_at, defined_by, defined_with, entity_at, entity_by, had, own_defined, own_entity, underlying_of}
 use Rattle.go_typings.specs.Receivers.{methods}

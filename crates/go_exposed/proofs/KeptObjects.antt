@@ -9,7 +9,7 @@ use Rattle.go_model.specs.declared.types.package.Entity.TheVariants as entity
 use Rattle.go_model.specs.declared.types.package.Object.{Object}
 use Rattle.go_model.specs.declared.types.package.Package.{Package}
 use Rattle.go_model.specs.worlds.Worlds.{name_of, object_name, type_object}
-use Rattle.go_rules.specs.Scopes.{entity_of}
+use Rattle.go_typings.specs.go_rules.Scopes.{entity_of}
 use Rattle.go_soundness.proofs.DeclaredForms.{own_name}
 use Rattle.go_typings.specs.Declarations.{Form, constants, variables, alias, definition, function, method, Declared, declarations, declared}
 use Rattle.go_typings.specs.PackageEnvironments.{Entries, underlying, defined_at, defined_by, entity_by, had, own_defined, own_type, underlying_of}

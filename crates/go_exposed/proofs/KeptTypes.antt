@@ -18,10 +18,10 @@ use Rattle.go_model.specs.declared.types.term.Term.{Term-F}
 use Rattle.go_model.specs.types.TypeNames.{names, signature_names}
 use Rattle.go_model.specs.worlds.PackageTypes.{defined_names, object_names, of_entity, package_names}
 use Rattle.go_model.specs.worlds.Worlds.{name_of, object_name}
-use Rattle.go_rules.specs.Regions.{EntityIn, Region, SignatureIn, TermIn}
-use Rattle.go_rules.specs.Scopes.{entity_of}
-use Rattle.go_rules.proofs.LocalTerms.{close_in, each_passes, passes_both}
-use Rattle.go_rules.proofs.LocalTypes.{each_made}
+use Rattle.go_typings.specs.go_rules.Regions.{EntityIn, Region, SignatureIn, TermIn}
+use Rattle.go_typings.specs.go_rules.Scopes.{entity_of}
+use Rattle.go_typings.proofs.go_rules_proofs.LocalTerms.{close_in, each_passes, passes_both}
+use Rattle.go_typings.proofs.go_rules_proofs.LocalTypes.{each_made}
 use Rattle.go_syntax.specs.declared.declaration.TypeSpec.{TypeSpec}
 use Rattle.go_typings.specs.Declarations.{Form, constants, variables, alias, definition, function, method, Declared, declarations, declared}
 use Rattle.go_typings.specs.PackageEnvironments.{Entries, Entry, objects, underlying, signed, defined_at, defined_by, entity_by, had, had_of, object_of, own_defined, own_type, signature_of, underlying_of}

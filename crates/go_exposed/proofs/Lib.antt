@@ -1,3 +1,4 @@
+pub use Rattle.go_soundness.proofs as go_soundness_proofs
 pub mod OneKeptSet
 pub mod OneOffer
 pub mod OneCause

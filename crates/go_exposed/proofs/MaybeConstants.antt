@@ -4,18 +4,18 @@ use Rattle.std.specs.Prelude.{if◌then◌else◌, is_some}
 use Rattle.go_base.specs.Lists.{Each, Has}
 use Rattle.go_model.specs.declared.constants.value.Basic.{Basic}
 use Rattle.go_model.specs.declared.types.term.Term.{Term-F}
-use Rattle.go_rules.specs.Environments.{Env}
-use Rattle.go_rules.specs.Expressions.{HasForm, Has as HasOperand, chain, unary_operator}
-use Rattle.go_rules.specs.Growth.{Grows}
-use Rattle.go_rules.specs.Nodes.{ExprLayer, Node, expression, expression_parts, post, post_parts}
-use Rattle.go_rules.specs.Operands.{constant_of, type_name}
-use Rattle.go_rules.specs.Regions.{IsClosed, RefersIn, Region, cut}
-use Rattle.go_rules.proofs.GrowOperand.{has_form_more, has_more}
-use Rattle.go_rules.proofs.GrowTypes.{form_more, joined_is}
-use Rattle.go_rules.proofs.LocalOperand.{has_local}
-use Rattle.go_rules.proofs.LocalParts.{call_in, map_left, parts_in}
-use Rattle.go_rules.proofs.LocalTerms.{each_has}
-use Rattle.go_rules.proofs.LocalTypes.{form_same}
+use Rattle.go_typings.specs.go_rules.Environments.{Env}
+use Rattle.go_typings.specs.go_rules.Expressions.{HasForm, Has as HasOperand, chain, unary_operator}
+use Rattle.go_typings.specs.go_rules.Growth.{Grows}
+use Rattle.go_typings.specs.go_rules.Nodes.{ExprLayer, Node, expression, expression_parts, post, post_parts}
+use Rattle.go_typings.specs.go_rules.Operands.{constant_of, type_name}
+use Rattle.go_typings.specs.go_rules.Regions.{IsClosed, RefersIn, Region, cut}
+use Rattle.go_typings.proofs.go_rules_proofs.GrowOperand.{has_form_more, has_more}
+use Rattle.go_typings.proofs.go_rules_proofs.GrowTypes.{form_more, joined_is}
+use Rattle.go_typings.proofs.go_rules_proofs.LocalOperand.{has_local}
+use Rattle.go_typings.proofs.go_rules_proofs.LocalParts.{call_in, map_left, parts_in}
+use Rattle.go_typings.proofs.go_rules_proofs.LocalTerms.{each_has}
+use Rattle.go_typings.proofs.go_rules_proofs.LocalTypes.{form_same}
 use Rattle.go_syntax.specs.declared.expression.Expr.{Expr, Expr-F, out-Expr}
 use Rattle.go_syntax.specs.declared.expression.Post.{Post}
 use Rattle.go_typings.proofs.SameReferences.{chain_local}

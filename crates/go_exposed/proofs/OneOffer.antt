@@ -17,8 +17,8 @@ use Rattle.go_model.specs.declared.types.package.Object.{Object}
 use Rattle.go_model.specs.declared.types.package.Package.{Package}
 use Rattle.go_model.specs.types.MethodSets.{sel_order}
 use Rattle.go_model.specs.worlds.Worlds.{declared_sel, name_of, object_name}
-use Rattle.go_rules.specs.Scopes.{entity_of}
-use Rattle.go_rules.proofs.OneKind.{no_truth}
+use Rattle.go_typings.specs.go_rules.Scopes.{entity_of}
+use Rattle.go_typings.proofs.go_rules_proofs.OneKind.{no_truth}
 use Rattle.go_typings.specs.PackageEnvironments.{Entries, own_defined}
 use Rattle.go_typings.specs.Sources.{PackageSource, Setting}
 use Rattle.go_typings.specs.TypedPackages.{AreOrdered, IsOrdered}

@@ -2,7 +2,7 @@
 use Rattle.std.proofs.Common.{◌≡◌, ℕ, suc, ◌<◌, ◌⊎◌, Bool, true, false, List, [], ◌∷◌, refl, sym, ap, ◌∙◌, subst, inl, inr}
 use Rattle.std.specs.Prelude.{slice_get}
 use Rattle.go_model.specs.worlds.Worlds.{Packages}
-use Rattle.go_rules.proofs.OneKind.{no_truth}
+use Rattle.go_typings.proofs.go_rules_proofs.OneKind.{no_truth}
 use Rattle.go_typings.specs.Assignments.{At}
 use Rattle.go_typings.specs.Declarations.{Declaration, declarations}
 use Rattle.go_typings.specs.PackageWorlds.{Outcome, typed, refused, blocked, no_packages, over, with_outcome}

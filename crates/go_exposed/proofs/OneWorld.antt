@@ -2,7 +2,7 @@
 use Rattle.std.proofs.Common.{◌≡◌, ℕ, suc, List, ◌∷◌, refl, sym, ap, ◌∙◌, subst}
 use Rattle.go_base.specs.Lists.{Passes}
 use Rattle.go_model.specs.worlds.Worlds.{Packages}
-use Rattle.go_rules.proofs.OneKind.{no_truth}
+use Rattle.go_typings.proofs.go_rules_proofs.OneKind.{no_truth}
 use Rattle.go_typings.specs.PackageWorlds.{Become as BecomeWhole, become_none as none_whole, become_more as more_whole, IsWorldOf as IsWorldOfWhole, Outcome, typed, refused, blocked, is_refused, is_typed, over, with_outcome}
 use Rattle.go_typings.specs.Refusals.{Refusal}
 use Rattle.go_typings.specs.Sources.{PackageSource, Setting}

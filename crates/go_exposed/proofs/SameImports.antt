@@ -3,9 +3,9 @@ use Rattle.std.proofs.Common.{◌≡◌, ℕ, Bool, [], None, refl, sym, ap, ◌
 use Rattle.go_base.specs.Keys.{first_with}
 use Rattle.go_model.specs.declared.types.package.Package.{Package}
 use Rattle.go_model.specs.worlds.Worlds.{path_of}
-use Rattle.go_rules.specs.Environments.{Env}
-use Rattle.go_rules.specs.Growth.{Grows}
-use Rattle.go_rules.specs.Regions.{IsClosed, Region, cut}
+use Rattle.go_typings.specs.go_rules.Environments.{Env}
+use Rattle.go_typings.specs.go_rules.Growth.{Grows}
+use Rattle.go_typings.specs.go_rules.Regions.{IsClosed, Region, cut}
 use Rattle.go_typings.specs.Declarations.{Form, Declaration}
 use Rattle.go_typings.specs.PackageEnvironments.{Entries, environment}
 use Rattle.go_typings.specs.ReachedPackages.{HoldImports, ReachesSame}

@@ -3,7 +3,7 @@ use Rattle.std.proofs.Common.{◌≡◌, ℕ, false, List, Option, Some, None, l
 use Rattle.go_base.specs.Lists.{Has}
 use Rattle.go_model.specs.declared.types.package.Entity.{Entity}
 use Rattle.go_model.specs.declared.types.package.Package.{Package}
-use Rattle.go_rules.proofs.OneKind.{no_truth}
+use Rattle.go_typings.proofs.go_rules_proofs.OneKind.{no_truth}
 use Rattle.go_syntax.specs.declared.name.Place.{Place}
 use Rattle.go_typings.specs.Assignments.{all_of}
 use Rattle.go_typings.specs.Declarations.{Declared, declarations, declared}

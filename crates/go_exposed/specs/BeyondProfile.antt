@@ -9,12 +9,12 @@ use Rattle.go_model.specs.declared.constants.value.Value.{Value}
 use Rattle.go_model.specs.declared.types.package.ConstTerm.{ConstTerm}
 use Rattle.go_model.specs.declared.types.term.Term.{Term, Term-F}
 use Rattle.go_model.specs.types.Underlying.{under}
-use Rattle.go_rules.specs.Environments.{Env}
-use Rattle.go_rules.specs.Expressions.{Has as HasOperand, HasForm, IsCall, OfType, chain, unary_operator}
-use Rattle.go_rules.specs.Nodes.{ExprLayer, Node, Stands, expression}
-use Rattle.go_rules.specs.Operands.{ShapeWithin, constant_of, plain, type_name}
-use Rattle.go_rules.specs.Usability.{UsableAs}
-use Rattle.go_rules.specs.declared.operand.Operand.{Operand}
+use Rattle.go_typings.specs.go_rules.Environments.{Env}
+use Rattle.go_typings.specs.go_rules.Expressions.{Has as HasOperand, HasForm, IsCall, OfType, chain, unary_operator}
+use Rattle.go_typings.specs.go_rules.Nodes.{ExprLayer, Node, Stands, expression}
+use Rattle.go_typings.specs.go_rules.Operands.{ShapeWithin, constant_of, plain, type_name}
+use Rattle.go_typings.specs.go_rules.Usability.{UsableAs}
+use Rattle.go_typings.specs.go_rules.declared.operand.Operand.{Operand}
 use Rattle.go_syntax.specs.declared.declaration.ConstSpec.{ConstSpec}
 use Rattle.go_syntax.specs.declared.expression.Expr.{Expr, Expr-F, out-Expr}
 use Rattle.go_syntax.specs.declared.expression.Literal.{Literal}

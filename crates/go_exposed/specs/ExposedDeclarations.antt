@@ -3,7 +3,7 @@
 -- standard library is seen, and what a seen one depends on, is own.
 use Rattle.std.specs.Prelude.{◌≡◌, ℕ, Bool, true, ◌&&◌, ◌||◌}
 use Rattle.std.specs.List.{list_any}
-use Rattle.go_rules.specs.Environments.{is_exported}
+use Rattle.go_typings.specs.go_rules.Environments.{is_exported}
 use Rattle.go_syntax.specs.declared.name.Name.{Name}
 use Rattle.go_typings.specs.Assignments.{At}
 use Rattle.go_typings.specs.Declarations.{Form, declarations, names_of}

@@ -2,8 +2,8 @@
 -- Public source: Go specification, "Qualified identifiers" and "Import declarations".
 use Rattle.std.specs.Prelude.{◌≡◌, true, Some}
 use Rattle.go_base.specs.Lists.{Has}
-use Rattle.go_references.specs.References.{is_selected}
-use Rattle.go_references.specs.declared.references.Reference.{Reference}
+use Rattle.go_typings.specs.go_references.References.{is_selected}
+use Rattle.go_typings.specs.go_references.declared.references.Reference.{Reference}
 use Rattle.go_typings.specs.DeclarationNodes.{references}
 use Rattle.go_typings.specs.Declarations.{Declaration}
 use Rattle.go_typings.specs.PackageEnvironments.{import_of}

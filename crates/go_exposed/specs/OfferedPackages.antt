@@ -6,7 +6,7 @@ use Rattle.go_base.specs.Lists.{Ascending}
 use Rattle.go_model.specs.declared.types.package.Entity.{Entity}
 use Rattle.go_model.specs.declared.types.package.Package.{Package}
 use Rattle.go_model.specs.worlds.Worlds.{name_of, object_name}
-use Rattle.go_rules.specs.Scopes.{entity_of}
+use Rattle.go_typings.specs.go_rules.Scopes.{entity_of}
 use Rattle.go_syntax.specs.declared.name.Place.{Place}
 use Rattle.go_typings.specs.Declarations.{Declared, declared, declarations}
 use Rattle.go_typings.specs.PackageEnvironments.{Entries, Entry, entity_by, own_defined}

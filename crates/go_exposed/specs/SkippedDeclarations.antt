@@ -1,7 +1,7 @@
 -- What is left out of a package, and why, declaration by declaration.
 -- Own.
 use Rattle.std.specs.Prelude.{◌≡◌, ℕ, suc, Bool, true, false, List, [], ◌∷◌}
-use Rattle.go_rules.specs.Asks.{texts}
+use Rattle.go_typings.specs.go_rules.Asks.{texts}
 use Rattle.go_syntax.specs.declared.name.Place.{Place}
 use Rattle.go_typings.specs.Declarations.{Declaration, declarations}
 use Rattle.go_typings.specs.Refusals.{place_of}

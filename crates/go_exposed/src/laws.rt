@@ -7,7 +7,7 @@ ghost use Rattle.go_model.specs.declared.types.package.Defined.{Defined};
 ghost use Rattle.go_model.specs.declared.types.package.Package.{Package};
 ghost use Rattle.go_model.specs.worlds.PackageTypes.{package_names};
 ghost use Rattle.go_model.specs.worlds.Worlds.{Packages, name_of, object_name, path_of, type_object};
-ghost use Rattle.go_rules.specs.Scopes.{entity_of};
+ghost use Rattle.go_typings.specs.go_rules.Scopes.{entity_of};
 ghost use Rattle.go_syntax.specs.declared.name.Place.{Place};
 ghost use Rattle.go_typings.specs.Assignments.{At, all_of};
 ghost use Rattle.go_typings.specs.Declarations.{Declared, declarations, declared};

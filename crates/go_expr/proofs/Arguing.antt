@@ -9,16 +9,16 @@ use Rattle.go_rules.specs.Nodes.{ExprLayer, TypeLayer, expression}
 use Rattle.go_rules.specs.Operands.{type_name}
 use Rattle.go_rules.specs.declared.operand.Operand.{Operand}
 use Rattle.go_rules.proofs.OneOperand.{has_once, type_once}
-use Rattle.go_selectors.proofs.Lists.{drop_all, drop_next}
+use Rattle.go_calls.proofs.go_selectors_proofs.Lists.{drop_all, drop_next}
 use Rattle.go_syntax.specs.declared.expression.Expr.{Expr, Expr-F, out-Expr}
 use Rattle.go_syntax.specs.declared.expression.Expr.TheVariants.{outs-Type}
 use Rattle.go_syntax.specs.declared.types.«Type».{«Type» as Typ, «Type-F» as Typ-F, «out-Type» as out-Typ}
 use Rattle.go_syntax.specs.declared.types.«Type».TheVariants as type
 use Rattle.go_syntax.specs.declared.types.«Type».TheVariants.{outs-ReceiveChan}
-use Rattle.go_type_terms.specs.Loudness.{AreLoud}
-use Rattle.go_type_terms.specs.Results.{IsChannelOf}
-use Rattle.go_type_terms.proofs.LoudTrees.{none_loud}
-use Rattle.go_operations.proofs.Walks.{Walk, set_out, walk_on, arrived}
+use Rattle.go_literals.specs.go_type_terms.Loudness.{AreLoud}
+use Rattle.go_literals.specs.go_type_terms.Results.{IsChannelOf}
+use Rattle.go_literals.proofs.go_type_terms_proofs.LoudTrees.{none_loud}
+use Rattle.go_literals.proofs.go_operations_proofs.Walks.{Walk, set_out, walk_on, arrived}
 use Rattle.go_expr.specs.Arguments.{HasEachAfter, receive_type}
 
 module _ (E : Env) where

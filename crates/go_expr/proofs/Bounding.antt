@@ -8,8 +8,8 @@ use Rattle.go_model.specs.types.Bounds.{IsWithinBounds}
 use Rattle.go_rules.specs.Operands.{ConstWithin, ShapeWithin}
 use Rattle.go_rules.specs.declared.operand.Shape.{Shape}
 use Rattle.go_rules.specs.declared.operand.Shape.TheVariants as shape
-use Rattle.go_selectors.specs.Answers.{Decides}
-use Rattle.go_selectors.proofs.Lists.{drop_all, drop_next}
+use Rattle.go_calls.specs.go_selectors.Answers.{Decides}
+use Rattle.go_calls.proofs.go_selectors_proofs.Lists.{drop_all, drop_next}
 
 pub decides : (P : Type 0) (b : Bool) → (IsTrue b ↔ P) → Decides b P
 decides P true d = d.0 refl

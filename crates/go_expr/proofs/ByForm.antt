@@ -19,15 +19,15 @@ use Rattle.go_syntax.specs.declared.expression.Literal.{Literal}
 use Rattle.go_syntax.specs.declared.name.Name.{Name}
 use Rattle.go_syntax.specs.declared.types.Signature.{Signature}
 use Rattle.go_syntax.specs.declared.types.«Type».{«Type» as Typ}
-use Rattle.go_type_terms.specs.Answers.{Tells, Types}
-use Rattle.go_type_terms.specs.Loudness.{AreLoud}
-use Rattle.go_type_terms.specs.declared.error.ExprError.{ExprError}
-use Rattle.go_type_terms.specs.declared.error.ExprError.TheVariants.{NoMemory, Untyped}
-use Rattle.go_type_terms.proofs.LoudTrees.{none_loud}
-use Rattle.go_operations.specs.Chains.{ChainsFrom}
-use Rattle.go_operations.specs.declared.operators.Operator.TheVariants as operator
-use Rattle.go_operations.proofs.Chaining.{to_or, in_or, to_and, in_and, to_compare, in_compare, to_sum, in_sum, to_product, in_product}
-use Rattle.go_operations.proofs.LoudForms.{IsPlainForm, form_loud}
+use Rattle.go_literals.specs.go_type_terms.Answers.{Tells, Types}
+use Rattle.go_literals.specs.go_type_terms.Loudness.{AreLoud}
+use Rattle.go_literals.specs.go_type_terms.declared.error.ExprError.{ExprError}
+use Rattle.go_literals.specs.go_type_terms.declared.error.ExprError.TheVariants.{NoMemory, Untyped}
+use Rattle.go_literals.proofs.go_type_terms_proofs.LoudTrees.{none_loud}
+use Rattle.go_literals.specs.go_operations.Chains.{ChainsFrom}
+use Rattle.go_literals.specs.go_operations.declared.operators.Operator.TheVariants as operator
+use Rattle.go_literals.proofs.go_operations_proofs.Chaining.{to_or, in_or, to_and, in_and, to_compare, in_compare, to_sum, in_sum, to_product, in_product}
+use Rattle.go_literals.proofs.go_operations_proofs.LoudForms.{IsPlainForm, form_loud}
 
 module _ (E : Env) (e : Expr) where
   abbrev pub Formed : Result (Operand × Bool) ExprError → Type 0

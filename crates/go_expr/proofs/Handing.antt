@@ -12,13 +12,13 @@ use Rattle.go_syntax.specs.declared.name.Name.{Name}
 use denote.Ref.{Bor}
 use Rattle.go_model.specs.declared.types.term.Term.{Term}
 use Rattle.go_syntax.specs.declared.expression.Element.{Element}
-use Rattle.go_type_terms.specs.Answers.{Tells, Types, TypesPart}
-use Rattle.go_type_terms.specs.Loudness.{AreLoud}
-use Rattle.go_type_terms.specs.declared.part.Answer.TheVariants as answer
-use Rattle.go_type_terms.specs.declared.part.Part.{Part}
-use Rattle.go_type_terms.specs.declared.part.Part.TheVariants as part
-use Rattle.go_type_terms.specs.declared.error.ExprError.{ExprError}
-use Rattle.go_type_terms.specs.declared.error.ExprError.TheVariants.{NoMemory, Untyped}
+use Rattle.go_literals.specs.go_type_terms.Answers.{Tells, Types, TypesPart}
+use Rattle.go_literals.specs.go_type_terms.Loudness.{AreLoud}
+use Rattle.go_literals.specs.go_type_terms.declared.part.Answer.TheVariants as answer
+use Rattle.go_literals.specs.go_type_terms.declared.part.Part.{Part}
+use Rattle.go_literals.specs.go_type_terms.declared.part.Part.TheVariants as part
+use Rattle.go_literals.specs.go_type_terms.declared.error.ExprError.{ExprError}
+use Rattle.go_literals.specs.go_type_terms.declared.error.ExprError.TheVariants.{NoMemory, Untyped}
 use Rattle.go_expr.specs.Imports.{ImportedWithin}
 use Rattle.go_expr.specs.Posts.{PostsTyped, QualifiedTyped, UnqualifiedTyped}
 use Rattle.go_expr.proofs.Parts.{post_loud}

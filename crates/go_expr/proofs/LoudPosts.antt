@@ -9,9 +9,9 @@ use Rattle.go_rules.specs.declared.operand.Operand.{Operand}
 use Rattle.go_syntax.specs.declared.expression.Expr.{Expr, Expr-F, out-Expr}
 use Rattle.go_syntax.specs.declared.expression.Post.{Post, Post-F, out-Post}
 use Rattle.go_syntax.specs.declared.name.Name.{Name}
-use Rattle.go_type_terms.specs.Loudness.{AreLoud, Loud, loud_call, Quiet}
-use Rattle.go_type_terms.proofs.LoudTrees.{none_loud}
-use Rattle.go_operations.proofs.LoudForms.{alone_loud, alone_quiet, form_loud, quiet_by_parts, raised}
+use Rattle.go_literals.specs.go_type_terms.Loudness.{AreLoud, Loud, loud_call, Quiet}
+use Rattle.go_literals.proofs.go_type_terms_proofs.LoudTrees.{none_loud}
+use Rattle.go_literals.proofs.go_operations_proofs.LoudForms.{alone_loud, alone_quiet, form_loud, quiet_by_parts, raised}
 use Rattle.go_expr.specs.Imports.{ImportedWithin}
 use Rattle.go_expr.specs.Posts.{IsStep, Ran, ran_none, ran_more, is_loud_call}
 use Rattle.go_expr.proofs.CallKinds.{call_is, call_of, constant_called, loud_parts, quiet_parts, type_called}

@@ -14,9 +14,9 @@ use Rattle.go_syntax.specs.declared.name.Name.{Name}
 use Rattle.go_syntax.specs.declared.types.«Type».{«Type» as Typ, «Type-F» as Typ-F, «out-Type» as out-Typ}
 use Rattle.go_syntax.specs.declared.types.«Type».TheVariants as type
 use Rattle.go_syntax.specs.declared.types.«Type».TheVariants.{outs-ReceiveChan}
-use Rattle.go_type_terms.specs.Loudness.{AreLoud, Loud, loud_receive, loud_call, Quiet}
-use Rattle.go_type_terms.proofs.LoudTrees.{none_loud, parts_loud}
-use Rattle.go_operations.proofs.LoudForms.{form_loud}
+use Rattle.go_literals.specs.go_type_terms.Loudness.{AreLoud, Loud, loud_receive, loud_call, Quiet}
+use Rattle.go_literals.proofs.go_type_terms_proofs.LoudTrees.{none_loud, parts_loud}
+use Rattle.go_literals.proofs.go_operations_proofs.LoudForms.{form_loud}
 use Rattle.go_expr.specs.Arguments.{receive_type}
 
 no_expression : (x : Post) (e : Expr) → post x ≡ expression e → ⊥

@@ -13,11 +13,11 @@ use Rattle.go_rules.proofs.OneName.{one_imported}
 use Rattle.go_syntax.specs.declared.expression.Expr.{Expr, Expr-F, out-Expr}
 use Rattle.go_syntax.specs.declared.expression.Post.{Post, Post-F, out-Post}
 use Rattle.go_syntax.specs.declared.name.Name.{Name}
-use Rattle.go_type_terms.specs.Answers.{Types}
-use Rattle.go_type_terms.specs.Loudness.{AreLoud, Quiet}
-use Rattle.go_type_terms.specs.declared.error.ExprError.{ExprError}
-use Rattle.go_type_terms.specs.declared.error.ExprError.TheVariants.{NoMemory, Untyped}
-use Rattle.go_operations.proofs.Typed.{none_some, one_some}
+use Rattle.go_literals.specs.go_type_terms.Answers.{Types}
+use Rattle.go_literals.specs.go_type_terms.Loudness.{AreLoud, Quiet}
+use Rattle.go_literals.specs.go_type_terms.declared.error.ExprError.{ExprError}
+use Rattle.go_literals.specs.go_type_terms.declared.error.ExprError.TheVariants.{NoMemory, Untyped}
+use Rattle.go_literals.proofs.go_operations_proofs.Typed.{none_some, one_some}
 use Rattle.go_expr.specs.Imports.{ImportedWithin, IsQualified}
 use Rattle.go_expr.specs.Posts.{QualifiedTyped, UnqualifiedTyped, Ran}
 use Rattle.go_expr.proofs.ImportedNames.{one_name, one_selector}

@@ -7,10 +7,10 @@ use Rattle.go_rules.specs.declared.operand.Operand.{Operand}
 use Rattle.go_rules.proofs.OneOperand.{post_once}
 use Rattle.go_syntax.specs.declared.expression.Post.{Post, out-Post}
 use Rattle.std.specs.Result.{IsErrAnd}
-use Rattle.go_selectors.proofs.Lists.{drop_all, drop_next}
-use Rattle.go_type_terms.proofs.Gone.{or_false, or_or}
-use Rattle.go_type_terms.specs.declared.error.ExprError.{ExprError}
-use Rattle.go_type_terms.specs.declared.error.ExprError.TheVariants.{NoMemory, Untyped}
+use Rattle.go_calls.proofs.go_selectors_proofs.Lists.{drop_all, drop_next}
+use Rattle.go_literals.proofs.go_type_terms_proofs.Gone.{or_false, or_or}
+use Rattle.go_literals.specs.go_type_terms.declared.error.ExprError.{ExprError}
+use Rattle.go_literals.specs.go_type_terms.declared.error.ExprError.TheVariants.{NoMemory, Untyped}
 use Rattle.go_expr.specs.Posts.{IsStep, PostsTyped, Ran, ran_none, ran_more, StepTyped}
 
 module _ (E : Env) where

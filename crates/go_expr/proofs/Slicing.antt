@@ -10,10 +10,10 @@ use Rattle.go_rules.specs.declared.operand.Operand.{Operand}
 use Rattle.go_rules.proofs.OneOperand.{has_once}
 use Rattle.go_syntax.specs.declared.expression.Expr.{Expr}
 use Rattle.go_syntax.specs.declared.expression.Post.{Post-F}
-use Rattle.go_elements.specs.SliceExpressions.{HasWhere, where_left_out, where_given, SlicesFully, SlicesSimply}
-use Rattle.go_elements.proofs.Posts.{full_slices_post, post_full_slices, post_slices, slices_post}
-use Rattle.go_type_terms.specs.Loudness.{AreLoud}
-use Rattle.go_type_terms.proofs.LoudTrees.{none_loud}
+use Rattle.go_calls.specs.go_elements.SliceExpressions.{HasWhere, where_left_out, where_given, SlicesFully, SlicesSimply}
+use Rattle.go_calls.proofs.go_elements_proofs.Posts.{full_slices_post, post_full_slices, post_slices, slices_post}
+use Rattle.go_literals.specs.go_type_terms.Loudness.{AreLoud}
+use Rattle.go_literals.proofs.go_type_terms_proofs.LoudTrees.{none_loud}
 
 -- what is borrowed
 pub borrowed : (r : Option (Bor Operand)) (l : Option Operand) → option_copied r ≡ l → item_of r ≡ l

@@ -9,9 +9,9 @@ use Rattle.go_rules.specs.declared.operand.Operand.{Operand}
 use Rattle.go_syntax.specs.declared.expression.Expr.{Expr}
 use Rattle.go_syntax.specs.declared.expression.Post.{Post, Post-F, out-Post}
 use Rattle.go_syntax.specs.declared.name.Name.{Name}
-use Rattle.go_type_terms.specs.Loudness.{AreLoud}
-use Rattle.go_type_terms.specs.declared.error.ExprError.{ExprError}
-use Rattle.go_type_terms.specs.declared.error.ExprError.TheVariants.{NoMemory, Untyped}
+use Rattle.go_literals.specs.go_type_terms.Loudness.{AreLoud}
+use Rattle.go_literals.specs.go_type_terms.declared.error.ExprError.{ExprError}
+use Rattle.go_literals.specs.go_type_terms.declared.error.ExprError.TheVariants.{NoMemory, Untyped}
 use Rattle.go_expr.specs.Imports.{ImportedWithin}
 
 -- a call

@@ -3,20 +3,20 @@ ghost use Rattle.std.specs.Prelude.{◌∷◌, [], map};
 ghost use Rattle.go_expr.specs.Arguments.{HasEachAfter, receive_type};
 ghost use Rattle.go_rules.specs.Expressions.{Has, HasEach};
 ghost use Rattle.go_rules.specs.Nodes.{expression, type as type_node};
-ghost use Rattle.go_type_terms.specs.Answers.{Types, TypesBelow, env_in};
+ghost use Rattle.go_literals.specs.go_type_terms.Answers.{Types, TypesBelow, env_in};
 
 use crate::exprs::Exprs;
 use go_base::list::List;
+use go_calls::go_operators::operands::type_name;
+use go_calls::go_usability::context::Context;
+use go_literals::go_type_terms::error::ExprError;
+use go_literals::go_type_terms::loud::either;
+use go_literals::go_type_terms::part::{Answer, Part};
 use go_model::types::bounds::is_within_bounds;
 use go_model::types::term::Direction;
-use go_operators::operands::type_name;
 use go_rules::operand::Operand;
 use go_syntax::expression::Expr;
 use go_syntax::types::Type;
-use go_type_terms::error::ExprError;
-use go_type_terms::loud::either;
-use go_type_terms::part::{Answer, Part};
-use go_usability::context::Context;
 use std::alloc::Global;
 
 impl<'a, F: Fn(&Context<'_>, Global, usize, Part<'_>) -> Result<Answer, ExprError>> Exprs<'a, F> {

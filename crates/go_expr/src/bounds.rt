@@ -3,7 +3,7 @@ ghost use Rattle.std.specs.Prelude.{◌≡◌};
 ghost use Rattle.go_base.specs.Lists.{Each};
 ghost use Rattle.go_model.specs.types.Bounds.{IsWithinBounds};
 ghost use Rattle.go_rules.specs.Operands.{ConstWithin, ShapeWithin};
-ghost use Rattle.go_selectors.specs.Answers.{Decides};
+ghost use Rattle.go_calls.specs.go_selectors.Answers.{Decides};
 
 use go_model::types::bounds::is_within_bounds;
 use go_model::types::package::ConstTerm;

@@ -4,16 +4,16 @@ ghost use Rattle.go_calls.specs.Calls.{Calls};
 ghost use Rattle.go_rules.specs.Expressions.{HasPost};
 ghost use Rattle.go_rules.specs.Nodes.{expression, type as type_node};
 ghost use Rattle.go_syntax.specs.declared.expression.Post.{Post-F};
-ghost use Rattle.go_type_terms.specs.Answers.{Tells, Types, TypesBelow, env_in};
+ghost use Rattle.go_literals.specs.go_type_terms.Answers.{Tells, Types, TypesBelow, env_in};
 
 use crate::exprs::Exprs;
 use go_calls::calls::call;
+use go_calls::go_usability::context::Context;
+use go_literals::go_type_terms::error::ExprError;
+use go_literals::go_type_terms::part::{Answer, Part};
 use go_rules::operand::Operand;
 use go_syntax::expression::Expr;
 use go_syntax::types::Type;
-use go_type_terms::error::ExprError;
-use go_type_terms::part::{Answer, Part};
-use go_usability::context::Context;
 use std::alloc::Global;
 
 // What a call of an operand with these arguments is.

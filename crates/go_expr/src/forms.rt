@@ -3,22 +3,22 @@ ghost use Rattle.std.specs.Prelude.{◌≡◌, ◌∷◌, []};
 ghost use Rattle.go_rules.specs.Expressions.{Has, HasForm};
 ghost use Rattle.go_rules.specs.Nodes.{expression};
 ghost use Rattle.go_syntax.specs.declared.expression.Expr.{Expr, Expr-F, out-Expr};
-ghost use Rattle.go_type_terms.specs.Answers.{Types, TypesBelow, env_in};
+ghost use Rattle.go_literals.specs.go_type_terms.Answers.{Types, TypesBelow, env_in};
 
 use crate::bounds::is_within;
 use crate::exprs::Exprs;
 use go_base::operator::PrefixOperator;
+use go_calls::go_usability::context::Context;
+use go_literals::go_operations::literals::literal;
+use go_literals::go_operations::names::named;
+use go_literals::go_operations::operators::Operators;
+use go_literals::go_operations::prefixes::is_receive;
+use go_literals::go_type_terms::error::ExprError;
+use go_literals::go_type_terms::loud::either;
+use go_literals::go_type_terms::part::{Answer, Part};
 use go_model::constants::value::BinaryOp;
-use go_operations::literals::literal;
-use go_operations::names::named;
-use go_operations::operators::Operators;
-use go_operations::prefixes::is_receive;
 use go_rules::operand::Operand;
 use go_syntax::expression::Expr;
-use go_type_terms::error::ExprError;
-use go_type_terms::loud::either;
-use go_type_terms::part::{Answer, Part};
-use go_usability::context::Context;
 use std::alloc::Global;
 
 impl<'a, F: Fn(&Context<'_>, Global, usize, Part<'_>) -> Result<Answer, ExprError>> Exprs<'a, F> {

@@ -4,13 +4,13 @@ ghost use Rattle.go_base.specs.Keys.{item_of};
 ghost use Rattle.go_expr.specs.Imports.{IsQualified, names_of};
 ghost use Rattle.go_syntax.specs.declared.expression.Expr.{Expr-F, out-Expr};
 ghost use Rattle.go_syntax.specs.declared.expression.Post.{Post-F, out-Post};
-ghost use Rattle.go_type_terms.specs.Answers.{env_in};
-ghost use Rattle.go_usability.specs.Answers.{Gives};
+ghost use Rattle.go_literals.specs.go_type_terms.Answers.{env_in};
+ghost use Rattle.go_calls.specs.go_usability.Answers.{Gives};
 
-use go_operations::names::names_import;
+use go_calls::go_usability::context::Context;
+use go_literals::go_operations::names::names_import;
 use go_syntax::expression::{Expr, Post};
 use go_syntax::name::Name;
-use go_usability::context::Context;
 
 // The name that an expression is.
 fn name_alone(expr: &Expr) -> Option<&Name>

@@ -1,16 +1,16 @@
 //! The typing of trees up to a height.
 ghost use Rattle.go_expr.specs.Posts.{StepTyped};
-ghost use Rattle.go_type_terms.specs.Answers.{TypesBelow, TypesPart, env_in};
+ghost use Rattle.go_literals.specs.go_type_terms.Answers.{TypesBelow, TypesPart, env_in};
 
 use crate::exprs::Exprs;
+use go_calls::go_usability::context::Context;
+use go_literals::go_operations::operations::Operations;
+use go_literals::go_type_terms::error::ExprError;
+use go_literals::go_type_terms::part::{Answer, Part};
+use go_literals::go_type_terms::typing::Typing;
 use go_literals::values::Literals;
-use go_operations::operations::Operations;
 use go_rules::operand::Operand;
 use go_syntax::expression::Post;
-use go_type_terms::error::ExprError;
-use go_type_terms::part::{Answer, Part};
-use go_type_terms::typing::Typing;
-use go_usability::context::Context;
 use std::alloc::Global;
 
 impl<'a, F: Fn(&Context<'_>, Global, usize, Part<'_>) -> Result<Answer, ExprError>> Exprs<'a, F> {

@@ -1,25 +1,25 @@
 //! One post after an operand: a selector, a type assertion, an index, a slice or a call.
 ghost use Rattle.std.specs.Prelude.{◌∷◌, [], ◌++◌};
-ghost use Rattle.go_elements.specs.SliceExpressions.{HasWhere};
+ghost use Rattle.go_calls.specs.go_elements.SliceExpressions.{HasWhere};
 ghost use Rattle.go_rules.specs.Expressions.{HasPost};
 ghost use Rattle.go_rules.specs.Nodes.{expression, optional, post as post_node, type as type_node};
 ghost use Rattle.go_syntax.specs.declared.expression.Post.{Post-F, out-Post};
-ghost use Rattle.go_type_terms.specs.Answers.{Tells, Types, TypesBelow, env_in};
+ghost use Rattle.go_literals.specs.go_type_terms.Answers.{Tells, Types, TypesBelow, env_in};
 
 use crate::exprs::Exprs;
 use go_base::boxed::Box;
-use go_elements::assertions::assertion;
-use go_elements::elements::index;
-use go_elements::selections::select;
-use go_elements::slices::{full_slice, slice};
+use go_calls::go_elements::assertions::assertion;
+use go_calls::go_elements::elements::index;
+use go_calls::go_elements::selections::select;
+use go_calls::go_elements::slices::{full_slice, slice};
+use go_calls::go_usability::context::Context;
+use go_literals::go_type_terms::error::ExprError;
+use go_literals::go_type_terms::loud::either;
+use go_literals::go_type_terms::part::{Answer, Part};
 use go_rules::operand::Operand;
 use go_syntax::expression::{Expr, Post};
 use go_syntax::name::Name;
 use go_syntax::types::Type;
-use go_type_terms::error::ExprError;
-use go_type_terms::loud::either;
-use go_type_terms::part::{Answer, Part};
-use go_usability::context::Context;
 use std::alloc::Global;
 
 // A selector.

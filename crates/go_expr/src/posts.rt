@@ -3,16 +3,16 @@ ghost use Rattle.std.specs.Prelude.{◌≡◌, ◌∷◌, []};
 ghost use Rattle.go_expr.specs.Posts.{PostsTyped, StepTyped, is_call, is_loud_call};
 ghost use Rattle.go_rules.specs.Expressions.{is_constant, is_type};
 ghost use Rattle.go_syntax.specs.declared.expression.Post.{out-Post};
-ghost use Rattle.go_type_terms.specs.Answers.{TypesBelow, env_in};
+ghost use Rattle.go_literals.specs.go_type_terms.Answers.{TypesBelow, env_in};
 
 use crate::bounds::is_within;
 use crate::exprs::Exprs;
+use go_calls::go_usability::context::Context;
+use go_literals::go_type_terms::error::ExprError;
+use go_literals::go_type_terms::loud::either;
+use go_literals::go_type_terms::part::{Answer, Part};
 use go_rules::operand::{Mode, Operand};
 use go_syntax::expression::Post;
-use go_type_terms::error::ExprError;
-use go_type_terms::loud::either;
-use go_type_terms::part::{Answer, Part};
-use go_usability::context::Context;
 use std::alloc::Global;
 
 fn is_call(post: &Post) -> bool

@@ -5,19 +5,19 @@ ghost use Rattle.go_expr.specs.Posts.{QualifiedTyped, UnqualifiedTyped};
 ghost use Rattle.go_rules.specs.Expressions.{HasForm};
 ghost use Rattle.go_rules.specs.Nodes.{expression};
 ghost use Rattle.go_syntax.specs.declared.expression.Expr.{Expr, Expr-F, out-Expr};
-ghost use Rattle.go_type_terms.specs.Answers.{Tells, Types, TypesBelow, env_in};
+ghost use Rattle.go_literals.specs.go_type_terms.Answers.{Tells, Types, TypesBelow, env_in};
 
 use crate::bounds::is_within;
 use crate::exprs::Exprs;
 use crate::imports::imported_name;
-use go_operations::names::imported;
+use go_calls::go_usability::context::Context;
+use go_literals::go_operations::names::imported;
+use go_literals::go_type_terms::error::ExprError;
+use go_literals::go_type_terms::loud::either;
+use go_literals::go_type_terms::part::{Answer, Part};
 use go_rules::operand::Operand;
 use go_syntax::expression::{Expr, Post};
 use go_syntax::name::Name;
-use go_type_terms::error::ExprError;
-use go_type_terms::loud::either;
-use go_type_terms::part::{Answer, Part};
-use go_usability::context::Context;
 use std::alloc::Global;
 
 /// What a name of an imported package denotes, within bounds.

@@ -2,19 +2,19 @@
 ghost use Rattle.go_expr.specs.Chains.{Makes, NamesImported};
 ghost use Rattle.go_rules.specs.Expressions.{Has, OfSignature, OfType};
 ghost use Rattle.go_syntax.specs.declared.types.Signature.{out-Signature};
-ghost use Rattle.go_type_terms.specs.Answers.{Tells, env_in};
+ghost use Rattle.go_literals.specs.go_type_terms.Answers.{Tells, env_in};
 
 use crate::imports::imported_name;
 use crate::levels::{below, step_below};
 use crate::primary::imported_within;
+use go_calls::go_usability::context::Context;
+use go_literals::go_type_terms::error::ExprError;
+use go_literals::go_type_terms::part::{Answer, Part};
+use go_literals::go_type_terms::typing::Typing;
 use go_model::types::term::{Signature as Signed, Term};
 use go_rules::operand::Operand;
 use go_syntax::expression::{Expr, Post};
 use go_syntax::types::{Signature, Type};
-use go_type_terms::error::ExprError;
-use go_type_terms::part::{Answer, Part};
-use go_type_terms::typing::Typing;
-use go_usability::context::Context;
 use std::alloc::Global;
 
 // More than how deep a tree of the parser's goes.

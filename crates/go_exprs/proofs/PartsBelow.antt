@@ -2,13 +2,13 @@
 use Rattle.std.proofs.Common.{◌≡◌, ℕ, suc, List, Result, Err, sym, subst, refl}
 use Rattle.go_syntax.specs.declared.token.Token.{Token}
 use Rattle.go_syntax.specs.grammar.Terminals.{Terminal}
-use Rattle.go_cursor.specs.declared.error.ParseError.{ParseError}
-use Rattle.go_cursor.specs.declared.error.ParseError.TheVariants.{Syntax}
+use Rattle.go_descent.specs.go_cursor.declared.error.ParseError.{ParseError}
+use Rattle.go_descent.specs.go_cursor.declared.error.ParseError.TheVariants.{Syntax}
 use Rattle.go_descent.specs.declared.grammar.Part.{Part}
 use Rattle.go_descent.specs.declared.grammar.Part.TheVariants as part
 use Rattle.go_descent.specs.declared.grammar.PartTree.{PartTree}
 use Rattle.go_descent.specs.Rules.{Parts, no_parts, whole_parts}
-use Rattle.go_cursor.specs.Skipping.{skipped_body}
+use Rattle.go_descent.specs.go_cursor.Skipping.{skipped_body}
 use Rattle.go_descent.specs.Levels.{levels}
 use Rattle.go_descent.specs.Parts.{ReadsPart}
 use Rattle.go_descent.proofs.Heights.{bottom, higher}

@@ -2,19 +2,19 @@
 ghost use Rattle.std.specs.Prelude.{◌≡◌, IfOk};
 ghost use Rattle.go_syntax.specs.grammar.Grammar as grammar;
 ghost use Rattle.go_syntax.specs.grammar.Terminals.{terminals};
-ghost use Rattle.go_cursor.specs.Reads.{Reads};
+ghost use Rattle.go_descent.specs.go_cursor.Reads.{Reads};
 ghost use Rattle.go_descent.specs.Levels.{levels};
 ghost use Rattle.go_descent.specs.Parts.{ReadsBelow};
 ghost use Rattle.go_descent.specs.Rules as rules;
 
-use go_base::memory::NoMemory;
-use go_cursor::cursor::Cursor;
-use go_cursor::error::ParseError;
+use go_descent::go_cursor::cursor::Cursor;
+use go_descent::go_cursor::error::ParseError;
 use go_descent::grammar::{Grammar, Part, PartTree};
 use go_operand_exprs::operands::OperandExprs;
 use go_operator_exprs::operators::OperatorExprs;
 use go_posts::posts::Posts;
 use go_syntax::expression::Expr;
+use go_syntax::go_base::memory::NoMemory;
 use go_syntax::held::expression::{HeldExpr, HeldPosts, boxed_expr};
 use std::alloc::Global;
 

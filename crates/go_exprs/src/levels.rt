@@ -4,17 +4,17 @@ ghost use Rattle.go_syntax.specs.grammar.Terminals.{terminals};
 ghost use Rattle.go_descent.specs.Levels.{levels};
 ghost use Rattle.go_descent.specs.Parts.{ReadsBelow, ReadsPart};
 ghost use Rattle.go_descent.specs.Rules as rules;
-ghost use Rattle.go_cursor.specs.Skipping.{skipped_body};
+ghost use Rattle.go_descent.specs.go_cursor.Skipping.{skipped_body};
 
 use crate::exprs::{expr, unary_expr};
-use go_cursor::cursor::Cursor;
-use go_cursor::error::ParseError;
+use go_descent::go_cursor::cursor::Cursor;
+use go_descent::go_cursor::error::ParseError;
 use go_descent::grammar::{Grammar, Part, PartTree};
+use go_operand_exprs::go_type_exprs::types::TypeExprs;
 use go_operand_exprs::operands::OperandExprs;
 use go_signatures::signatures::Signatures;
 use go_syntax::held::expression::HeldExpr;
 use go_syntax::held::types::{HeldSignature, HeldType};
-use go_type_exprs::types::TypeExprs;
 use std::alloc::Global;
 
 /// A part whose own parts are of lower heights.

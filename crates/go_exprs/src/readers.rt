@@ -1,15 +1,16 @@
 //! The readers of types and expressions, for the crates above. The body of a function literal is skipped.
 ghost use Rattle.std.specs.Prelude.{◌≡◌, ◌≤◌};
 ghost use Rattle.go_syntax.specs.grammar.Terminals.{terminals};
-ghost use Rattle.go_cursor.specs.Reads.{Reads};
+ghost use Rattle.go_descent.specs.go_cursor.Reads.{Reads};
 ghost use Rattle.go_descent.specs.Levels.{levels};
 ghost use Rattle.go_descent.specs.Rules as rules;
 
 use crate::exprs::{expr, primary_expr, unary_expr};
 use crate::levels::below;
-use go_cursor::cursor::Cursor;
-use go_cursor::error::ParseError;
+use go_descent::go_cursor::cursor::Cursor;
+use go_descent::go_cursor::error::ParseError;
 use go_descent::grammar::Grammar;
+use go_operand_exprs::go_type_exprs::types::TypeExprs;
 use go_posts::posts::Posts;
 use go_signatures::signatures::Signatures;
 use go_syntax::body::BodyRange;
@@ -17,7 +18,6 @@ use go_syntax::expression::Expr;
 use go_syntax::held::expression::HeldExprs;
 use go_syntax::held::types::HeldParameters;
 use go_syntax::types::{Signature, Type};
-use go_type_exprs::types::TypeExprs;
 use std::alloc::Global;
 
 /// The readers of trees of a height below this, and of those that have such trees as parts. A greater height would

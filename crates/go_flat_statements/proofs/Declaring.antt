@@ -1,8 +1,8 @@
 -- What is found in the specs of a declaration in a function, spec by spec.
 use Rattle.std.proofs.Common.{inl, inr, ◌≡◌, ◌⊎◌, ◌≤◌, ◌<◌, ◌+◌, ℕ, zero, suc, Bool, true, false, ◌&&◌, List, [], ◌∷◌, ◌++◌, length, drop, get_or, map, Option, None, Some, refl, sym, ap, subst, arith}
 use Rattle.go_declarations.specs.declared.listing.Declaration.{Declaration}
-use Rattle.go_entries.specs.declared.entry.Entry.{Entry}
-use Rattle.go_entries.specs.declared.entry.Entry.TheVariants as entry
+use Rattle.go_assignments.specs.go_entries.declared.entry.Entry.{Entry}
+use Rattle.go_assignments.specs.go_entries.declared.entry.Entry.TheVariants as entry
 use Rattle.go_flat_statements.proofs.MetTrees.{met_parts, met_whole}
 use Rattle.go_judged.specs.Judging.{Judges, JudgesTo, tested, with_test}
 use Rattle.go_judged.specs.declared.judged.Judged.{Judged}

@@ -1,3 +1,4 @@
+pub use Rattle.go_walks.proofs as go_walks_proofs
 pub mod MetTrees
 pub mod FlatKinds
 pub mod Defining

@@ -15,11 +15,11 @@ ghost use Rattle.go_typings.specs.PackageEnvironments.{iota_of};
 ghost use Rattle.go_usability.specs.Answers.{Gives};
 ghost use Rattle.go_walks.specs.Below.{RunsBelow};
 
+use go_assignments::go_entries::entry::Entry;
 use go_base::list::List;
 use go_base::memory::NoMemory;
 use go_declarations::form::Form;
 use go_declarations::listing::Declaration;
-use go_entries::entry::Entry;
 use go_judged::judged::Judged;
 use go_local_scopes::declaring::declare_all;
 use go_local_scopes::slots::{push_entities, push_names};

@@ -1,6 +1,8 @@
 //! The typing of statements without statements in them, but for those of function literals.
 #![tactic(auto)]
 
+pub use go_walks;
+
 pub mod declared;
 pub mod defined;
 mod fitting;

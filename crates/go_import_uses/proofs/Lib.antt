@@ -1,3 +1,4 @@
+pub use Rattle.go_beyond.proofs as go_beyond_proofs
 pub mod NamedImports
 pub mod OneOf
 pub mod Selected

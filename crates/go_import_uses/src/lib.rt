@@ -1,6 +1,8 @@
 //! Which declarations of a package select from imports that aren't found.
 #![tactic(auto)]
 
+pub use go_beyond;
+
 mod imports;
 pub mod missing;
 pub mod needed;

@@ -5,13 +5,13 @@ use Rattle.std.specs.List.{list_any}
 use Rattle.std.specs.BTreeMap.{is_at}
 use Rattle.go_base.specs.Lists.{Has}
 use Rattle.go_base.specs.Growing.{Grows}
-use Rattle.go_syntax.specs.declared.declaration.ConstSpec.{ConstSpec}
-use Rattle.go_syntax.specs.declared.declaration.Decl.{Decl}
-use Rattle.go_syntax.specs.declared.declaration.Decl.TheVariants as decl
-use Rattle.go_syntax.specs.declared.declaration.TypeSpec.{TypeSpec}
-use Rattle.go_syntax.specs.declared.declaration.VarSpec.{VarSpec}
-use Rattle.go_syntax.specs.declared.name.Name.{Name}
-use Rattle.go_syntax.specs.declared.types.ParameterDecl.{ParameterDecl}
+use Rattle.go_references.specs.go_syntax.declared.declaration.ConstSpec.{ConstSpec}
+use Rattle.go_references.specs.go_syntax.declared.declaration.Decl.{Decl}
+use Rattle.go_references.specs.go_syntax.declared.declaration.Decl.TheVariants as decl
+use Rattle.go_references.specs.go_syntax.declared.declaration.TypeSpec.{TypeSpec}
+use Rattle.go_references.specs.go_syntax.declared.declaration.VarSpec.{VarSpec}
+use Rattle.go_references.specs.go_syntax.declared.name.Name.{Name}
+use Rattle.go_references.specs.go_syntax.declared.types.ParameterDecl.{ParameterDecl}
 use Rattle.go_imports.specs.UsedImports.{IsNameIn, IsFuncName, IsDeclaredBy, IsDeclaredIn}
 use Rattle.go_imports.proofs.GrowingSets.{order, OfSome, grows_none}
 use Rattle.go_imports.proofs.Members.{has_left}

@@ -1,3 +1,4 @@
+pub use Rattle.go_references.specs.go_syntax as go_syntax
 pub mod Answers
 pub mod Gives
 pub mod ImportPaths

@@ -1,10 +1,10 @@
 -- The outline of a file's bytes: the syntax tree of their tokens, bodies skipped.
 -- Public source: Go specification, "Source file organization", "Tokens".
 use Rattle.std.specs.Prelude.{◌≡◌, ℕ, List}
-use Rattle.go_syntax.specs.declared.declaration.File.{File}
-use Rattle.go_syntax.specs.declared.token.Token.{Token}
-use Rattle.go_syntax.specs.grammar.SourceFiles.{HasOutline}
-use Rattle.go_syntax.specs.lexical.Tokens.{IsTokens}
+use Rattle.go_references.specs.go_syntax.declared.declaration.File.{File}
+use Rattle.go_references.specs.go_syntax.declared.token.Token.{Token}
+use Rattle.go_references.specs.go_syntax.grammar.SourceFiles.{HasOutline}
+use Rattle.go_references.specs.go_syntax.lexical.Tokens.{IsTokens}
 
 -- the bytes have tokens, whose outline this is
 abbrev pub IsOutlineOf : List ℕ → File → Type 0

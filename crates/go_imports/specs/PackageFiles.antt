@@ -2,7 +2,7 @@
 -- Public source: Go specification, "Source file organization" and "Package clause" (the files of a package share its name); Go's command cgo (`import "C"`).
 use Rattle.std.specs.Prelude.{◌≡◌, List, codes}
 use Rattle.go_base.specs.Lists.{Has}
-use Rattle.go_syntax.specs.declared.declaration.ImportSpec.{ImportSpec}
+use Rattle.go_references.specs.go_syntax.declared.declaration.ImportSpec.{ImportSpec}
 use Rattle.go_imports.specs.declared.package_files.SourceFile.{SourceFile}
 
 -- the files have one package name

@@ -4,14 +4,14 @@
 use Rattle.std.specs.Prelude.{◌≡◌, ◌≢◌, ◌⊎◌, ℕ, true, Option, Some, None, List, [], ◌∷◌, ◌++◌, codes}
 use Rattle.go_base.specs.Lists.{Has}
 use Rattle.go_references.specs.References.{is_selected, references_of}
-use Rattle.go_syntax.specs.declared.declaration.ConstSpec.{ConstSpec}
-use Rattle.go_syntax.specs.declared.declaration.Decl.{Decl}
-use Rattle.go_syntax.specs.declared.declaration.Decl.TheVariants as decl
-use Rattle.go_syntax.specs.declared.declaration.TypeSpec.{TypeSpec}
-use Rattle.go_syntax.specs.declared.declaration.VarSpec.{VarSpec}
-use Rattle.go_syntax.specs.declared.name.Name.{Name}
+use Rattle.go_references.specs.go_syntax.declared.declaration.ConstSpec.{ConstSpec}
+use Rattle.go_references.specs.go_syntax.declared.declaration.Decl.{Decl}
+use Rattle.go_references.specs.go_syntax.declared.declaration.Decl.TheVariants as decl
+use Rattle.go_references.specs.go_syntax.declared.declaration.TypeSpec.{TypeSpec}
+use Rattle.go_references.specs.go_syntax.declared.declaration.VarSpec.{VarSpec}
+use Rattle.go_references.specs.go_syntax.declared.name.Name.{Name}
 use Rattle.go_references.specs.declared.references.Reference.{Reference}
-use Rattle.go_syntax.specs.declared.types.ParameterDecl.{ParameterDecl}
+use Rattle.go_references.specs.go_syntax.declared.types.ParameterDecl.{ParameterDecl}
 use Rattle.go_imports.specs.ImportPaths.{assumed_name}
 use Rattle.go_imports.specs.declared.used_imports.Import.{Import}
 use Rattle.go_imports.specs.declared.used_imports.NamedImport.{NamedImport}

@@ -1,6 +1,8 @@
 //! The order of packages that need each other, import paths, the names that files declare and import, and used imports.
 #![tactic(auto)]
 
+pub use go_references::go_syntax;
+
 mod components;
 pub mod cycle;
 pub mod import_paths;

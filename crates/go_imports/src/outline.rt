@@ -5,7 +5,7 @@ ghost use Rattle.go_imports.specs.Outlines.{IsOneOutlineOf, IsOutlineOf};
 use go_base::memory::NoMemory;
 use go_base::shared::Shared;
 use go_base::text::Text;
-use go_syntax::declaration::File;
+use go_references::go_syntax::declaration::File;
 use std::alloc::Global;
 use std::marker::Model;
 
@@ -36,8 +36,8 @@ impl Drop for Outline {
 impl Model for Outline {
     ghost use Rattle.go_imports.specs.Outlines.{IsOneOutlineOf};
     ghost use Rattle.std.specs.Coded.{codes};
-    ghost use Rattle.go_syntax.specs.declared.declaration.File.{File};
-    ghost use Rattle.go_syntax.specs.contracts.declaration.File as f;
+    ghost use Rattle.go_references.specs.go_syntax.declared.declaration.File.{File};
+    ghost use Rattle.go_references.specs.go_syntax.contracts.declaration.File as f;
 
     ghost Value = { File };
 

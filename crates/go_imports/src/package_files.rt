@@ -7,7 +7,7 @@ ghost use Rattle.go_imports.specs.inner.Files.{IsNamedAs};
 
 use crate::outline::Outline;
 use go_base::text::Text;
-use go_syntax::declaration::{File, ImportSpec};
+use go_references::go_syntax::declaration::{File, ImportSpec};
 
 /// A file of a package that the platform chooses.
 #[derive(Drop)]

@@ -14,9 +14,9 @@ use crate::text_set::{add_new, add_text, has_text};
 use go_base::list::List;
 use go_base::memory::NoMemory;
 use go_base::text::Text;
+use go_references::go_syntax::declaration::{ConstSpec, Decl, Func, TypeSpec, VarSpec};
+use go_references::go_syntax::name::Name;
 use go_references::references::{Reference, decl_references};
-use go_syntax::declaration::{ConstSpec, Decl, Func, TypeSpec, VarSpec};
-use go_syntax::name::Name;
 use std::alloc::Global;
 use std::collections::BTreeSet;
 

@@ -6,7 +6,7 @@ use Rattle.go_model.specs.constants.Classes.{class_of_basic, is_inexact}
 use Rattle.go_model.specs.declared.constants.value.Basic.{Basic}
 use Rattle.go_model.specs.declared.types.term.Term.{Term, Term-F}
 use Rattle.go_model.specs.types.Underlying.{under}
-use Rattle.go_operators.proofs.LevelForms.{same_basic}
+use Rattle.go_expr.proofs.go_operators_proofs.LevelForms.{same_basic}
 use Rattle.go_rules.specs.Environments.{Env}
 use Rattle.go_rules.specs.Expressions.{Has as HasOperand}
 use Rattle.go_rules.specs.Operands.{plain}

@@ -9,10 +9,10 @@ ghost use Rattle.go_type_terms.specs.Answers.{env_in};
 
 use crate::chains::chain_operand;
 use go_base::memory::NoMemory;
+use go_expr::go_operators::levels::basic_under;
+use go_expr::go_operators::values::type_in;
 use go_nodes::tree::Tree;
 use go_nodes::trees::Trees;
-use go_operators::levels::basic_under;
-use go_operators::values::type_in;
 use go_syntax::expression::{Expr, Post};
 use go_type_terms::error::ExprError;
 use go_usability::context::Context;

@@ -11,10 +11,10 @@ ghost use Rattle.go_type_terms.specs.Answers.{env_in};
 
 use crate::maybe::may_be_constant;
 use go_base::memory::NoMemory;
+use go_expr::go_operators::levels::basic_under;
+use go_expr::go_operators::values::is_usable;
 use go_expr::typing::type_expr;
 use go_model::types::term::Term;
-use go_operators::levels::basic_under;
-use go_operators::values::is_usable;
 use go_rules::operand::{Mode, Operand, Shape};
 use go_syntax::expression::Expr;
 use go_type_terms::error::ExprError;

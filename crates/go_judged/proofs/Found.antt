@@ -2,11 +2,11 @@
 use Rattle.std.proofs.Common.{◌≡◌, ℕ, List, [], ◌∷◌, Option, None, Some}
 use Rattle.go_judged.specs.Judging.{Finds, Judges, JudgesTo, found}
 use Rattle.go_rules.specs.Environments.{Env}
-use Rattle.go_statement_rules.specs.Bodies.{IsTypedRun}
-use Rattle.go_statement_rules.specs.Functions.{Enclosing, Run, run}
-use Rattle.go_statement_rules.specs.Scopes.{Scopes}
-use Rattle.go_statement_rules.specs.Statements.{AreTyped, Leaves, kind_of, typed_more, typed_none}
-use Rattle.go_statement_rules.proofs.OnePlace.{typed_no_place}
+use Rattle.go_local_scopes.specs.go_statement_rules.Bodies.{IsTypedRun}
+use Rattle.go_local_scopes.specs.go_statement_rules.Functions.{Enclosing, Run, run}
+use Rattle.go_local_scopes.specs.go_statement_rules.Scopes.{Scopes}
+use Rattle.go_local_scopes.specs.go_statement_rules.Statements.{AreTyped, Leaves, kind_of, typed_more, typed_none}
+use Rattle.go_local_scopes.proofs.go_statement_rules_proofs.OnePlace.{typed_no_place}
 use Rattle.go_syntax.specs.declared.statement.LiteralBlock.{LiteralBlock}
 use Rattle.go_syntax.specs.declared.statement.Stmt.{Stmt}
 use Rattle.go_untyped_places.proofs.Surveying.{one_typed, one_untyped}

@@ -9,8 +9,8 @@ use Rattle.go_rules.specs.Environments.{Env}
 use Rattle.go_rules.proofs.LocalParts.{each_both, each_left, each_right}
 use Rattle.go_selectors.specs.Answers.{Decides}
 use Rattle.go_selectors.proofs.Lists.{has-back, has-last, has-left, taken_next}
-use Rattle.go_statement_rules.specs.Functions.{Run}
-use Rattle.go_statement_rules.specs.Scopes.{Scopes}
+use Rattle.go_local_scopes.specs.go_statement_rules.Functions.{Run}
+use Rattle.go_local_scopes.specs.go_statement_rules.Scopes.{Scopes}
 use Rattle.go_syntax.specs.declared.statement.LiteralBlock.{LiteralBlock}
 use Rattle.go_untyped_places.proofs.Surveying.{survey_as, survey_both, survey_none}
 

@@ -1,9 +1,9 @@
 -- What is found in some runs is found where all others are typed.
 use Rattle.std.proofs.Common.{inl, inr, ◌⊎◌, ℕ, List, Option, None, Some}
 use Rattle.go_rules.specs.Environments.{Env}
-use Rattle.go_statement_rules.specs.Bodies.{IsTypedRun}
-use Rattle.go_statement_rules.specs.Functions.{Run}
-use Rattle.go_statement_rules.proofs.OnePlace.{typed_no_place}
+use Rattle.go_local_scopes.specs.go_statement_rules.Bodies.{IsTypedRun}
+use Rattle.go_local_scopes.specs.go_statement_rules.Functions.{Run}
+use Rattle.go_local_scopes.proofs.go_statement_rules_proofs.OnePlace.{typed_no_place}
 use Rattle.go_syntax.specs.declared.statement.LiteralBlock.{LiteralBlock}
 use Rattle.go_untyped_places.specs.Surveys.{Surveyed}
 

@@ -6,10 +6,10 @@ use Rattle.go_judged.specs.declared.judged.Judged.{Judged}
 use Rattle.go_local_scopes.specs.States.{Reaches}
 use Rattle.go_rules.specs.Environments.{Env}
 use Rattle.go_selectors.specs.Answers.{Decides}
-use Rattle.go_statement_rules.specs.Functions.{Enclosing, Run, run}
-use Rattle.go_statement_rules.specs.Places.{IsUntypedPlace}
-use Rattle.go_statement_rules.specs.Scopes.{Scopes}
-use Rattle.go_statement_rules.specs.Statements.{AreTyped}
+use Rattle.go_local_scopes.specs.go_statement_rules.Functions.{Enclosing, Run, run}
+use Rattle.go_local_scopes.specs.go_statement_rules.Places.{IsUntypedPlace}
+use Rattle.go_local_scopes.specs.go_statement_rules.Scopes.{Scopes}
+use Rattle.go_local_scopes.specs.go_statement_rules.Statements.{AreTyped}
 use Rattle.go_syntax.specs.declared.statement.LiteralBlock.{LiteralBlock}
 use Rattle.go_syntax.specs.declared.statement.Stmt.{Stmt}
 use Rattle.go_untyped_places.specs.Surveys.{Surveyed, lesser}

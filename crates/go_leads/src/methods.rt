@@ -15,13 +15,13 @@ ghost use Rattle.go_type_terms.specs.Answers.{env_in};
 
 use go_base::list::List;
 use go_base::memory::NoMemory;
+use go_expr::go_operators::values::{type_in, type_of};
 use go_expr::typing::{type_expr, type_imported, type_post};
 use go_model::types::found::Found;
 use go_model::types::names::{Sel, TypeName};
 use go_model::types::term::Term;
 use go_nodes::tree::Tree;
 use go_nodes::trees::Trees;
-use go_operators::values::{type_in, type_of};
 use go_rules::env::Env;
 use go_rules::operand::Operand;
 use go_selectors::lookup::error_type;

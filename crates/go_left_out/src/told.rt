@@ -7,16 +7,16 @@ ghost use Rattle.go_graphs.specs.Flags.{AreFlagsOf};
 ghost use Rattle.go_left_out.specs.Told.{AreTold};
 ghost use Rattle.go_sifting.specs.Graphs.{AreRows};
 ghost use Rattle.go_soundness.specs.LostDeclarations.{Depends};
-ghost use Rattle.go_sources.specs.UnitSources.{source_of};
+ghost use Rattle.go_import_uses.specs.go_sources.UnitSources.{source_of};
 ghost use Rattle.go_typings.specs.Declarations.{declarations as all_declarations};
 ghost use Rattle.go_typings.specs.PackageEnvironments.{Entries};
 ghost use Rattle.go_typings.specs.Sources.{PackageSource, Setting};
 
 use go_base::list::List;
 use go_base::memory::NoMemory;
-use go_beyond::numbers::having_numbers;
 use go_declarations::listing::Declaration;
 use go_graphs::marks::leading;
+use go_import_uses::go_beyond::numbers::having_numbers;
 use go_import_uses::missing::selecting_missing;
 use go_reach::any::any_of;
 use go_reach::numbers::flagged_numbers;

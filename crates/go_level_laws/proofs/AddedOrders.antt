@@ -5,7 +5,7 @@ use Rattle.go_base.specs.Lists.{Has, Once}
 use Rattle.go_model.specs.declared.types.package.Package.{Package}
 use Rattle.go_model.specs.worlds.Worlds.{Packages}
 use Rattle.go_rules.proofs.OneKind.{no_truth}
-use Rattle.go_std_worlds.specs.StdSources.{HaveOwnPaths}
+use Rattle.go_unit_worlds.specs.go_std_worlds.StdSources.{HaveOwnPaths}
 use Rattle.go_typings.proofs.Cells.{either, maybe, none_some}
 use Rattle.go_typings.specs.PackageWorlds.{Outcome, typed, no_packages, with_outcome}
 use Rattle.go_typings.specs.Sources.{PackageSource}

@@ -8,8 +8,8 @@ use Rattle.go_base.specs.Lists.{Has}
 use Rattle.go_model.proofs.MoreWorlds.{first_placed}
 use Rattle.go_model.specs.declared.types.package.Package.{Package}
 use Rattle.go_model.specs.worlds.Worlds.{Packages, path_of}
-use Rattle.go_std_worlds.specs.StdSources.{HaveOwnPaths, source_path}
-use Rattle.go_typed_packages.proofs.Lists.{absent, own_placed}
+use Rattle.go_unit_worlds.specs.go_std_worlds.StdSources.{HaveOwnPaths, source_path}
+use Rattle.go_unit_worlds.proofs.go_typed_packages_proofs.Lists.{absent, own_placed}
 use Rattle.go_typings.proofs.Cells.{either, none_some, some_once}
 use Rattle.go_typings.specs.PackageWorlds.{Outcome, typed, refused, blocked, with_outcome}
 use Rattle.go_typings.specs.Sources.{PackageSource}

@@ -14,9 +14,9 @@ use Rattle.go_model.specs.declared.types.package.Package.{Package}
 use Rattle.go_model.specs.types.Terms.{is_error}
 use Rattle.go_model.specs.worlds.PackageTypes.{package_names}
 use Rattle.go_model.specs.worlds.Worlds.{Packages, path_of}
-use Rattle.go_std_worlds.proofs.MoreLists.{has_key, key_finds, passes_two}
-use Rattle.go_taken_packages.proofs.TypedNames.{typed_names}
-use Rattle.go_std_worlds.specs.StdSources.{HaveOwnPaths, HavePaths}
+use Rattle.go_unit_worlds.proofs.go_std_worlds_proofs.MoreLists.{has_key, key_finds, passes_two}
+use Rattle.go_unit_worlds.proofs.go_taken_packages_proofs.TypedNames.{typed_names}
+use Rattle.go_unit_worlds.specs.go_std_worlds.StdSources.{HaveOwnPaths, HavePaths}
 use Rattle.go_typings.proofs.Cells.{either, if_false, if_true, maybe, none_some, some_once}
 use Rattle.go_typings.proofs.HeldImports.{path_found, path_missing}
 use Rattle.go_typings.proofs.ReachedRegion.{or_second, weaker}

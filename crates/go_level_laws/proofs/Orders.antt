@@ -11,7 +11,7 @@ use Rattle.go_exposed.specs.SkippedWorlds.{AreSkipped}
 use Rattle.go_model.specs.declared.types.package.Package.{Package}
 use Rattle.go_model.specs.worlds.Worlds.{Packages}
 use Rattle.go_rules.proofs.OneKind.{no_truth}
-use Rattle.go_std_worlds.specs.StdSources.{HaveOwnPaths, HavePaths}
+use Rattle.go_unit_worlds.specs.go_std_worlds.StdSources.{HaveOwnPaths, HavePaths}
 use Rattle.go_typings.proofs.Cells.{either, if_false, if_true, maybe, none_some, some_once}
 use Rattle.go_typings.specs.PackageWorlds.{Outcome, typed, refused, is_refused, is_typed, no_packages, over}
 use Rattle.go_typings.specs.Refusals.{Refusal}

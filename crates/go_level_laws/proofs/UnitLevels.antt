@@ -5,8 +5,8 @@ use Rattle.std.proofs.Math.Logic.{∥∥₁_elim}
 use Rattle.std.proofs.lemmas.Option.{slice_get_within}
 use Rattle.go_base.specs.Lists.{Has}
 use Rattle.go_sources.specs.UnitSources.{file_of, import_of, source_of}
-use Rattle.go_std_worlds.proofs.OwnPaths.{own_paths}
-use Rattle.go_std_worlds.specs.TwoModules.{sources_of}
+use Rattle.go_unit_worlds.proofs.go_std_worlds_proofs.OwnPaths.{own_paths}
+use Rattle.go_unit_worlds.specs.go_std_worlds.TwoModules.{sources_of}
 use Rattle.go_typings.proofs.Cells.{either, none_some, some_once}
 use Rattle.go_typings.specs.Sources.{Import, PackageSource, imports_in}
 use Rattle.go_units.proofs.NeededPaths.{found_needed}

@@ -3,7 +3,7 @@
 -- are own.
 use Rattle.std.specs.Prelude.{◌≡◌, ◌<◌, ◌⊎◌, ℕ, suc, true, List, length}
 use Rattle.go_base.specs.Lists.{Has}
-use Rattle.go_std_worlds.specs.StdSources.{HaveOwnPaths, HavePaths}
+use Rattle.go_unit_worlds.specs.go_std_worlds.StdSources.{HaveOwnPaths, HavePaths}
 use Rattle.go_typings.specs.Assignments.{At}
 use Rattle.go_typings.specs.Sources.{Import, PackageSource, imports_of}
 

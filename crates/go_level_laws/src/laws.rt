@@ -9,8 +9,8 @@ ghost use Rattle.go_level_laws.specs.ByLevels.{AreSkippedByLevels, BecomeByLevel
 ghost use Rattle.go_level_laws.specs.Levels.{AreLevels, ComeInOrder, NeedsOther, Rises};
 ghost use Rattle.go_model.specs.declared.types.package.Package.{Package};
 ghost use Rattle.go_model.specs.worlds.Worlds.{Packages, path_of};
-ghost use Rattle.go_std_worlds.specs.StdSources.{HaveOwnPaths, HavePaths};
-ghost use Rattle.go_std_worlds.specs.TwoModules.{sources_of};
+ghost use Rattle.go_unit_worlds.specs.go_std_worlds.StdSources.{HaveOwnPaths, HavePaths};
+ghost use Rattle.go_unit_worlds.specs.go_std_worlds.TwoModules.{sources_of};
 ghost use Rattle.go_typings.specs.Assignments.{At};
 ghost use Rattle.go_typings.specs.PackageWorlds.{Outcome, is_refused, no_packages, over, refused, typed, with_outcome};
 ghost use Rattle.go_typings.specs.Refusals.{Refusal};

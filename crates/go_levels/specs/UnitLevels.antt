@@ -4,7 +4,7 @@ use Rattle.std.specs.Prelude.{◌≡◌, ◌⊎◌, ◌<◌, ◌+◌, ℕ, List,
 use Rattle.go_base.specs.Lists.{Has}
 use Rattle.go_level_laws.specs.Levels.{AreLevels}
 use Rattle.go_rules.specs.Names.{Named, value_at}
-use Rattle.go_std_worlds.specs.TwoModules.{sources_of}
+use Rattle.go_level_laws.specs.go_std_worlds.TwoModules.{sources_of}
 use Rattle.go_units.specs.declared.unit_list.Units.{Units}
 
 -- each known level is below this one

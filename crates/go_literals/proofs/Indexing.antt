@@ -14,10 +14,10 @@ use Rattle.go_rules.proofs.OneResult.{one_index}
 use Rattle.go_syntax.specs.declared.expression.Element.{Element, out-Element}
 use Rattle.go_syntax.specs.declared.expression.ElementValue.{ElementValue, ElementValue-F, out-ElementValue}
 use Rattle.go_syntax.specs.declared.expression.Expr.{Expr}
-use Rattle.go_type_terms.specs.Answers.{Types}
-use Rattle.go_type_terms.specs.Loudness.{AreLoud}
-use Rattle.go_type_terms.specs.declared.error.ExprError.{ExprError}
-use Rattle.go_type_terms.proofs.LoudTrees.{none_loud}
+use Rattle.go_operations.specs.go_type_terms.Answers.{Types}
+use Rattle.go_operations.specs.go_type_terms.Loudness.{AreLoud}
+use Rattle.go_operations.specs.go_type_terms.declared.error.ExprError.{ExprError}
+use Rattle.go_operations.proofs.go_type_terms_proofs.LoudTrees.{none_loud}
 use Rattle.go_selectors.proofs.Lists.{drop_all, drop_next}
 use Rattle.go_operations.proofs.Typed.{one_some}
 use Rattle.go_operations.proofs.Walks.{Walk, set_out, walk_on, arrived}

@@ -9,7 +9,7 @@ use Rattle.go_syntax.specs.declared.expression.Element.{Element, out-Element}
 use Rattle.go_syntax.specs.declared.expression.ElementValue.{ElementValue, ElementValue-F, out-ElementValue}
 use Rattle.go_syntax.specs.declared.expression.Expr.{Expr, Expr-F, out-Expr}
 use Rattle.go_syntax.specs.declared.name.Name.{Name}
-use Rattle.go_usability.specs.Answers.{Gives}
+use Rattle.go_elements.specs.go_usability.Answers.{Gives}
 use Rattle.go_selectors.proofs.Lists.{drop_all, drop_next}
 use Rattle.go_operations.proofs.Typed.{none_some, one_some}
 use Rattle.go_literals.specs.Keys.{KeysAre, keys_none, keys_more, KeyedOnce}

@@ -16,8 +16,8 @@ use Rattle.go_syntax.specs.declared.expression.Expr.{Expr}
 use Rattle.go_syntax.specs.declared.name.Name.{Name}
 use Rattle.go_selectors.specs.Answers.{Decides}
 use Rattle.go_selectors.proofs.Lists.{drop_all, drop_next, item_has}
-use Rattle.go_type_terms.specs.Loudness.{AreLoud}
-use Rattle.go_type_terms.proofs.LoudTrees.{none_loud}
+use Rattle.go_operations.specs.go_type_terms.Loudness.{AreLoud}
+use Rattle.go_operations.proofs.go_type_terms_proofs.LoudTrees.{none_loud}
 use Rattle.go_operations.proofs.Typed.{none_some, true_false}
 use Rattle.go_operations.proofs.Walks.{Walk, set_out, walk_on, arrived}
 use Rattle.go_literals.specs.Elements.{EachKeyed, keyed_end, keyed_next, ExprFits, KeyedFits, NamedFits, Takes, UnkeyedFits, parts_of}

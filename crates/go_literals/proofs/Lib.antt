@@ -1,3 +1,5 @@
+pub use Rattle.go_operations.proofs as go_operations_proofs
+pub use Rattle.go_operations.proofs.go_type_terms_proofs as go_type_terms_proofs
 pub mod ByType
 pub mod Composing
 pub mod ElementValues

@@ -5,8 +5,8 @@ use Rattle.go_rules.specs.Environments.{Env}
 use Rattle.go_rules.specs.Expressions.{ElementFits, HasPairs, pairs_none, pairs_more}
 use Rattle.go_rules.specs.Nodes.{element_parts}
 use Rattle.go_syntax.specs.declared.expression.Element.{Element}
-use Rattle.go_type_terms.specs.Loudness.{AreLoud}
-use Rattle.go_type_terms.proofs.LoudTrees.{none_loud}
+use Rattle.go_operations.specs.go_type_terms.Loudness.{AreLoud}
+use Rattle.go_operations.proofs.go_type_terms_proofs.LoudTrees.{none_loud}
 use Rattle.go_selectors.proofs.Lists.{drop_all, drop_next}
 use Rattle.go_operations.proofs.Walks.{Walk, set_out, walk_on, arrived}
 use Rattle.go_literals.specs.Elements.{PairFits, parts_of}

@@ -9,11 +9,11 @@ use Rattle.go_syntax.specs.declared.expression.Element.{Element, out-Element}
 use Rattle.go_syntax.specs.declared.expression.ElementValue.{ElementValue, ElementValue-F, out-ElementValue}
 use Rattle.go_syntax.specs.declared.expression.Expr.{Expr, Expr-F, out-Expr}
 use Rattle.go_syntax.specs.declared.name.Name.{Name}
-use Rattle.go_type_terms.specs.Answers.{Holds, Types}
-use Rattle.go_type_terms.specs.Loudness.{AreLoud}
-use Rattle.go_type_terms.specs.declared.error.ExprError.{ExprError}
-use Rattle.go_type_terms.specs.declared.error.ExprError.TheVariants.{NoMemory, Untyped}
-use Rattle.go_type_terms.proofs.LoudTrees.{join_loud, none_loud, parts_loud}
+use Rattle.go_operations.specs.go_type_terms.Answers.{Holds, Types}
+use Rattle.go_operations.specs.go_type_terms.Loudness.{AreLoud}
+use Rattle.go_operations.specs.go_type_terms.declared.error.ExprError.{ExprError}
+use Rattle.go_operations.specs.go_type_terms.declared.error.ExprError.TheVariants.{NoMemory, Untyped}
+use Rattle.go_operations.proofs.go_type_terms_proofs.LoudTrees.{join_loud, none_loud, parts_loud}
 use Rattle.go_operations.proofs.LoudForms.{form_loud}
 use Rattle.go_literals.specs.Elements.{parts_of}
 

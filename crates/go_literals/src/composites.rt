@@ -4,18 +4,18 @@ ghost use Rattle.go_literals.specs.Elements.{AreIndexed};
 ghost use Rattle.go_rules.specs.Expressions.{HasElements, HasForm};
 ghost use Rattle.go_rules.specs.Nodes.{element_parts, type as type_node};
 ghost use Rattle.go_syntax.specs.declared.expression.Expr.{Expr-F};
-ghost use Rattle.go_type_terms.specs.Answers.{Holds, Types, TypesBelow, env_in};
+ghost use Rattle.go_operations.specs.go_type_terms.Answers.{Holds, Types, TypesBelow, env_in};
 
 use crate::values::Literals;
+use go_elements::go_operators::operands::plain;
+use go_elements::go_usability::context::Context;
 use go_model::types::term::Term;
-use go_operators::operands::plain;
+use go_operations::go_type_terms::error::ExprError;
+use go_operations::go_type_terms::loud::either;
+use go_operations::go_type_terms::part::{Answer, Part};
 use go_rules::operand::Operand;
 use go_syntax::expression::Element;
 use go_syntax::types::Type;
-use go_type_terms::error::ExprError;
-use go_type_terms::loud::either;
-use go_type_terms::part::{Answer, Part};
-use go_usability::context::Context;
 use std::alloc::Global;
 
 impl<'a, F: Fn(&Context<'_>, Global, usize, Part<'_>) -> Result<Answer, ExprError>> Literals<

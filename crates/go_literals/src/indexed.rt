@@ -1,18 +1,18 @@
 //! Elements of arrays and slices.
 ghost use Rattle.std.specs.Prelude.{◌≡◌, IfErr, IfOk, max, suc};
-ghost use Rattle.go_type_terms.specs.declared.error.ExprError.TheVariants.{NoMemory};
+ghost use Rattle.go_operations.specs.go_type_terms.declared.error.ExprError.TheVariants.{NoMemory};
 ghost use Rattle.go_literals.specs.Elements.{IndexedFits, parts_of};
 ghost use Rattle.go_rules.specs.Expressions.{HasIndexed};
 ghost use Rattle.go_rules.specs.Nodes.{element_parts};
-ghost use Rattle.go_type_terms.specs.Answers.{Types, TypesBelow, env_in};
+ghost use Rattle.go_operations.specs.go_type_terms.Answers.{Types, TypesBelow, env_in};
 
 use crate::values::Literals;
+use go_elements::go_usability::context::Context;
 use go_model::types::term::Term;
+use go_operations::go_type_terms::error::ExprError;
+use go_operations::go_type_terms::loud::either;
+use go_operations::go_type_terms::part::{Answer, Part};
 use go_syntax::expression::Element;
-use go_type_terms::error::ExprError;
-use go_type_terms::loud::either;
-use go_type_terms::part::{Answer, Part};
-use go_usability::context::Context;
 use std::alloc::Global;
 
 fn greater(left: u64, right: u64) -> u64

@@ -3,19 +3,19 @@ ghost use Rattle.std.specs.Prelude.{[], ◌∷◌, None, Some};
 ghost use Rattle.go_literals.specs.Elements.{IsKeyIndex, IsPlace, IsPlaceWithin};
 ghost use Rattle.go_rules.specs.Expressions.{IsIndex};
 ghost use Rattle.go_rules.specs.Nodes.{optional, value as value_node};
-ghost use Rattle.go_type_terms.specs.Answers.{Types, TypesBelow, env_in};
-ghost use Rattle.go_usability.specs.Answers.{Gives};
+ghost use Rattle.go_operations.specs.go_type_terms.Answers.{Types, TypesBelow, env_in};
+ghost use Rattle.go_elements.specs.go_usability.Answers.{Gives};
 
 use crate::keys::expr_alone;
 use crate::values::Literals;
-use go_const::representation::representable;
+use go_elements::go_const::representation::representable;
+use go_elements::go_usability::context::Context;
 use go_elements::indices::{index_of, is_below};
 use go_model::constants::value::{Basic, Value};
+use go_operations::go_type_terms::error::ExprError;
+use go_operations::go_type_terms::part::{Answer, Part};
 use go_rules::operand::Operand;
 use go_syntax::expression::ElementValue;
-use go_type_terms::error::ExprError;
-use go_type_terms::part::{Answer, Part};
-use go_usability::context::Context;
 use std::alloc::Global;
 
 // The value of an index that is constant.

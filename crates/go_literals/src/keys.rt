@@ -6,7 +6,7 @@ ghost use Rattle.go_selectors.specs.Answers.{Decides};
 ghost use Rattle.go_syntax.specs.declared.expression.Element.{out-Element};
 ghost use Rattle.go_syntax.specs.declared.expression.ElementValue.{ElementValue-F, out-ElementValue};
 ghost use Rattle.go_syntax.specs.declared.expression.Expr.{Expr-F, out-Expr};
-ghost use Rattle.go_usability.specs.Answers.{Gives};
+ghost use Rattle.go_elements.specs.go_usability.Answers.{Gives};
 
 use go_syntax::expression::{Element, ElementValue, Expr};
 use go_syntax::name::Name;

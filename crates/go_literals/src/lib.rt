@@ -1,6 +1,9 @@
 //! Composite literals, over what types their parts.
 #![tactic(auto)]
 
+pub use go_operations;
+pub use go_operations::go_type_terms;
+
 pub mod composites;
 mod field_tables;
 mod fields;

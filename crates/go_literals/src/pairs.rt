@@ -2,15 +2,15 @@
 ghost use Rattle.go_literals.specs.Elements.{PairFits, parts_of};
 ghost use Rattle.go_rules.specs.Expressions.{HasPairs};
 ghost use Rattle.go_rules.specs.Nodes.{element_parts};
-ghost use Rattle.go_type_terms.specs.Answers.{Holds, TypesBelow, env_in};
+ghost use Rattle.go_operations.specs.go_type_terms.Answers.{Holds, TypesBelow, env_in};
 
 use crate::values::Literals;
+use go_elements::go_usability::context::Context;
 use go_model::types::term::Term;
+use go_operations::go_type_terms::error::ExprError;
+use go_operations::go_type_terms::loud::either;
+use go_operations::go_type_terms::part::{Answer, Part};
 use go_syntax::expression::Element;
-use go_type_terms::error::ExprError;
-use go_type_terms::loud::either;
-use go_type_terms::part::{Answer, Part};
-use go_usability::context::Context;
 use std::alloc::Global;
 
 impl<'a, F: Fn(&Context<'_>, Global, usize, Part<'_>) -> Result<Answer, ExprError>> Literals<

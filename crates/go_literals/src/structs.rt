@@ -4,16 +4,16 @@ ghost use Rattle.go_literals.specs.Structs.{AreKeyed, AreUnkeyed, MayBeUnkeyed, 
 ghost use Rattle.go_model.specs.types.Imports.{is_imported_struct};
 ghost use Rattle.go_rules.specs.Nodes.{element_parts};
 ghost use Rattle.go_selectors.specs.Answers.{Decides};
-ghost use Rattle.go_type_terms.specs.Answers.{Holds, TypesBelow, env_in};
+ghost use Rattle.go_operations.specs.go_type_terms.Answers.{Holds, TypesBelow, env_in};
 
 use crate::once::are_keyed_once;
 use crate::values::Literals;
+use go_elements::go_usability::context::Context;
 use go_model::types::names::is_imported;
 use go_model::types::term::{Field, Term};
+use go_operations::go_type_terms::error::ExprError;
+use go_operations::go_type_terms::part::{Answer, Part};
 use go_syntax::expression::Element;
-use go_type_terms::error::ExprError;
-use go_type_terms::part::{Answer, Part};
-use go_usability::context::Context;
 use std::alloc::Global;
 
 // Whether a type is a defined struct of another package than the client's.

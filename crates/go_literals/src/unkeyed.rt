@@ -5,16 +5,16 @@ ghost use Rattle.go_model.specs.declared.types.term.Field.{out-Field};
 ghost use Rattle.go_rules.specs.Expressions.{HasUnkeyed, IsReachable};
 ghost use Rattle.go_rules.specs.Nodes.{element_parts};
 ghost use Rattle.go_selectors.specs.Answers.{Decides};
-ghost use Rattle.go_type_terms.specs.Answers.{Holds, TypesBelow, env_in};
+ghost use Rattle.go_operations.specs.go_type_terms.Answers.{Holds, TypesBelow, env_in};
 
 use crate::keys::{expr_alone, is_without_key};
 use crate::values::Literals;
+use go_elements::go_usability::context::Context;
 use go_model::types::term::Field;
+use go_operations::go_type_terms::error::ExprError;
+use go_operations::go_type_terms::loud::either;
+use go_operations::go_type_terms::part::{Answer, Part};
 use go_syntax::expression::Element;
-use go_type_terms::error::ExprError;
-use go_type_terms::loud::either;
-use go_type_terms::part::{Answer, Part};
-use go_usability::context::Context;
 use std::alloc::Global;
 
 // Whether a literal without keys may give the field a value.

@@ -4,15 +4,15 @@ ghost use Rattle.go_literals.specs.Elements.{BareFits, ExprFits};
 ghost use Rattle.go_model.specs.types.Underlying.{under};
 ghost use Rattle.go_rules.specs.Expressions.{ElementFits};
 ghost use Rattle.go_rules.specs.Nodes.{element_parts, expression, value as value_node};
-ghost use Rattle.go_type_terms.specs.Answers.{Holds, TypesBelow, env_in};
+ghost use Rattle.go_operations.specs.go_type_terms.Answers.{Holds, TypesBelow, env_in};
 
+use go_elements::go_usability::context::Context;
+use go_elements::go_usability::usable::usable;
 use go_model::types::term::Term;
+use go_operations::go_type_terms::error::ExprError;
+use go_operations::go_type_terms::part::{Answer, Part};
 use go_operations::operations::Operations;
 use go_syntax::expression::{Element, ElementValue, Expr};
-use go_type_terms::error::ExprError;
-use go_type_terms::part::{Answer, Part};
-use go_usability::context::Context;
-use go_usability::usable::usable;
 use std::alloc::Global;
 
 /// What types composite literals, over what types their parts.

@@ -10,8 +10,8 @@ use Rattle.go_rules.specs.declared.seen.Seen.{Seen}
 use Rattle.go_selectors.specs.Answers.{Decides}
 use Rattle.go_statement_rules.specs.Scopes.{Scopes, at_place, opened, within}
 use Rattle.go_statement_rules.specs.Statements.{form_env}
-use Rattle.go_typings.specs.Declarations.{Form, constants, variables, alias, definition, function, method}
-use Rattle.go_typings.specs.PackageEnvironments.{iota_of}
+use Rattle.go_statement_rules.specs.go_typings.Declarations.{Form, constants, variables, alias, definition, function, method}
+use Rattle.go_statement_rules.specs.go_typings.PackageEnvironments.{iota_of}
 
 no_scope : {s : Named Seen} {t : Scopes} → s ∷ t ≡ [] → ⊥
 no_scope e = absurd (cc)

@@ -1,2 +1,3 @@
+pub use Rattle.go_statement_rules.specs as go_statement_rules
 pub mod States
 pub mod Slots

@@ -2,9 +2,9 @@
 use Rattle.std.proofs.Common.{◌≡◌, Bool, true, false, [], Result, Err, subst}
 use Rattle.std.specs.Result.{IsErrAnd}
 use Rattle.go_base.specs.Lists.{Each}
-use Rattle.go_entries.specs.Entries.{TellsQualified, entry_of}
-use Rattle.go_entries.specs.declared.entry.Entry.{Entry}
-use Rattle.go_entries.specs.declared.entry.Entry.TheVariants as entry
+use Rattle.go_declaration_asks.specs.go_entries.Entries.{TellsQualified, entry_of}
+use Rattle.go_declaration_asks.specs.go_entries.declared.entry.Entry.{Entry}
+use Rattle.go_declaration_asks.specs.go_entries.declared.entry.Entry.TheVariants as entry
 use Rattle.go_local_specs.specs.LocalForms.{GivesLocal, IsLocal, is_objects, objects_in}
 use Rattle.go_rules.specs.Asks.{Meets}
 use Rattle.go_rules.specs.Environments.{Env}

@@ -4,8 +4,8 @@ use Rattle.std.specs.Prelude.{Bool, true, false, List, [], map}
 use Rattle.go_base.specs.Lists.{Each}
 use Rattle.go_declarations.specs.Forms.{form_of}
 use Rattle.go_declarations.specs.declared.listing.Declaration.{Declaration}
-use Rattle.go_entries.specs.declared.entry.Entry.{Entry}
-use Rattle.go_entries.specs.declared.entry.Entry.TheVariants as entry
+use Rattle.go_declaration_asks.specs.go_entries.declared.entry.Entry.{Entry}
+use Rattle.go_declaration_asks.specs.go_entries.declared.entry.Entry.TheVariants as entry
 use Rattle.go_model.specs.declared.types.package.Entity.{Entity}
 use Rattle.go_rules.specs.Asks.{Meets}
 use Rattle.go_rules.specs.Environments.{Env}

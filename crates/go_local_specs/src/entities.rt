@@ -9,16 +9,16 @@ ghost use Rattle.go_statement_rules.specs.Statements.{fits};
 ghost use Rattle.go_type_terms.specs.Answers.{Tells, env_in};
 ghost use Rattle.go_typings.specs.DeclarationNodes.{nodes};
 
-use go_asks::meets::meet;
 use go_base::memory::NoMemory;
+use go_declaration_asks::go_asks::meets::meet;
+use go_declaration_asks::go_entries::entry::Entry;
+use go_declaration_asks::go_entries::given::entry;
 use go_declaration_asks::values::values_fit;
 use go_declarations::form::Form;
-use go_entries::entry::Entry;
-use go_entries::given::entry;
 use go_model::types::package::Entity;
 use go_nodes::declarations::trees_of;
 use go_type_terms::error::ExprError;
-use go_usability::context::Context;
+use go_type_terms::go_usability::context::Context;
 use std::alloc::Global;
 
 // Whether all that is asked in the types and values of a spec is met.

@@ -2,6 +2,8 @@
 //! files with their platforms and headers.
 #![tactic(auto)]
 
+pub use go_base;
+
 pub mod constants;
 pub mod files;
 pub mod laws;

@@ -20,7 +20,7 @@ use Rattle.go_syntax.specs.declared.statement.LiteralBlock.{LiteralBlock}
 use Rattle.go_syntax.specs.declared.statement.Stmt.{Stmt}
 use Rattle.go_syntax.specs.declared.statement.StmtKind.{StmtKind-F}
 use Rattle.go_untyped_places.specs.Parts.{IsLone, IsPart}
-use Rattle.go_walks.specs.Standing.{Stays}
+use Rattle.go_flat_statements.specs.go_walks.Standing.{Stays}
 
 module _ (E : Env) (blocks : List LiteralBlock) (r : Enclosing) where
   -- ---- a statement that may be left out

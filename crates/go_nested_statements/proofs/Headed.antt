@@ -21,8 +21,8 @@ use Rattle.go_syntax.specs.declared.statement.Stmt.{Stmt}
 use Rattle.go_untyped_places.specs.LiteralRuns.{IsLiteralRun}
 use Rattle.go_untyped_places.specs.Parts.{InHeader, IsLone}
 use Rattle.go_untyped_places.proofs.Surveying.{survey_as, survey_both}
-use Rattle.go_walks.specs.Literals.{LiteralsTyped}
-use Rattle.go_walks.specs.Standing.{Stays}
+use Rattle.go_flat_statements.specs.go_walks.Literals.{LiteralsTyped}
+use Rattle.go_flat_statements.specs.go_walks.Standing.{Stays}
 
 module _ (E : Env) (blocks : List LiteralBlock) (r : Enclosing) where
   -- ---- the literals of one tree

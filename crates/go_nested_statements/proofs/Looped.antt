@@ -21,7 +21,7 @@ use Rattle.go_syntax.specs.declared.statement.StmtKind.{StmtKind-F}
 use Rattle.go_untyped_places.specs.LiteralRuns.{IsLiteralRun}
 use Rattle.go_untyped_places.specs.Parts.{IsLone, IsPart}
 use Rattle.go_untyped_places.proofs.Surveying.{survey_as}
-use Rattle.go_walks.specs.Standing.{Stays}
+use Rattle.go_flat_statements.specs.go_walks.Standing.{Stays}
 
 module _ (E : Env) (blocks : List LiteralBlock) (r : Enclosing) where
   -- ---- the block waits for the statement behind the condition

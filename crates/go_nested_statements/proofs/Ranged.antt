@@ -35,7 +35,7 @@ use Rattle.go_syntax.specs.declared.statement.StmtKind.{StmtKind-F}
 use Rattle.go_untyped_places.specs.LiteralRuns.{IsLiteralRun}
 use Rattle.go_untyped_places.specs.Parts.{IsPart}
 use Rattle.go_untyped_places.proofs.Surveying.{survey_as}
-use Rattle.go_walks.specs.Literals.{LiteralsTyped}
+use Rattle.go_flat_statements.specs.go_walks.Literals.{LiteralsTyped}
 
 -- a range over an expression gives one list of types
 range_once : (F : Env) (e : Expr) (ts us : List Term) → RangesOver F e ts → RangesOver F e us → ts ≡ us

@@ -15,8 +15,8 @@ use Rattle.go_statement_rules.specs.Statements.{KindLayer}
 use Rattle.go_syntax.specs.declared.statement.LiteralBlock.{LiteralBlock}
 use Rattle.go_syntax.specs.declared.statement.Stmt.{Stmt}
 use Rattle.go_untyped_places.specs.Parts.{InHeader, IsLone}
-use Rattle.go_walks.specs.Below.{blocks_of, enclosing_of}
-use Rattle.go_walks.specs.declared.frame.Frame.{Frame}
+use Rattle.go_flat_statements.specs.go_walks.Below.{blocks_of, enclosing_of}
+use Rattle.go_flat_statements.specs.go_walks.declared.frame.Frame.{Frame}
 
 -- the statement of a header, and the function literals in the trees behind it
 abbrev pub InHead : Env → List LiteralBlock → Enclosing → Scopes → Option Stmt → List Node → Run → Type 0

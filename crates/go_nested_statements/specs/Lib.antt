@@ -1,2 +1,3 @@
+pub use Rattle.go_flat_statements.specs as go_flat_statements
 pub mod Heads
 pub mod Ranging

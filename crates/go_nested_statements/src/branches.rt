@@ -4,19 +4,19 @@ ghost use Rattle.go_flat_statements.specs.Judging.{JudgesHere};
 ghost use Rattle.go_local_scopes.specs.States.{Kept};
 ghost use Rattle.go_nested_statements.specs.Heads.{JudgesWithin};
 ghost use Rattle.go_syntax.specs.declared.statement.StmtKind.{StmtKind-F};
-ghost use Rattle.go_walks.specs.Below.{RunsBelow};
+ghost use Rattle.go_flat_statements.specs.go_walks.Below.{RunsBelow};
 
 use crate::headers::decided;
 use go_base::boxed::Box;
 use go_base::list::List;
 use go_base::memory::NoMemory;
+use go_flat_statements::go_walks::frame::Frame;
+use go_flat_statements::go_walks::inner::Inner;
+use go_flat_statements::go_walks::walk::Walk;
 use go_judged::judged::Judged;
 use go_rules::env::Env;
 use go_syntax::expression::Expr;
 use go_syntax::statement::Stmt;
-use go_walks::frame::Frame;
-use go_walks::inner::Inner;
-use go_walks::walk::Walk;
 
 // Both branches behind the header.
 fn branches_within<

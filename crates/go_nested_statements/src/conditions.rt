@@ -10,19 +10,19 @@ ghost use Rattle.go_selectors.specs.Answers.{Decides};
 ghost use Rattle.go_statement_rules.specs.Scopes.{Scopes};
 ghost use Rattle.go_statement_rules.specs.Statements.{IsCondition, tag_nodes};
 ghost use Rattle.go_untyped_places.specs.LiteralRuns.{IsLiteralRun};
-ghost use Rattle.go_walks.specs.Below.{RunsBelow, blocks_of, enclosing_of};
+ghost use Rattle.go_flat_statements.specs.go_walks.Below.{RunsBelow, blocks_of, enclosing_of};
 
 use go_base::memory::NoMemory;
 use go_clauses::conditions::condition;
+use go_flat_statements::go_walks::answers::holds;
+use go_flat_statements::go_walks::frame::Frame;
+use go_flat_statements::go_walks::inner::Inner;
+use go_flat_statements::go_walks::walk::Walk;
 use go_flat_statements::trees::expr_tree;
 use go_judged::judged::Judged;
 use go_rules::env::Env;
 use go_syntax::expression::Expr;
 use go_usability::context::Context;
-use go_walks::answers::holds;
-use go_walks::frame::Frame;
-use go_walks::inner::Inner;
-use go_walks::walk::Walk;
 
 // Whether an expression is a condition, but for the blocks of function literals in it.
 fn is_condition(frame: &Frame<'_>, env: &Env<'_>, expr: &Expr) -> Result<bool, NoMemory>

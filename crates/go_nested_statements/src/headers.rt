@@ -8,18 +8,18 @@ ghost use Rattle.go_rules.specs.Environments.{Env as Around};
 ghost use Rattle.go_statement_rules.specs.Contexts.{Decides as Decided};
 ghost use Rattle.go_statement_rules.specs.Scopes.{Scopes, opened};
 ghost use Rattle.go_statement_rules.specs.Statements.{tag_nodes};
-ghost use Rattle.go_walks.specs.Below.{RunsBelow, blocks_of, enclosing_of};
+ghost use Rattle.go_flat_statements.specs.go_walks.Below.{RunsBelow, blocks_of, enclosing_of};
 
 use crate::conditions::tested_where;
 use go_base::boxed::Box;
 use go_base::memory::NoMemory;
+use go_flat_statements::go_walks::frame::Frame;
+use go_flat_statements::go_walks::inner::Inner;
+use go_flat_statements::go_walks::walk::Walk;
 use go_judged::judged::Judged;
 use go_rules::env::Env;
 use go_syntax::expression::Expr;
 use go_syntax::statement::Stmt;
-use go_walks::frame::Frame;
-use go_walks::inner::Inner;
-use go_walks::walk::Walk;
 
 /// A statement and a condition, in the scope that was opened for them.
 pub(crate) fn decided<

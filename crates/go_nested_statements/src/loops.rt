@@ -6,20 +6,20 @@ ghost use Rattle.go_nested_statements.specs.Heads.{JudgesWithin, turned};
 ghost use Rattle.go_selectors.specs.Answers.{Decides};
 ghost use Rattle.go_statement_rules.specs.Statements.{IsPost, is_definition};
 ghost use Rattle.go_syntax.specs.declared.statement.StmtKind.{StmtKind-F, out-StmtKind};
-ghost use Rattle.go_walks.specs.Below.{RunsBelow};
+ghost use Rattle.go_flat_statements.specs.go_walks.Below.{RunsBelow};
 
 use crate::conditions::tested_where;
 use crate::headers::decided;
 use go_base::boxed::Box;
 use go_base::list::List;
 use go_base::memory::NoMemory;
+use go_flat_statements::go_walks::frame::Frame;
+use go_flat_statements::go_walks::inner::Inner;
+use go_flat_statements::go_walks::walk::Walk;
 use go_judged::judged::Judged;
 use go_rules::env::Env;
 use go_syntax::expression::Expr;
 use go_syntax::statement::{Stmt, StmtKind};
-use go_walks::frame::Frame;
-use go_walks::inner::Inner;
-use go_walks::walk::Walk;
 
 fn is_definition(kind: &StmtKind) -> bool
     ensures { result ≡ is_definition (out-StmtKind kind.now) }

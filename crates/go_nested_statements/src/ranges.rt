@@ -13,12 +13,16 @@ ghost use Rattle.go_statement_rules.specs.Scopes.{Declares, Scopes, locals, open
 ghost use Rattle.go_statement_rules.specs.Statements.{some_names};
 ghost use Rattle.go_syntax.specs.declared.statement.StmtKind.{StmtKind-F};
 ghost use Rattle.go_usability.specs.Answers.{Gives};
-ghost use Rattle.go_walks.specs.Below.{RunsBelow, blocks_of, enclosing_of};
+ghost use Rattle.go_flat_statements.specs.go_walks.Below.{RunsBelow, blocks_of, enclosing_of};
 
 use go_base::list::List;
 use go_base::memory::NoMemory;
 use go_clauses::ranges::range;
 use go_clauses::targets::{range_assigned, range_defined};
+use go_flat_statements::go_walks::answers::found;
+use go_flat_statements::go_walks::frame::Frame;
+use go_flat_statements::go_walks::inner::Inner;
+use go_flat_statements::go_walks::walk::Walk;
 use go_flat_statements::trees::{and_trees, expr_tree};
 use go_judged::judged::Judged;
 use go_local_scopes::declaring::declare_all;
@@ -29,10 +33,6 @@ use go_syntax::expression::Expr;
 use go_syntax::name::Name;
 use go_syntax::statement::Stmt;
 use go_usability::context::Context;
-use go_walks::answers::found;
-use go_walks::frame::Frame;
-use go_walks::inner::Inner;
-use go_walks::walk::Walk;
 use std::alloc::Global;
 
 // The types of what a range over an expression gives, where there is one.

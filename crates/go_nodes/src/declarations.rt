@@ -4,13 +4,13 @@ ghost use Rattle.go_base.specs.Keys.{item_of};
 ghost use Rattle.go_declarations.specs.Forms.{form_of};
 ghost use Rattle.go_nodes.specs.Trees.{nodes_in};
 ghost use Rattle.go_rules.specs.Nodes.{optional, type as type_node};
-ghost use Rattle.go_typings.specs.DeclarationNodes.{nodes};
+ghost use Rattle.go_declarations.specs.go_typings.DeclarationNodes.{nodes};
 
 use crate::tree::Tree;
 use crate::trees::Trees;
 use go_base::memory::NoMemory;
 use go_declarations::form::Form;
-use go_syntax::types::Type;
+use go_rules::go_syntax::types::Type;
 use std::alloc::Global;
 
 fn push_type<'a>(trees: &mut Trees<'a>, form: Option<&'a Type>) -> Result<(), NoMemory>

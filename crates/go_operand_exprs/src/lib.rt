@@ -2,5 +2,7 @@
 //! are skipped.
 #![tactic(auto)]
 
+pub use go_type_exprs;
+
 mod literals;
 pub mod operands;

@@ -8,11 +8,11 @@ ghost use Rattle.go_cursor.specs.Reads.{Reads};
 ghost use Rattle.go_descent.specs.Rules as rules;
 
 use crate::operands::OperandExprs;
-use go_base::list::List;
 use go_cursor::cursor::Cursor;
 use go_cursor::error::ParseError;
 use go_descent::grammar::{Part, PartTree};
 use go_syntax::expression::{Element, ElementValue};
+use go_syntax::go_base::list::List;
 use go_syntax::held::expression::{HeldElementValue, HeldElements};
 use go_syntax::token::TokenKind;
 use std::alloc::Global;

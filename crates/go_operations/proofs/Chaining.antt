@@ -16,7 +16,7 @@ use Rattle.go_rules.specs.declared.operand.Operand.{Operand}
 use Rattle.go_rules.proofs.OneOperand.{has_once}
 use Rattle.go_rules.proofs.OneResult.{one_comparison, one_computes, one_product}
 use Rattle.go_syntax.specs.declared.expression.Expr.{Expr, Expr-F}
-use Rattle.go_usability.specs.Answers.{Gives}
+use Rattle.go_operators.specs.go_usability.Answers.{Gives}
 use Rattle.go_type_terms.specs.Loudness.{AreLoud}
 use Rattle.go_type_terms.proofs.LoudTrees.{none_loud}
 use Rattle.go_operations.specs.Chains.{Chains, chain_none, chain_more, ChainsFrom, Combines, Steps}

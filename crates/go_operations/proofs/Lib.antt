@@ -1,3 +1,4 @@
+pub use Rattle.go_type_terms.proofs as go_type_terms_proofs
 pub mod Chaining
 pub mod LiteralForms
 pub mod LoudForms

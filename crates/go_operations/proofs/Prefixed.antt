@@ -10,7 +10,7 @@ use Rattle.go_rules.specs.Nodes.{ExprLayer}
 use Rattle.go_rules.specs.declared.operand.Operand.{Operand}
 use Rattle.go_rules.proofs.OneOperand.{has_once}
 use Rattle.go_operators.specs.Prefixes.{Addresses, addresses_variable, addresses_literal, Changes, changes_constant, changes_value, Dereferences, dereferences_value, dereferences_type, Prefixes, Receives, receives_element}
-use Rattle.go_selectors.specs.Answers.{Decides}
+use Rattle.go_operators.specs.go_selectors.Answers.{Decides}
 use Rattle.go_syntax.specs.declared.expression.Element.{Element}
 use Rattle.go_syntax.specs.declared.expression.Expr.{Expr, Expr-F, out-Expr}
 use Rattle.go_syntax.specs.declared.types.«Type».{«Type» as Typ}

@@ -6,12 +6,12 @@ ghost use Rattle.go_type_terms.specs.Answers.{Types, TypesBelow, env_in};
 
 use crate::operations::Operations;
 use crate::operators::{Operator, Operators, combine};
+use go_operators::go_usability::context::Context;
 use go_rules::operand::Operand;
 use go_syntax::expression::Expr;
 use go_type_terms::error::ExprError;
 use go_type_terms::loud::either;
 use go_type_terms::part::{Answer, Part};
-use go_usability::context::Context;
 use std::alloc::Global;
 
 impl<'a, F: Fn(&Context<'_>, Global, usize, Part<'_>) -> Result<Answer, ExprError>> Operations<

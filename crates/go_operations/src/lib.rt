@@ -1,6 +1,8 @@
 //! What names and literals denote, and what operators make of expressions, over what types their parts.
 #![tactic(auto)]
 
+pub use go_type_terms;
+
 pub mod chains;
 mod constants;
 pub mod literals;

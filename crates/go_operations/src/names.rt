@@ -6,8 +6,8 @@ ghost use Rattle.go_rules.specs.Expressions.{Denotes, DenotesImported, seen_oper
 ghost use Rattle.go_rules.specs.Meanings.{seen_of};
 ghost use Rattle.go_rules.specs.Operands.{denoted};
 ghost use Rattle.go_rules.specs.declared.seen.Seen.TheVariants as seen;
-ghost use Rattle.go_selectors.specs.Answers.{Decides};
-ghost use Rattle.go_usability.specs.Answers.{Gives};
+ghost use Rattle.go_operators.specs.go_selectors.Answers.{Decides};
+ghost use Rattle.go_operators.specs.go_usability.Answers.{Gives};
 ghost use Rattle.go_type_terms.specs.Answers.{Tells, env_in};
 
 use crate::constants::constant;
@@ -15,6 +15,7 @@ use crate::universe::predeclared_operand;
 use go_base::memory::NoMemory;
 use go_model::types::package::Entity;
 use go_model::types::term::Term;
+use go_operators::go_usability::context::Context;
 use go_operators::operands::{plain, type_name, variable};
 use go_rules::blank::is_blank;
 use go_rules::exports::is_exported;
@@ -22,7 +23,6 @@ use go_rules::meaning::Meaning;
 use go_rules::operand::Operand;
 use go_syntax::name::Name;
 use go_type_terms::error::ExprError;
-use go_usability::context::Context;
 use std::alloc::Global;
 
 // What an object of a package denotes.

@@ -8,12 +8,12 @@ ghost use Rattle.go_type_terms.specs.Answers.{Types, TypesBelow, env_in};
 
 use crate::operations::Operations;
 use go_model::types::term::{Direction, Term};
+use go_operators::go_usability::context::Context;
 use go_operators::operands::{plain, type_name};
 use go_rules::operand::Operand;
 use go_syntax::types::{Signature, Type};
 use go_type_terms::error::ExprError;
 use go_type_terms::part::{Answer, Part};
-use go_usability::context::Context;
 use std::alloc::Global;
 
 impl<'a, F: Fn(&Context<'_>, Global, usize, Part<'_>) -> Result<Answer, ExprError>> Operations<

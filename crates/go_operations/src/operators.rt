@@ -4,16 +4,16 @@ ghost use Rattle.std.specs.List.{slice_get};
 ghost use Rattle.go_operations.specs.Chains.{Combines, operators_of};
 ghost use Rattle.go_rules.specs.Expressions.{Computes, ProductComputes, product_operator, sum_operator};
 ghost use Rattle.go_type_terms.specs.Answers.{env_in};
-ghost use Rattle.go_usability.specs.Answers.{Gives};
+ghost use Rattle.go_operators.specs.go_usability.Answers.{Gives};
 
 use go_base::memory::NoMemory;
 use go_base::operator::{CompareOp, ProductOperator, SumOperator};
 use go_model::constants::value::BinaryOp;
 use go_operators::arithmetic::binary;
 use go_operators::comparisons::compare;
+use go_operators::go_usability::context::Context;
 use go_operators::shifts::shift;
 use go_rules::operand::Operand;
-use go_usability::context::Context;
 use std::alloc::Global;
 
 /// An operator between two operands.

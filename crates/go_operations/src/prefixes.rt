@@ -3,18 +3,18 @@ ghost use Rattle.std.specs.Prelude.{◌≡◌, ◌∷◌, []};
 ghost use Rattle.go_operations.specs.Prefixes.{is_receive_operator};
 ghost use Rattle.go_rules.specs.Expressions.{HasForm, IsComposite};
 ghost use Rattle.go_rules.specs.Nodes.{expression};
-ghost use Rattle.go_selectors.specs.Answers.{Decides};
+ghost use Rattle.go_operators.specs.go_selectors.Answers.{Decides};
 ghost use Rattle.go_syntax.specs.declared.expression.Expr.{Expr-F};
 ghost use Rattle.go_type_terms.specs.Answers.{Types, TypesBelow, env_in};
 
 use crate::operations::Operations;
 use go_base::operator::PrefixOperator;
+use go_operators::go_usability::context::Context;
 use go_operators::prefixes::prefix;
 use go_rules::operand::Operand;
 use go_syntax::expression::Expr;
 use go_type_terms::error::ExprError;
 use go_type_terms::part::{Answer, Part};
-use go_usability::context::Context;
 use std::alloc::Global;
 
 // Whether an expression is a composite literal, parentheses aside.

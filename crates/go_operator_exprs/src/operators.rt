@@ -12,13 +12,13 @@ ghost use Rattle.go_descent.specs.Rules as rules;
 ghost use Rattle.go_operator_exprs.specs.Chains.{EndsOperands, and_after, and_behind, compare_after, compare_behind, or_after, or_behind, product_after, sum_after, sum_behind};
 ghost use Rattle.go_operator_exprs.specs.Primary.{ReadsPrimary};
 
-use go_base::list::List;
-use go_base::memory::NoMemory;
-use go_base::operator::{CompareOp, PrefixOperator, ProductOperator, SumOperator};
 use go_cursor::cursor::Cursor;
 use go_cursor::error::ParseError;
 use go_descent::grammar::{Grammar, Part, PartTree};
 use go_syntax::expression::Expr;
+use go_syntax::go_base::list::List;
+use go_syntax::go_base::memory::NoMemory;
+use go_syntax::go_base::operator::{CompareOp, PrefixOperator, ProductOperator, SumOperator};
 use go_syntax::held::expression::{HeldExpr, HeldExprs, boxed_expr};
 use go_syntax::token::TokenKind;
 use std::alloc::Global;

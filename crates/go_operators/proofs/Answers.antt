@@ -1,6 +1,6 @@
 -- Answers of searches, from the answers of their parts.
 use Rattle.std.proofs.Common.{◌≡◌, Bool, true, false, Option, Some, None, Result, Ok, refl, sym, subst, ◌∙◌, if◌then◌else◌}
-use Rattle.go_selectors.specs.Answers.{Decides}
+use Rattle.go_usability.specs.go_selectors.Answers.{Decides}
 use Rattle.go_usability.specs.Answers.{Gives}
 
 pub none_some : {A : Type 0} {x : A} → None ≡ Some x → ⊥

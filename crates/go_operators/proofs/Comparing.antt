@@ -19,7 +19,7 @@ use Rattle.go_rules.specs.Operands.{HasKind, IsTyped, IsUntyped, constant_of, lo
 use Rattle.go_rules.specs.Usability.{Compares, Match, match_types, match_right, match_left, match_kinds, UsableAs}
 use Rattle.go_rules.specs.declared.operand.Operand.{Operand}
 use Rattle.go_rules.proofs.OneKind.{no_truth, one_kind, one_match, one_type, typed_or_untyped}
-use Rattle.go_selectors.specs.Answers.{Decides}
+use Rattle.go_usability.specs.go_selectors.Answers.{Decides}
 use Rattle.go_usability.specs.Answers.{Gives}
 use Rattle.go_operators.specs.inner.Comparisons.{Orders, orders, ConstantsCompare, constants_compare, EquatesType, equates_untyped, equates_nil, EquatesKinds, equates_both}
 use Rattle.go_operators.specs.inner.Constants.{HasValue, has_value}

@@ -20,7 +20,7 @@ use Rattle.go_rules.specs.Operands.{HasKind, IsTyped, basic_term, constant_of, d
 use Rattle.go_rules.specs.Usability.{Convertible, DefaultHolds, UsableAs}
 use Rattle.go_rules.specs.declared.operand.Operand.{Operand}
 use Rattle.go_rules.proofs.OneKind.{no_truth, one_kind, one_type}
-use Rattle.go_selectors.specs.Answers.{Decides}
+use Rattle.go_usability.specs.go_selectors.Answers.{Decides}
 use Rattle.go_usability.specs.Answers.{Gives}
 use Rattle.go_operators.specs.inner.Conversions.{ConvertsType, converts_type, ConvertsInexact, converts_number, ConvertsExact, converts_exact}
 use Rattle.go_operators.proofs.Answers.{given, none_some, false_true}

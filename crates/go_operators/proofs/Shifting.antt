@@ -19,7 +19,7 @@ use Rattle.go_rules.specs.Expressions.{IsCount, count_value, count_typed, count_
 use Rattle.go_rules.specs.Operands.{HasKind, IsTyped, constant_of, plain}
 use Rattle.go_rules.specs.declared.operand.Operand.{Operand}
 use Rattle.go_rules.proofs.OneKind.{no_truth, one_kind, one_type}
-use Rattle.go_selectors.specs.Answers.{Decides}
+use Rattle.go_usability.specs.go_selectors.Answers.{Decides}
 use Rattle.go_usability.specs.Answers.{Gives}
 use Rattle.go_operators.specs.inner.Constants.{HasValue, has_value, ConstantShifts, constant_shifts, IntegerValue, integer_value}
 use Rattle.go_operators.specs.inner.Values.{IsIntegerValue}

@@ -20,7 +20,7 @@ use Rattle.go_rules.specs.declared.operand.Operand.{Operand}
 use Rattle.go_rules.specs.declared.operand.Shape.{Shape}
 use Rattle.go_rules.specs.declared.operand.Shape.TheVariants as shape
 use Rattle.go_rules.proofs.OneKind.{one_type, typed_or_untyped}
-use Rattle.go_selectors.specs.Answers.{Decides}
+use Rattle.go_usability.specs.go_selectors.Answers.{Decides}
 use Rattle.go_operators.specs.inner.Constants.{HasValue, has_value}
 use Rattle.go_operators.specs.inner.Values.{IsIntegerValue, IsStringValue}
 use Rattle.go_operators.proofs.Answers.{false_true}

@@ -10,11 +10,11 @@ ghost use Rattle.go_operators.specs.inner.Constants.{ConstantsCompute};
 use crate::operands::{computed_where, constant_with};
 use crate::values::{are_constant, kind_of, value_in};
 use go_base::memory::NoMemory;
-use go_const::operation;
 use go_model::constants::class::Class;
 use go_model::constants::value::{BinaryOp, Kind, Value};
 use go_rules::operand::{Operand, Shape};
 use go_usability::context::Context;
+use go_usability::go_const::operation;
 use go_usability::matching::matching;
 use std::alloc::Global;
 

@@ -8,7 +8,7 @@ ghost use Rattle.go_model.specs.declared.types.package.ConstTerm.TheVariants as 
 ghost use Rattle.go_model.specs.declared.types.term.Term.{Term};
 ghost use Rattle.go_rules.specs.Scopes.{env_of};
 ghost use Rattle.go_rules.specs.Usability.{Compares};
-ghost use Rattle.go_selectors.specs.Answers.{Decides};
+ghost use Rattle.go_usability.specs.go_selectors.Answers.{Decides};
 ghost use Rattle.go_usability.specs.Answers.{Gives};
 ghost use Rattle.go_operators.specs.inner.Comparisons.{ConstantsCompare, EquatesKinds, EquatesType, Orders};
 
@@ -16,13 +16,13 @@ use crate::operands::{loose, truth};
 use crate::values::{are_constant, is_nil, is_usable, kind_of, type_of, untyped_of, value_in};
 use go_base::memory::NoMemory;
 use go_base::operator::CompareOp;
-use go_const::comparison::compare_values;
 use go_model::constants::value::{Untyped, Value};
 use go_model::types::package::ConstTerm;
 use go_model::types::term::Term;
 use go_rules::operand::Operand;
 use go_usability::comparison::compares;
 use go_usability::context::Context;
+use go_usability::go_const::comparison::compare_values;
 use go_usability::matching::matching;
 use std::alloc::Global;
 

@@ -5,7 +5,7 @@ ghost use Rattle.go_rules.specs.Expressions.{Converts, is_composed, is_constant}
 ghost use Rattle.go_rules.specs.Operands.{basic_term, constant_of, default_type};
 ghost use Rattle.go_rules.specs.Scopes.{env_of};
 ghost use Rattle.go_rules.specs.Usability.{DefaultHolds};
-ghost use Rattle.go_selectors.specs.Answers.{Decides};
+ghost use Rattle.go_usability.specs.go_selectors.Answers.{Decides};
 ghost use Rattle.go_usability.specs.Answers.{Gives};
 ghost use Rattle.go_operators.specs.inner.Conversions.{ConvertsExact, ConvertsInexact, ConvertsType};
 
@@ -13,14 +13,14 @@ use crate::levels::{basic_under, is_composed_under};
 use crate::operands::{constant_with, plain_like, plain_where};
 use crate::values::{constant_of, is_constant, is_nil, kind_of, loose_of, type_of};
 use go_base::memory::NoMemory;
-use go_const::conversion::convert;
-use go_const::representation::representable;
 use go_model::constants::value::{Basic, Untyped, Value};
 use go_model::types::package::ConstTerm;
 use go_model::types::term::Term;
 use go_rules::operand::Operand;
 use go_usability::context::Context;
 use go_usability::conversions::convertible;
+use go_usability::go_const::conversion::convert;
+use go_usability::go_const::representation::representable;
 use go_usability::usable::usable;
 use std::alloc::Global;
 

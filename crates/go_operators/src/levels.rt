@@ -10,7 +10,7 @@ ghost use Rattle.go_model.specs.declared.types.term.Term.{Term, Term-F, out-Term
 ghost use Rattle.go_model.specs.types.Underlying.{under};
 ghost use Rattle.go_rules.specs.Expressions.{is_composed};
 ghost use Rattle.go_rules.specs.Scopes.{env_of};
-ghost use Rattle.go_selectors.specs.Answers.{Decides};
+ghost use Rattle.go_usability.specs.go_selectors.Answers.{Decides};
 ghost use Rattle.go_usability.specs.Answers.{Gives};
 
 use go_model::constants::class::Class;

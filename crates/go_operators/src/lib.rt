@@ -2,6 +2,9 @@
 //! operator gives, or None where it gives none.
 #![tactic(auto)]
 
+pub use go_usability;
+pub use go_usability::go_const;
+
 pub mod arithmetic;
 pub mod comparisons;
 pub mod conversions;

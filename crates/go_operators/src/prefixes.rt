@@ -3,7 +3,7 @@ ghost use Rattle.std.specs.Prelude.{◌≡◌, IfOk, false};
 ghost use Rattle.go_rules.specs.Expressions.{is_constant, receives};
 ghost use Rattle.go_rules.specs.Operands.{constant_of};
 ghost use Rattle.go_rules.specs.Scopes.{env_of};
-ghost use Rattle.go_selectors.specs.Answers.{Decides};
+ghost use Rattle.go_usability.specs.go_selectors.Answers.{Decides};
 ghost use Rattle.go_base.specs.Keys.{item_of};
 ghost use Rattle.go_usability.specs.Answers.{Gives};
 ghost use Rattle.go_operators.specs.inner.Addresses.{HasAddress};
@@ -16,12 +16,12 @@ use crate::operands::{
 use crate::values::{constant_of, is_constant, is_variable, kind_of, term_of, type_in, type_of};
 use go_base::memory::NoMemory;
 use go_base::operator::PrefixOperator;
-use go_const::operation::unary;
 use go_model::constants::value::{UnaryOp, Value};
 use go_model::types::package::ConstTerm;
 use go_model::types::term::{Direction, Term, pointer_to};
 use go_rules::operand::{Mode, Operand};
 use go_usability::context::Context;
+use go_usability::go_const::operation::unary;
 use std::alloc::Global;
 
 fn change_constant(

@@ -7,7 +7,7 @@ ghost use Rattle.go_model.specs.declared.constants.value.Value.TheVariants as v;
 ghost use Rattle.go_rules.specs.Expressions.{IsCount, Shifts};
 ghost use Rattle.go_rules.specs.Operands.{constant_of};
 ghost use Rattle.go_rules.specs.Scopes.{env_of};
-ghost use Rattle.go_selectors.specs.Answers.{Decides};
+ghost use Rattle.go_usability.specs.go_selectors.Answers.{Decides};
 ghost use Rattle.go_usability.specs.Answers.{Gives};
 ghost use Rattle.go_operators.specs.inner.Constants.{ConstantShifts, IntegerValue};
 
@@ -15,12 +15,12 @@ use crate::levels::is_integer;
 use crate::operands::{constant_like, plain_where};
 use crate::values::{constant_of, is_integer_value, kind_of, type_of, value_in};
 use go_base::memory::NoMemory;
-use go_const::operation;
-use go_const::representation::representable;
 use go_model::constants::value::{Basic, Value};
 use go_model::types::package::ConstTerm;
 use go_rules::operand::Operand;
 use go_usability::context::Context;
+use go_usability::go_const::operation;
+use go_usability::go_const::representation::representable;
 use std::alloc::Global;
 
 // Whether it is a whole number from 0.

@@ -8,7 +8,7 @@ ghost use Rattle.go_rules.specs.Expressions.{is_constant};
 ghost use Rattle.go_rules.specs.Operands.{IsOf, IsTyped, IsUntyped, HasKind, constant_of, is_value_mode, is_variable, loose, nil, type_name};
 ghost use Rattle.go_rules.specs.Scopes.{env_of};
 ghost use Rattle.go_rules.specs.Usability.{UsableAs};
-ghost use Rattle.go_selectors.specs.Answers.{Decides};
+ghost use Rattle.go_usability.specs.go_selectors.Answers.{Decides};
 ghost use Rattle.go_usability.specs.Answers.{Gives};
 ghost use Rattle.go_operators.specs.inner.Constants.{HasValue};
 ghost use Rattle.go_operators.specs.inner.Values.{IsIntegerValue, IsStringValue};

@@ -21,7 +21,7 @@ use go_entries::given::entry;
 use go_model::types::package::Defined;
 use go_rules::env::Env;
 use go_type_terms::error::ExprError;
-use go_usability::context::Context;
+use go_type_terms::go_usability::context::Context;
 use std::alloc::Global;
 
 // Whether a type is defined by a name that after the aliases of the package is one of another package.

@@ -5,7 +5,7 @@ use Rattle.std.specs.Cmp.Lexicographic.{bytes_decides}
 use Rattle.std.specs.Str.{bytes_eq}
 use Rattle.go_model.specs.declared.types.names.TypeName.{TypeName}
 use Rattle.go_model.specs.types.Terms.{error_type, is_error}
-use Rattle.go_references.specs.declared.references.Reference.{Reference}
+use Rattle.go_typings.specs.go_references.declared.references.Reference.{Reference}
 use Rattle.go_rules.specs.Environments.{Env}
 use Rattle.go_rules.specs.Growth.{Grows}
 use Rattle.go_rules.specs.Scopes.{env_of, Scopes}

@@ -1,6 +1,6 @@
 //! Laws of the definitions.
 ghost use Rattle.std.specs.Prelude.{◌≡◌, ◌≢◌, ◌↔◌, ℕ, false, List, [], None, Some, slice_get};
-ghost use Rattle.go_references.specs.declared.references.Reference.{Reference};
+ghost use Rattle.go_typings.specs.go_references.declared.references.Reference.{Reference};
 ghost use Rattle.go_rules.specs.Growth.{Grows};
 ghost use Rattle.go_rules.specs.Scopes.{Scopes, env_of};
 ghost use Rattle.go_typings.specs.DeclarationAsks.{Asks};

@@ -11,12 +11,12 @@ ghost use Rattle.go_cursor.specs.Reading.{bind, close, run, step_of};
 ghost use Rattle.go_cursor.specs.Reads.{Reads, ReadsNext};
 ghost use Rattle.go_descent.specs.Rules as rules;
 
-use go_base::list::List;
 use go_cursor::cursor::Cursor;
 use go_cursor::error::ParseError;
 use go_cursor::looks::begins_type_switch;
 use go_descent::grammar::{Grammar, Part, PartTree};
 use go_syntax::expression::Post;
+use go_syntax::go_base::list::List;
 use go_syntax::held::expression::{
     HeldExpr, HeldExprs, HeldPosts, boxed_expr, full_slice_post, slice_post,
 };

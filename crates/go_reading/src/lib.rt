@@ -1,6 +1,8 @@
 //! Reading the folders of loaded trees: which of them may hold packages, what their files give, and the units of a module.
 #![tactic(auto)]
 
+pub use go_parse;
+
 pub mod files_by_name;
 pub mod folder_list;
 mod gathering;

@@ -9,8 +9,8 @@
 --
 -- A step says what one level of a tree gives at a position, where what each part gives stands in the part's place.
 use Rattle.std.specs.Prelude.{Bool, true, false, not, List, [], ◌∷◌, ◌++◌, map, filter, Option, Some, None}
-use Rattle.go_base.specs.declared.operator.PrefixOperator.{PrefixOperator}
-use Rattle.go_base.specs.declared.operator.PrefixOperator.TheVariants as prefix
+use Rattle.go_syntax.specs.go_base.declared.operator.PrefixOperator.{PrefixOperator}
+use Rattle.go_syntax.specs.go_base.declared.operator.PrefixOperator.TheVariants as prefix
 use Rattle.go_syntax.specs.declared.declaration.ConstSpec.{ConstSpec}
 use Rattle.go_syntax.specs.declared.declaration.Decl.{Decl}
 use Rattle.go_syntax.specs.declared.declaration.Decl.TheVariants as decl

@@ -1,15 +1,15 @@
 //! References: the names by which a declaration refers to others outside of bodies, and how each one stands there.
 ghost use Rattle.std.specs.Prelude.{◌≡◌, ◌++◌, ◌∷◌, [], map, false, Some, None, IfOk, IfSome, IfNone, OnOk};
-ghost use Rattle.go_base.specs.Keys.{item_of};
+ghost use Rattle.go_syntax.specs.go_base.Keys.{item_of};
 ghost use Rattle.go_references.specs.References as references;
 ghost use Rattle.go_references.specs.References.{joined, expr_refs, exprs_refs, post_refs, post_refs_of, element_refs, value_refs, type_refs, signature_refs, result_refs, parameter_refs, field_refs, interface_refs};
 
-use go_base::boxed::Box;
-use go_base::list::List;
-use go_base::memory::NoMemory;
-use go_base::operator::PrefixOperator;
 use go_syntax::declaration::{ConstSpec, Decl, Func, TypeSpec, VarSpec};
 use go_syntax::expression::{Element, ElementValue, Expr, Post};
+use go_syntax::go_base::boxed::Box;
+use go_syntax::go_base::list::List;
+use go_syntax::go_base::memory::NoMemory;
+use go_syntax::go_base::operator::PrefixOperator;
 use go_syntax::name::{Name, QualifiedName};
 use go_syntax::types::{FieldDecl, FuncResult, InterfaceElem, ParameterDecl, Signature, Type};
 use std::alloc::Global;
@@ -39,7 +39,7 @@ pub struct Reference<'a> {
 }
 
 impl<'a> Model for Reference<'a> {
-    ghost use Rattle.go_base.specs.Keys.{item_of};
+    ghost use Rattle.go_syntax.specs.go_base.Keys.{item_of};
     ghost use Rattle.go_references.specs.Reference.{Reference as Seen};
 
     ghost Value = { Seen };

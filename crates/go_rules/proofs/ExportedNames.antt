@@ -4,7 +4,7 @@ use mathlib.Core.Bool.{true≢false}
 use Rattle.std.proofs.lemmas.Str.{IsUtf8-from_is_utf8, chars_past_char, chars_from_encodes}
 use lib.Utf8.{scalars}
 use Rattle.std.specs.Str.{chars, is_utf8, encode_utf8_all}
-use Rattle.go_base.specs.Characters.{BeginsPassing, is_upper}
+use Rattle.go_syntax.specs.go_base.Characters.{BeginsPassing, is_upper}
 use Rattle.go_rules.specs.Environments.{begins_upper, is_exported}
 
 first_true : (a b : Bool) → (a && b) ≡ true → a ≡ true

@@ -1,8 +1,8 @@
 -- Among more entries an expression is the operand that it was, and a type form stands for the type that it stood for.
 use Rattle.std.proofs.Common.{◌≡◌, ℕ, length, Bool, true, List, Option, refl}
-use Rattle.go_base.specs.declared.operator.CompareOp.{CompareOp}
-use Rattle.go_base.specs.declared.operator.ProductOperator.{ProductOperator}
-use Rattle.go_base.specs.declared.operator.SumOperator.{SumOperator}
+use Rattle.go_syntax.specs.go_base.declared.operator.CompareOp.{CompareOp}
+use Rattle.go_syntax.specs.go_base.declared.operator.ProductOperator.{ProductOperator}
+use Rattle.go_syntax.specs.go_base.declared.operator.SumOperator.{SumOperator}
 use Rattle.go_model.specs.declared.constants.value.Basic.TheVariants as basic
 use Rattle.go_model.specs.declared.constants.value.BinaryOp.{BinaryOp}
 use Rattle.go_model.specs.declared.types.term.Field.{Field}

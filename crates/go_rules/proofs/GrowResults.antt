@@ -1,7 +1,7 @@
 -- Among more entries operators, conversions, indices, slice expressions and names make what they made.
 use Rattle.std.proofs.Common.{◌≡◌, ℕ, Bool, true, List, [], ◌∷◌, Option, Some, None, refl, sym, ap, ◌∙◌, subst, inl, inr}
-use Rattle.go_base.specs.declared.operator.CompareOp.{CompareOp}
-use Rattle.go_base.specs.Lists.{Each}
+use Rattle.go_syntax.specs.go_base.declared.operator.CompareOp.{CompareOp}
+use Rattle.go_syntax.specs.go_base.Lists.{Each}
 use Rattle.go_model.specs.declared.constants.value.Basic.TheVariants as basic
 use Rattle.go_model.specs.declared.constants.value.BinaryOp.{BinaryOp}
 use Rattle.go_model.specs.declared.constants.value.Value.{Value}

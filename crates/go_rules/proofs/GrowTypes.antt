@@ -1,8 +1,8 @@
 -- Among more entries a type is the same underneath, and a selector finds the same in it.
 use Rattle.std.proofs.Common.{◌≡◌, ℕ, zero, suc, ◌≤◌, Bool, true, false, List, [], ◌∷◌, ◌++◌, Option, Some, None, refl, sym, ap, ◌∙◌, subst, inl, inr, arith}
 use Rattle.std.specs.Prelude.{map, if◌then◌else◌}
-use Rattle.go_base.specs.Gathered.{gather}
-use Rattle.go_base.specs.Lists.{Has}
+use Rattle.go_syntax.specs.go_base.Gathered.{gather}
+use Rattle.go_syntax.specs.go_base.Lists.{Has}
 use Rattle.go_model.specs.declared.types.names.Sel.{Sel}
 use Rattle.go_model.specs.declared.types.names.TypeName.{TypeName}
 use Rattle.go_model.specs.declared.types.package.Defined.{Defined}

@@ -1,9 +1,9 @@
 -- The constant that an expression is has a value of its kind, where the constants that names mean have.
 use Rattle.std.proofs.Common.{◌≡◌, ℕ, Bool, true, List, [], ◌∷◌, Option, Some, None, refl, ap, subst}
 use Rattle.std.specs.Prelude.{pos}
-use Rattle.go_base.specs.declared.operator.CompareOp.{CompareOp}
-use Rattle.go_base.specs.declared.operator.ProductOperator.{ProductOperator}
-use Rattle.go_base.specs.declared.operator.SumOperator.{SumOperator}
+use Rattle.go_syntax.specs.go_base.declared.operator.CompareOp.{CompareOp}
+use Rattle.go_syntax.specs.go_base.declared.operator.ProductOperator.{ProductOperator}
+use Rattle.go_syntax.specs.go_base.declared.operator.SumOperator.{SumOperator}
 use Rattle.go_model.specs.constants.Constants.{is_of, is_representable}
 use Rattle.go_model.specs.declared.constants.value.Basic.TheVariants as basic
 use Rattle.go_model.specs.declared.constants.value.BinaryOp.{BinaryOp}

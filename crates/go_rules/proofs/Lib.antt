@@ -1,3 +1,4 @@
+pub use Rattle.go_model.proofs as go_model_proofs
 pub mod AnnouncedNames
 pub mod ExportedNames
 pub mod GrowAsks

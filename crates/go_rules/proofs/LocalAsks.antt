@@ -1,7 +1,7 @@
 -- In a region what an expression and a type form are asked is met as in the whole environment.
 use Rattle.std.proofs.Common.{◌≡◌, Bool, true, false, List, [], ◌∷◌, Option, Some, None, refl, sym, subst}
 use Rattle.std.specs.Prelude.{if◌then◌else◌}
-use Rattle.go_base.specs.Lists.{Each}
+use Rattle.go_syntax.specs.go_base.Lists.{Each}
 use Rattle.go_model.specs.declared.types.package.Defined.{Defined}
 use Rattle.go_model.specs.declared.types.term.Signature.{Signature}
 use Rattle.go_model.specs.declared.types.term.Term.{Term}

@@ -1,10 +1,10 @@
 -- In a region an expression is the operand that it is in the whole environment, and a type form stands for the same type.
 use Rattle.std.proofs.Common.{◌≡◌, ℕ, length, Bool, true, false, List, [], ◌∷◌, ◌++◌, Option, sym, subst}
 use Rattle.std.specs.Prelude.{map}
-use Rattle.go_base.specs.declared.operator.CompareOp.{CompareOp}
-use Rattle.go_base.specs.declared.operator.ProductOperator.{ProductOperator}
-use Rattle.go_base.specs.declared.operator.SumOperator.{SumOperator}
-use Rattle.go_base.specs.Lists.{Each}
+use Rattle.go_syntax.specs.go_base.declared.operator.CompareOp.{CompareOp}
+use Rattle.go_syntax.specs.go_base.declared.operator.ProductOperator.{ProductOperator}
+use Rattle.go_syntax.specs.go_base.declared.operator.SumOperator.{SumOperator}
+use Rattle.go_syntax.specs.go_base.Lists.{Each}
 use Rattle.go_model.specs.declared.constants.value.Basic.TheVariants as basic
 use Rattle.go_model.specs.declared.constants.value.BinaryOp.{BinaryOp}
 use Rattle.go_model.specs.declared.types.term.Direction.TheVariants as direction

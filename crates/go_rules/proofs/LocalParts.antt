@@ -1,11 +1,11 @@
 -- What a tree of a region refers to: each of its parts is of the region too.
 use Rattle.std.proofs.Common.{◌≡◌, ℕ, zero, suc, Bool, List, [], ◌∷◌, ◌++◌, Some, refl, sym, ap, ◌∙◌, subst}
 use Rattle.std.specs.Prelude.{map, replicate, length}
-use Rattle.go_base.specs.Lists.{Each, Passes}
+use Rattle.go_syntax.specs.go_base.Lists.{Each, Passes}
 use Rattle.go_model.specs.declared.types.term.Signature.{fold-roll-Signature}
 use Rattle.go_model.specs.declared.types.term.Term.{Term}
 use Rattle.go_model.specs.types.TypeNames.{Names, all_of, field_names, method_names, name_step, names, parameter_names}
-use Rattle.go_base.specs.Gathered.{gather}
+use Rattle.go_syntax.specs.go_base.Gathered.{gather}
 use Rattle.go_rules.specs.Expressions.{CallsAt, calls_at, IsCall, call, call_receive_type, chain, for_names, results_of, signature}
 use Rattle.go_rules.specs.Nodes.{PostLayer, Node, expression, post, value, type, parts, Stands, stands_here, stands_in, element_parts, expression_parts, optional, post_parts, type_parts, value_parts}
 use Rattle.go_rules.specs.Operands.{plain}

@@ -2,8 +2,8 @@
 -- environment, and that is of the region.
 use Rattle.std.proofs.Common.{◌≡◌, ℕ, Bool, true, List, [], ◌∷◌, Option, Some, None, sym, ap, ◌∙◌, subst, inl, inr}
 use Rattle.std.specs.Prelude.{if◌then◌else◌}
-use Rattle.go_base.specs.declared.operator.CompareOp.{CompareOp}
-use Rattle.go_base.specs.Lists.{Each}
+use Rattle.go_syntax.specs.go_base.declared.operator.CompareOp.{CompareOp}
+use Rattle.go_syntax.specs.go_base.Lists.{Each}
 use Rattle.go_model.specs.declared.constants.value.Basic.TheVariants as basic
 use Rattle.go_model.specs.declared.constants.value.BinaryOp.{BinaryOp}
 use Rattle.go_model.specs.declared.constants.value.Untyped.{Untyped}

@@ -1,8 +1,8 @@
 -- What stands in a type of a region is of the region, and what is underneath it too.
 use Rattle.std.proofs.Common.{◌≡◌, Bool, true, List, [], ◌∷◌, ◌++◌, Option, Some, None, refl, sym, ap, ◌∙◌, subst, inl, inr}
 use Rattle.std.specs.Prelude.{map}
-use Rattle.go_base.specs.Gathered.{gather}
-use Rattle.go_base.specs.Lists.{Each, Has, Passes}
+use Rattle.go_syntax.specs.go_base.Gathered.{gather}
+use Rattle.go_syntax.specs.go_base.Lists.{Each, Has, Passes}
 use Rattle.go_model.specs.declared.types.names.TypeName.{TypeName}
 use Rattle.go_model.specs.declared.types.package.Defined.{Defined}
 use Rattle.go_model.specs.declared.types.term.Field.{Field, out-Field, roll-out-Field, fold-Field, fold-roll-Field}

@@ -2,8 +2,8 @@
 -- found is of the region.
 use Rattle.std.proofs.Common.{◌≡◌, ℕ, zero, suc, Bool, true, false, List, [], ◌∷◌, ◌++◌, Option, Some, None, refl, sym, ap, ◌∙◌, subst, ◌⊎◌, inl, inr}
 use Rattle.std.specs.Prelude.{if◌then◌else◌}
-use Rattle.go_base.specs.Gathered.{gather}
-use Rattle.go_base.specs.Lists.{Each, Has}
+use Rattle.go_syntax.specs.go_base.Gathered.{gather}
+use Rattle.go_syntax.specs.go_base.Lists.{Each, Has}
 use Rattle.go_model.specs.declared.types.names.Sel.{Sel}
 use Rattle.go_model.specs.declared.types.names.TypeName.{TypeName}
 use Rattle.go_model.specs.declared.types.package.Defined.{Defined}

@@ -14,7 +14,7 @@ use Rattle.std.specs.Ordering.{nat_cmp, is_eq, match_ordering}
 use Rattle.std.specs.Str.{bytes_eq}
 use Rattle.std.specs.declared.cmp.Ordering.{Ordering}
 use Rattle.std.specs.declared.cmp.Ordering.TheVariants.{Less, Equal, Greater}
-use Rattle.go_base.specs.Keys.{item_of}
+use Rattle.go_syntax.specs.go_base.Keys.{item_of}
 use Rattle.go_rules.specs.Names.{Named, value_at, with_value}
 use denote.Ref.{Bor}
 

@@ -1,8 +1,8 @@
 -- An operator before an operand makes one operand, and so do a name of an imported package and chains of operators.
 use Rattle.std.proofs.Common.{◌≡◌, Bool, true, false, Option, Some, None, refl, sym, ap, ◌∙◌, subst}
-use Rattle.go_base.specs.declared.operator.CompareOp.{CompareOp}
-use Rattle.go_base.specs.declared.operator.PrefixOperator.{PrefixOperator}
-use Rattle.go_base.specs.declared.operator.PrefixOperator.TheVariants as prefix
+use Rattle.go_syntax.specs.go_base.declared.operator.CompareOp.{CompareOp}
+use Rattle.go_syntax.specs.go_base.declared.operator.PrefixOperator.{PrefixOperator}
+use Rattle.go_syntax.specs.go_base.declared.operator.PrefixOperator.TheVariants as prefix
 use Rattle.go_model.specs.constants.Constants.{unary_value}
 use Rattle.go_model.specs.declared.constants.value.BinaryOp.{BinaryOp}
 use Rattle.go_model.specs.declared.constants.value.Kind.{Kind}

@@ -1,11 +1,11 @@
 -- An expression is one operand, and a type form stands for one type.
 use Rattle.std.proofs.Common.{◌≡◌, ℕ, suc, Bool, false, List, [], ◌∷◌, ◌++◌, Option, refl, sym, ap, ◌∙◌, subst}
 use Rattle.std.specs.Prelude.{max}
-use Rattle.go_base.specs.declared.operator.CompareOp.{CompareOp}
-use Rattle.go_base.specs.declared.operator.PrefixOperator.TheVariants as prefix
-use Rattle.go_base.specs.declared.operator.ProductOperator.{ProductOperator}
-use Rattle.go_base.specs.declared.operator.SumOperator.{SumOperator}
-use Rattle.go_base.specs.Lists.{Has as In}
+use Rattle.go_syntax.specs.go_base.declared.operator.CompareOp.{CompareOp}
+use Rattle.go_syntax.specs.go_base.declared.operator.PrefixOperator.TheVariants as prefix
+use Rattle.go_syntax.specs.go_base.declared.operator.ProductOperator.{ProductOperator}
+use Rattle.go_syntax.specs.go_base.declared.operator.SumOperator.{SumOperator}
+use Rattle.go_syntax.specs.go_base.Lists.{Has as In}
 use Rattle.go_model.specs.declared.constants.value.BinaryOp.{BinaryOp}
 use Rattle.go_model.specs.declared.types.term.Direction.TheVariants as direction
 use Rattle.go_model.specs.declared.types.term.Field.{Field}

@@ -1,7 +1,7 @@
 -- An operator, a conversion, an index and a slice expression make one operand of operands.
 use Rattle.std.proofs.Common.{◌≡◌, ℕ, Bool, true, false, List, [], Option, Some, None, refl, sym, ap, ◌∙◌, inl, inr, length}
 use Rattle.std.specs.Prelude.{pos, ◌&&◌}
-use Rattle.go_base.specs.declared.operator.CompareOp.{CompareOp}
+use Rattle.go_syntax.specs.go_base.declared.operator.CompareOp.{CompareOp}
 use Rattle.go_model.specs.constants.Classes.{class_of_basic, is_inexact}
 use Rattle.go_model.specs.constants.Constants.{binary_value, comparison, converted, shift_value}
 use Rattle.go_model.specs.declared.constants.value.Basic.{Basic}

@@ -4,7 +4,7 @@
 -- Public source: Go specification, "Struct types", "Interface types", "Map types" and "Function types"; that a client
 -- of the profile embeds only its own and predeclared types is own.
 use Rattle.std.specs.Prelude.{◌≡◌, ℕ, Bool, true, false, Option, Some, None, List, [], ◌∷◌, ◌++◌}
-use Rattle.go_base.specs.Lists.{Has as In, Each, Once}
+use Rattle.go_syntax.specs.go_base.Lists.{Has as In, Each, Once}
 use Rattle.go_model.specs.declared.types.term.Term.{Term, Term-F, out-Term}
 use Rattle.go_model.specs.types.Imports.{is_imported}
 use Rattle.go_model.specs.types.Terms.{Layer, blank}

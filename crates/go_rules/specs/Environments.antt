@@ -3,8 +3,8 @@
 -- "Iota"; that a method may be declared whose signature isn't had yet is own.
 use Rattle.std.specs.Prelude.{◌≡◌, ℕ, zero, suc, Bool, true, false, ◌&&◌, ◌||◌, if◌then◌else◌, List, [], ◌∷◌, Option, Some}
 use Rattle.std.specs.Str.{chars, is_utf8}
-use Rattle.go_base.specs.Characters.{is_upper}
-use Rattle.go_base.specs.Lists.{Has}
+use Rattle.go_syntax.specs.go_base.Characters.{is_upper}
+use Rattle.go_syntax.specs.go_base.Lists.{Has}
 use Rattle.go_model.specs.declared.types.names.Sel.{Sel}
 use Rattle.go_model.specs.declared.types.names.TypeName.{TypeName}
 use Rattle.go_model.specs.declared.types.package.Defined.{Defined}

@@ -9,15 +9,15 @@ use Rattle.std.specs.Prelude.{◌≡◌, ◌⊎◌, ◌<◌, ◌≤◌, ℕ, suc
 use Rattle.std.specs.List.Sorted.{IsStrictlySortedBy}
 use Rattle.std.specs.Ordering.{int_eq}
 use Rattle.std.specs.Str.{bytes_eq}
-use Rattle.go_base.specs.Lists.{Has as In, Each, Once}
-use Rattle.go_base.specs.declared.operator.CompareOp.{CompareOp}
-use Rattle.go_base.specs.declared.operator.CompareOp.TheVariants as compare
-use Rattle.go_base.specs.declared.operator.PrefixOperator.{PrefixOperator}
-use Rattle.go_base.specs.declared.operator.PrefixOperator.TheVariants as prefix
-use Rattle.go_base.specs.declared.operator.ProductOperator.{ProductOperator}
-use Rattle.go_base.specs.declared.operator.ProductOperator.TheVariants as product
-use Rattle.go_base.specs.declared.operator.SumOperator.{SumOperator}
-use Rattle.go_base.specs.declared.operator.SumOperator.TheVariants as sum
+use Rattle.go_syntax.specs.go_base.Lists.{Has as In, Each, Once}
+use Rattle.go_syntax.specs.go_base.declared.operator.CompareOp.{CompareOp}
+use Rattle.go_syntax.specs.go_base.declared.operator.CompareOp.TheVariants as compare
+use Rattle.go_syntax.specs.go_base.declared.operator.PrefixOperator.{PrefixOperator}
+use Rattle.go_syntax.specs.go_base.declared.operator.PrefixOperator.TheVariants as prefix
+use Rattle.go_syntax.specs.go_base.declared.operator.ProductOperator.{ProductOperator}
+use Rattle.go_syntax.specs.go_base.declared.operator.ProductOperator.TheVariants as product
+use Rattle.go_syntax.specs.go_base.declared.operator.SumOperator.{SumOperator}
+use Rattle.go_syntax.specs.go_base.declared.operator.SumOperator.TheVariants as sum
 use Rattle.go_model.specs.constants.Classes.{class_of, class_of_basic, is_inexact, is_integer}
 use Rattle.go_model.specs.constants.Constants.{binary_value, comparison, converted, is_representable, shift_value, unary_value}
 use Rattle.go_model.specs.constants.Operators.{binary_applies, comparison_applies, unary_applies}

@@ -1,7 +1,7 @@
 -- Environments that have what others have, and may have more: what an expression is stays as it is.
 -- Own: that types are had one by one, and methods after the types that they are declared for.
 use Rattle.std.specs.Prelude.{◌≡◌, ℕ, true, false, if◌then◌else◌, List, [], ◌∷◌, Some}
-use Rattle.go_base.specs.Gathered.{gather}
+use Rattle.go_syntax.specs.go_base.Gathered.{gather}
 use Rattle.go_model.specs.declared.types.names.Sel.{Sel}
 use Rattle.go_model.specs.declared.types.names.TypeName.{TypeName}
 use Rattle.go_model.specs.declared.types.package.Defined.{Defined}

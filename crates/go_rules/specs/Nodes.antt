@@ -2,7 +2,7 @@
 -- what.
 -- Public source: Go specification, "Types" and "Expressions".
 use Rattle.std.specs.Prelude.{List, [], ◌∷◌, ◌++◌, map, Option, None, Some}
-use Rattle.go_base.specs.Lists.{Has}
+use Rattle.go_syntax.specs.go_base.Lists.{Has}
 use Rattle.go_syntax.specs.declared.expression.Element.{Element, out-Element}
 use Rattle.go_syntax.specs.declared.expression.ElementValue.{ElementValue, ElementValue-F, out-ElementValue}
 use Rattle.go_syntax.specs.declared.expression.Expr.{Expr, Expr-F, out-Expr}

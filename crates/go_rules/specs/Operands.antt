@@ -2,7 +2,7 @@
 -- Public source: Go specification, "Expressions", "Operands", "Constants", "Representability" and "Address operators";
 -- bounds of types are own.
 use Rattle.std.specs.Prelude.{◌≡◌, Bool, true, false, List, []}
-use Rattle.go_base.specs.Lists.{Each}
+use Rattle.go_syntax.specs.go_base.Lists.{Each}
 use Rattle.go_model.specs.declared.constants.value.Basic.{Basic}
 use Rattle.go_model.specs.declared.constants.value.Basic.TheVariants as basic
 use Rattle.go_model.specs.declared.constants.value.Kind.{Kind}

@@ -1,7 +1,7 @@
 -- Closed regions of an environment: names, names of types and paths of packages, with all that stands in what they give.
 -- Own: that an expression depends on what it refers to alone.
 use Rattle.std.specs.Prelude.{◌≡◌, ℕ, Bool, true, if◌then◌else◌, List, [], ◌∷◌, ◌++◌, Option, Some, None, codes}
-use Rattle.go_base.specs.Lists.{Each, Has, Passes}
+use Rattle.go_syntax.specs.go_base.Lists.{Each, Has, Passes}
 use Rattle.go_model.specs.declared.types.names.TypeName.{TypeName}
 use Rattle.go_model.specs.declared.types.package.ConstTerm.{ConstTerm}
 use Rattle.go_model.specs.declared.types.package.ConstTerm.TheVariants as constant

@@ -3,7 +3,7 @@
 -- Public source: Go specification, "Assignability", "Representability", "Constants", "Conversions", "Operators" and
 -- "Comparison operators".
 use Rattle.std.specs.Prelude.{◌≡◌, ℕ, Bool, true, false, List, []}
-use Rattle.go_base.specs.Lists.{Has}
+use Rattle.go_syntax.specs.go_base.Lists.{Has}
 use Rattle.go_model.specs.constants.Constants.{is_representable}
 use Rattle.go_model.specs.declared.constants.value.Basic.{Basic}
 use Rattle.go_model.specs.declared.constants.value.Basic.TheVariants as basic

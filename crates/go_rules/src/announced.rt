@@ -3,8 +3,8 @@ ghost use Rattle.std.specs.Prelude.{[], ◌≡◌, true, is_some, OnOk, OnErr};
 ghost use Rattle.go_rules.specs.Names.{value_at, with_value};
 ghost use Rattle.go_rules.specs.inner.Announced.{AllBefore, Rise};
 
-use go_base::memory::NoMemory;
-use go_base::text::Text;
+use go_syntax::go_base::memory::NoMemory;
+use go_syntax::go_base::text::Text;
 use std::alloc::Global;
 use std::marker::Model;
 

@@ -2,9 +2,9 @@
 ghost use Rattle.std.specs.Prelude.{◌≡◌, ◌++◌, ◌∷◌, [], OnOk, OnErr};
 ghost use Rattle.go_rules.specs.Environments.{is_among};
 
-use go_base::list::List;
-use go_base::memory::NoMemory;
 use go_model::types::names::Sel;
+use go_syntax::go_base::list::List;
+use go_syntax::go_base::memory::NoMemory;
 use std::alloc::Global;
 use std::collections::BTreeMap;
 use std::marker::Model;

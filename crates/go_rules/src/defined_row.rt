@@ -4,10 +4,10 @@ ghost use Rattle.go_model.specs.types.DeclaredMethods.{TellsMethod, with_sel};
 ghost use Rattle.go_rules.specs.Scopes.{is_had};
 
 use crate::place::{Place, note, note_all};
-use go_base::memory::NoMemory;
 use go_model::types::declared_method::DeclaredMethod;
 use go_model::types::names::Sel;
 use go_model::types::package::{Defined, MethodOf};
+use go_syntax::go_base::memory::NoMemory;
 use std::alloc::Global;
 use std::collections::BTreeMap;
 use std::marker::Model;

@@ -1,6 +1,6 @@
 //! What an expression is typed in.
 ghost use Rattle.std.specs.Prelude.{◌≡◌, ◌≢◌, ◌⊎◌, ◌↔◌, ◌∷◌, [], true, drop, IfOk, OnOk, OnErr};
-ghost use Rattle.go_base.specs.Keys.{item_of};
+ghost use Rattle.go_syntax.specs.go_base.Keys.{item_of};
 ghost use Rattle.go_rules.specs.Environments.{is_among, selector_of};
 ghost use Rattle.go_rules.specs.Meanings.{as_seen};
 ghost use Rattle.go_rules.specs.Scopes.{env_of, innermost, is_declared, is_imported, new_scopes, with_announced, with_awaited, with_defined, with_import, with_meaning, with_method};
@@ -15,13 +15,13 @@ use crate::methods::is_lacking;
 use crate::names::Names;
 use crate::predeclared::universe;
 use crate::seen::Seen;
-use go_base::memory::NoMemory;
-use go_base::text::Text;
 use go_model::types::declared_method::DeclaredMethod;
 use go_model::types::names::{Sel, TypeName};
 use go_model::types::package::{Defined, Entity, MethodOf};
 use go_model::types::table::TypeTable;
 use go_model::types::world::World;
+use go_syntax::go_base::memory::NoMemory;
+use go_syntax::go_base::text::Text;
 use std::alloc::Global;
 use std::collections::LinkedList;
 use std::marker::Model;

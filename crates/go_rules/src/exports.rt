@@ -3,7 +3,7 @@ ghost use Rattle.std.specs.Prelude.{◌≡◌, true};
 ghost use Rattle.std.specs.Str.{IsAscii, is_utf8};
 ghost use Rattle.go_rules.specs.Environments.{is_exported};
 
-use go_base::characters::is_exported as begins_upper;
+use go_syntax::go_base::characters::is_exported as begins_upper;
 
 // Whether each byte is ASCII: of a few bytes told sooner than by the method of slices, which reads whole words.
 fn is_ascii(bytes: &[u8]) -> bool

@@ -3,13 +3,13 @@ ghost use Rattle.std.specs.Prelude.{◌≡◌, [], nat_eq, OnOk, OnErr};
 ghost use Rattle.std.specs.BTreeMap.{insert_entry};
 ghost use Rattle.std.specs.Map.{lookup};
 ghost use Rattle.std.specs.Ordering.{nat_cmp};
-ghost use Rattle.go_base.specs.Keys.{item_of};
+ghost use Rattle.go_syntax.specs.go_base.Keys.{item_of};
 ghost use Rattle.go_rules.specs.Names.{value_at, with_value};
 ghost use Rattle.go_rules.specs.Scopes.{imports_in};
 
 use crate::names::Names;
-use go_base::memory::NoMemory;
-use go_base::text::Text;
+use go_syntax::go_base::memory::NoMemory;
+use go_syntax::go_base::text::Text;
 use std::alloc::Global;
 use std::collections::BTreeMap;
 use std::marker::Model;

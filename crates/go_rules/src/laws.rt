@@ -2,9 +2,9 @@
 //! more entries and where less is barred, and depends on what it refers to alone. The value of the constant that
 //! it is is of its kind.
 ghost use Rattle.std.specs.Prelude.{◌≡◌, ℕ, Bool, List, Option};
-ghost use Rattle.go_base.specs.declared.operator.CompareOp.{CompareOp};
-ghost use Rattle.go_base.specs.declared.operator.ProductOperator.{ProductOperator};
-ghost use Rattle.go_base.specs.declared.operator.SumOperator.{SumOperator};
+ghost use Rattle.go_syntax.specs.go_base.declared.operator.CompareOp.{CompareOp};
+ghost use Rattle.go_syntax.specs.go_base.declared.operator.ProductOperator.{ProductOperator};
+ghost use Rattle.go_syntax.specs.go_base.declared.operator.SumOperator.{SumOperator};
 ghost use Rattle.go_model.specs.declared.constants.value.BinaryOp.{BinaryOp};
 ghost use Rattle.go_model.specs.declared.constants.value.Kind.{Kind};
 ghost use Rattle.go_model.specs.declared.constants.value.Untyped.{Untyped};

@@ -1,6 +1,8 @@
 //! Rules of typing: what names mean, what an expression is, the environment that both are asked in, and their laws.
 #![tactic(auto)]
 
+pub use go_syntax;
+
 mod announced;
 mod awaited;
 pub mod blank;

@@ -4,11 +4,11 @@ ghost use Rattle.go_rules.specs.Meanings.{seen_of};
 
 use crate::predeclared::Predeclared;
 use crate::seen::Seen;
-use go_base::memory::NoMemory;
-use go_base::text::Text;
 use go_model::constants::value::Value;
 use go_model::types::package::{ConstTerm, Entity};
 use go_model::types::term::Term;
+use go_syntax::go_base::memory::NoMemory;
+use go_syntax::go_base::text::Text;
 use std::alloc::Global;
 
 /// The meaning of a name, as in [`Seen`].

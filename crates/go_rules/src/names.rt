@@ -1,16 +1,16 @@
 //! Tables of names.
 ghost use Rattle.std.specs.Prelude.{◌≡◌, ◌↔◌, true, ◌∷◌, ◌++◌, [], OnOk, OnErr, is_some};
-ghost use Rattle.go_base.specs.Keys.{item_of};
+ghost use Rattle.go_syntax.specs.go_base.Keys.{item_of};
 ghost use Rattle.go_rules.specs.Names.{items_at, value_at, with_value};
 ghost use Rattle.go_rules.specs.Scopes.{added_to};
 
 use crate::awaited::Awaited;
 use crate::defined_row::DefinedRow;
 use crate::env::DeclareError;
-use go_base::memory::NoMemory;
-use go_base::text::Text;
 use go_model::types::names::Sel;
 use go_model::types::package::MethodOf;
+use go_syntax::go_base::memory::NoMemory;
+use go_syntax::go_base::text::Text;
 use std::alloc::Global;
 use std::collections::BTreeMap;
 use std::collections::btree_map::Entry;

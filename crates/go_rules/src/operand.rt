@@ -1,9 +1,9 @@
 //! Operands of expressions.
 use crate::predeclared::Predeclared;
-use go_base::list::List;
 use go_model::constants::value::{Untyped, Value};
 use go_model::types::package::ConstTerm;
 use go_model::types::term::Term;
+use go_syntax::go_base::list::List;
 
 /// How an expression stands for what it denotes, as in Go's package go/types.
 #[derive(Clone, Copy, Debug, PartialEq, Eq)]

@@ -2,9 +2,9 @@
 ghost use Rattle.std.specs.Prelude.{[], ◌≡◌, OnOk};
 ghost use Rattle.go_rules.specs.inner.Places.{ArePlaces, NotesPlace};
 
-use go_base::memory::NoMemory;
 use go_model::types::names::Sel;
 use go_model::types::package::MethodOf;
+use go_syntax::go_base::memory::NoMemory;
 use std::alloc::Global;
 use std::collections::BTreeMap;
 

@@ -4,10 +4,10 @@ ghost use Rattle.go_rules.specs.Meanings.{seen_of};
 
 use crate::meaning::Meaning;
 use crate::predeclared::Predeclared;
-use go_base::text::Text;
 use go_model::constants::value::Value;
 use go_model::types::package::{ConstTerm, Entity};
 use go_model::types::term::Term;
+use go_syntax::go_base::text::Text;
 
 /// The meaning of a name.
 pub enum Seen {

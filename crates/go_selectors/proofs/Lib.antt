@@ -1,3 +1,4 @@
+pub use Rattle.go_model.proofs as go_model_proofs
 pub mod Consolidation
 pub mod Counting
 pub mod Fields

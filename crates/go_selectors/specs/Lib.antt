@@ -1,3 +1,5 @@
+pub use Rattle.go_base.specs as go_base
+pub use Rattle.go_model.specs as go_model
 pub mod Answers
 pub mod Candidates
 pub mod Endings

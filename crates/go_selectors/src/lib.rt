@@ -1,6 +1,9 @@
 //! Identity of types, what a selector means in one, and method sets.
 #![tactic(auto)]
 
+pub use go_base;
+pub use go_model;
+
 pub mod candidate;
 pub mod candidates;
 mod ending;

@@ -9,12 +9,12 @@ ghost use Rattle.go_cursor.specs.Reading.{run, step_of};
 ghost use Rattle.go_cursor.specs.Reads.{Reads};
 ghost use Rattle.go_descent.specs.Rules as rules;
 
-use go_base::list::List;
 use go_cursor::cursor::Cursor;
 use go_cursor::error::ParseError;
 use go_cursor::looks::is_named;
 use go_cursor::names::names;
 use go_descent::grammar::{Grammar, Part, PartTree};
+use go_syntax::go_base::list::List;
 use go_syntax::held::types::{HeldParameters, HeldSignature};
 use go_syntax::name::Name;
 use go_syntax::token::TokenKind;

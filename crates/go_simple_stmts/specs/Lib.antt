@@ -1,2 +1,3 @@
+pub use Rattle.go_exprs.specs as go_exprs
 pub mod Follow
 pub mod SimpleStatements

@@ -5,9 +5,9 @@ use Rattle.std.specs.Option.{option_or}
 use Rattle.std.specs.Str.{bytes_eq}
 use Rattle.std.proofs.lemmas.Slice.Eq.{bytes_eq-Decides}
 use Rattle.go_base.specs.Lists.{Has}
-use Rattle.go_rules.specs.Asks.{texts}
-use Rattle.go_rules.specs.Expressions.{is_blank}
-use Rattle.go_syntax.specs.declared.declaration.TypeSpec.{TypeSpec}
+use Rattle.go_typings.specs.go_rules.Asks.{texts}
+use Rattle.go_typings.specs.go_rules.Expressions.{is_blank}
+use Rattle.go_typings.specs.go_syntax.declared.declaration.TypeSpec.{TypeSpec}
 use Rattle.go_typings.specs.Declarations.{Form, definition, Declaration, Declared, declared, declared_by, declared_from, is_init, names_of, place_from}
 use Rattle.go_typings.specs.Receivers.{DeclaredMethod, declared_methods, is_selectable, methods}
 use Rattle.go_typings.specs.Sources.{PackageSource}

@@ -4,19 +4,19 @@ use Rattle.std.specs.Prelude.{if◌then◌else◌}
 use Rattle.go_base.specs.Gathered.{gather}
 use Rattle.go_base.specs.Lists.{Has}
 use Rattle.go_base.proofs.Members.{gather_of, has_split}
-use Rattle.go_model.specs.declared.types.names.Sel.{Sel}
-use Rattle.go_model.specs.declared.types.names.TypeName.{TypeName}
-use Rattle.go_model.specs.declared.types.package.Defined.{Defined}
-use Rattle.go_model.specs.declared.types.package.MethodOf.{MethodOf}
-use Rattle.go_model.specs.declared.types.term.Field.{Field, out-Field}
-use Rattle.go_model.specs.declared.types.term.Method.{Method, out-Method}
-use Rattle.go_model.specs.declared.types.term.Term.{Term, Term-F, out-Term}
-use Rattle.go_model.specs.types.Selectors.{Ending, Spot, Target, declared_ending, ends, field, field_ending, method, method_ending, name_of, start, steps}
-use Rattle.go_model.specs.types.Tables.{Table}
-use Rattle.go_model.specs.types.Terms.{Layer, same_sel}
-use Rattle.go_model.specs.types.Underlying.{declared_methods, entry, fields_of, methods_of, methods_of_entry, under}
-use Rattle.go_rules.specs.Environments.{Env, Found}
-use Rattle.go_rules.specs.declared.operand.Operand.{Operand}
+use Rattle.go_typings.specs.go_model.declared.types.names.Sel.{Sel}
+use Rattle.go_typings.specs.go_model.declared.types.names.TypeName.{TypeName}
+use Rattle.go_typings.specs.go_model.declared.types.package.Defined.{Defined}
+use Rattle.go_typings.specs.go_model.declared.types.package.MethodOf.{MethodOf}
+use Rattle.go_typings.specs.go_model.declared.types.term.Field.{Field, out-Field}
+use Rattle.go_typings.specs.go_model.declared.types.term.Method.{Method, out-Method}
+use Rattle.go_typings.specs.go_model.declared.types.term.Term.{Term, Term-F, out-Term}
+use Rattle.go_typings.specs.go_model.types.Selectors.{Ending, Spot, Target, declared_ending, ends, field, field_ending, method, method_ending, name_of, start, steps}
+use Rattle.go_typings.specs.go_model.types.Tables.{Table}
+use Rattle.go_typings.specs.go_model.types.Terms.{Layer, same_sel}
+use Rattle.go_typings.specs.go_model.types.Underlying.{declared_methods, entry, fields_of, methods_of, methods_of_entry, under}
+use Rattle.go_typings.specs.go_rules.Environments.{Env, Found}
+use Rattle.go_typings.specs.go_rules.declared.operand.Operand.{Operand}
 use Rattle.go_typings.specs.References.{FindsOf, finds_value, finds_expression}
 use Rattle.go_typings.proofs.Cells.{none_some, some_once}
 

@@ -1,9 +1,9 @@
 -- Among more entries a declaration names no more, finds what it found and meets what it is asked.
 use Rattle.std.proofs.Common.{◌≡◌, ℕ, List, Some, sym, ap, ◌∙◌}
 use Rattle.std.specs.Str.{bytes_eq}
-use Rattle.go_model.specs.declared.types.package.Defined.{Defined}
-use Rattle.go_model.specs.worlds.Worlds.{table_of}
-use Rattle.go_references.specs.declared.references.Reference.{Reference}
+use Rattle.go_typings.specs.go_model.declared.types.package.Defined.{Defined}
+use Rattle.go_typings.specs.go_model.worlds.Worlds.{table_of}
+use Rattle.go_typings.specs.go_references.declared.references.Reference.{Reference}
 use Rattle.go_typings.specs.Assignments.{Within}
 use Rattle.go_typings.specs.DeclarationAsks.{Asks}
 use Rattle.go_typings.specs.Declarations.{Form, constants, variables, alias, definition, function, method, Declaration, declarations, declared}

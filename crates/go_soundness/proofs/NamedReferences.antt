@@ -2,26 +2,26 @@
 use Rattle.std.proofs.Common.{◌≡◌, true, false, List, [], ◌∷◌, ◌++◌, Option, None, Some, map, refl, sym, ap, ◌∙◌, subst, ◌⊎◌, inl, inr}
 use Rattle.go_base.specs.Lists.{Has}
 use Rattle.go_base.proofs.Members.{has_split}
-use Rattle.go_references.specs.References.{ExprRefs, PostRefs, References, before_posts, behind, behind_if, behind_operator, element_refs, element_step, expr_refs, expr_step, exprs_refs, field_refs, field_step, first_selected, first_name, inside_length, interface_refs, interface_step, joined, key_of, optional_parameter, optional_type, outermost, parameter_refs, parameter_step, post_refs, post_refs_of, post_step, reference, result_refs, result_step, signature_refs, signature_step, type_name, type_refs, type_step, value_refs, value_step}
-use Rattle.go_references.specs.declared.references.Position.{Position}
-use Rattle.go_references.specs.declared.references.Reference.{Reference}
-use Rattle.go_rules.specs.Nodes.{ElemLayer, ExprLayer, FieldLayer, Node, expression, post, value, type, signature, PostLayer, ResultLayer, Stands, stands_here, stands_in, TypeLayer, ValueLayer, elem_parts, element_parts, elems_parts, expression_parts, field_parts, fields_parts, optional, optional_result_parts, parameter_parts, parts, post_parts, result_parts, type_parts, value_parts}
-use Rattle.go_rules.specs.Regions.{elem_fronts, elems_fronts, expression_name, field_fronts, fields_fronts, front, front_of, node_names, type_fronts}
-use Rattle.go_syntax.specs.declared.expression.Element.{Element, fold_out-Element, map-Element, out-Element}
-use Rattle.go_syntax.specs.declared.expression.ElementValue.{ElementValue, ElementValue-F, fold_out-ElementValue, map-ElementValue, out-ElementValue}
-use Rattle.go_syntax.specs.declared.expression.Expr.{Expr, Expr-F, fold_out-Expr, map-Expr, out-Expr}
-use Rattle.go_syntax.specs.declared.expression.Post.{Post, Post-F, fold_out-Post, map-Post, out-Post}
-use Rattle.go_syntax.specs.declared.name.Name.{Name}
-use Rattle.go_syntax.specs.declared.name.QualifiedName.{QualifiedName}
-use Rattle.go_syntax.specs.declared.types.FieldDecl.{FieldDecl, FieldDecl-F, fold_out-FieldDecl, map-FieldDecl, out-FieldDecl}
-use Rattle.go_syntax.specs.declared.types.FuncResult.{FuncResult, FuncResult-F, fold_out-FuncResult, map-FuncResult, out-FuncResult}
-use Rattle.go_syntax.specs.declared.types.InterfaceElem.{InterfaceElem, InterfaceElem-F, fold_out-InterfaceElem, map-InterfaceElem, out-InterfaceElem}
-use Rattle.go_syntax.specs.declared.types.ParameterDecl.{ParameterDecl, fold_out-ParameterDecl, map-ParameterDecl, out-ParameterDecl}
-use Rattle.go_syntax.specs.declared.types.Signature.{Signature, fold_out-Signature, map-Signature, out-Signature}
+use Rattle.go_typings.specs.go_references.References.{ExprRefs, PostRefs, References, before_posts, behind, behind_if, behind_operator, element_refs, element_step, expr_refs, expr_step, exprs_refs, field_refs, field_step, first_selected, first_name, inside_length, interface_refs, interface_step, joined, key_of, optional_parameter, optional_type, outermost, parameter_refs, parameter_step, post_refs, post_refs_of, post_step, reference, result_refs, result_step, signature_refs, signature_step, type_name, type_refs, type_step, value_refs, value_step}
+use Rattle.go_typings.specs.go_references.declared.references.Position.{Position}
+use Rattle.go_typings.specs.go_references.declared.references.Reference.{Reference}
+use Rattle.go_typings.specs.go_rules.Nodes.{ElemLayer, ExprLayer, FieldLayer, Node, expression, post, value, type, signature, PostLayer, ResultLayer, Stands, stands_here, stands_in, TypeLayer, ValueLayer, elem_parts, element_parts, elems_parts, expression_parts, field_parts, fields_parts, optional, optional_result_parts, parameter_parts, parts, post_parts, result_parts, type_parts, value_parts}
+use Rattle.go_typings.specs.go_rules.Regions.{elem_fronts, elems_fronts, expression_name, field_fronts, fields_fronts, front, front_of, node_names, type_fronts}
+use Rattle.go_typings.specs.go_syntax.declared.expression.Element.{Element, fold_out-Element, map-Element, out-Element}
+use Rattle.go_typings.specs.go_syntax.declared.expression.ElementValue.{ElementValue, ElementValue-F, fold_out-ElementValue, map-ElementValue, out-ElementValue}
+use Rattle.go_typings.specs.go_syntax.declared.expression.Expr.{Expr, Expr-F, fold_out-Expr, map-Expr, out-Expr}
+use Rattle.go_typings.specs.go_syntax.declared.expression.Post.{Post, Post-F, fold_out-Post, map-Post, out-Post}
+use Rattle.go_typings.specs.go_syntax.declared.name.Name.{Name}
+use Rattle.go_typings.specs.go_syntax.declared.name.QualifiedName.{QualifiedName}
+use Rattle.go_typings.specs.go_syntax.declared.types.FieldDecl.{FieldDecl, FieldDecl-F, fold_out-FieldDecl, map-FieldDecl, out-FieldDecl}
+use Rattle.go_typings.specs.go_syntax.declared.types.FuncResult.{FuncResult, FuncResult-F, fold_out-FuncResult, map-FuncResult, out-FuncResult}
+use Rattle.go_typings.specs.go_syntax.declared.types.InterfaceElem.{InterfaceElem, InterfaceElem-F, fold_out-InterfaceElem, map-InterfaceElem, out-InterfaceElem}
+use Rattle.go_typings.specs.go_syntax.declared.types.ParameterDecl.{ParameterDecl, fold_out-ParameterDecl, map-ParameterDecl, out-ParameterDecl}
+use Rattle.go_typings.specs.go_syntax.declared.types.Signature.{Signature, fold_out-Signature, map-Signature, out-Signature}
 use Rattle.go_typings.specs.DeclarationNodes.{nodes, references}
 use Rattle.go_typings.specs.Declarations.{Form, constants, variables, alias, definition, function, method}
 use Rattle.go_soundness.proofs.Members.{has_left, has_right}
-use Rattle.go_syntax.specs.declared.types.«Type».{«Type» as Typ, «Type-F» as Typ-F, «fold_out-Type» as fold_out-Typ, «map-Type» as map-Typ, «out-Type» as out-Typ}
+use Rattle.go_typings.specs.go_syntax.declared.types.«Type».{«Type» as Typ, «Type-F» as Typ-F, «fold_out-Type» as fold_out-Typ, «map-Type» as map-Typ, «out-Type» as out-Typ}
 
 -- ---- one level of a tree, where each part gives its references
 

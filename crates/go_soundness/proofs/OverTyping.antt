@@ -1,7 +1,7 @@
 -- A typing of a closed set holds among more entries too.
 use Rattle.std.proofs.Common.{◌≡◌, ℕ, ◌<◌, Bool, true, List, Some, sym, ◌∙◌}
 use Rattle.std.specs.Prelude.{slice_get}
-use Rattle.go_references.specs.declared.references.Reference.{Reference}
+use Rattle.go_typings.specs.go_references.declared.references.Reference.{Reference}
 use Rattle.go_typings.specs.Assignments.{At, Within}
 use Rattle.go_typings.specs.DeclarationNodes.{length_references, references, strong_references}
 use Rattle.go_typings.specs.Declarations.{Declaration, declarations}

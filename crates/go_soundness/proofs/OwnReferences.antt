@@ -1,13 +1,13 @@
 -- What a declaration comes after, and what a length in it names, are among its references.
 use Rattle.std.proofs.Common.{ℕ, ◌||◌, ◌++◌, Option, Some, None}
 use Rattle.go_base.specs.Lists.{Has}
-use Rattle.go_references.specs.References.{exprs_refs, func_references, optional_type, outermost, type_references}
-use Rattle.go_references.specs.declared.references.Reference.{Reference}
-use Rattle.go_syntax.specs.declared.declaration.VarSpec.{VarSpec}
-use Rattle.go_syntax.specs.declared.types.«Type».{«Type» as Typ}
+use Rattle.go_typings.specs.go_references.References.{exprs_refs, func_references, optional_type, outermost, type_references}
+use Rattle.go_typings.specs.go_references.declared.references.Reference.{Reference}
+use Rattle.go_typings.specs.go_syntax.declared.declaration.VarSpec.{VarSpec}
+use Rattle.go_typings.specs.go_syntax.declared.types.«Type».{«Type» as Typ}
 use Rattle.go_typings.specs.DeclarationNodes.{length_references, method_references, references, strong_references, variable_references}
 use Rattle.go_typings.specs.Declarations.{Form, constants, variables, alias, definition, function, method}
-use Rattle.go_rules.specs.Environments.{Env}
+use Rattle.go_typings.specs.go_rules.Environments.{Env}
 use Rattle.go_typings.specs.References.{DependsOn, by_name, NamesDeclaration}
 use Rattle.go_typings.specs.Sources.{PackageSource}
 use Rattle.go_soundness.proofs.Members.{filtered, has_left}

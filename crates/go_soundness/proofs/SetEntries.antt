@@ -1,7 +1,7 @@
 -- The entries of a closed set are of its region, and are had from below by themselves.
 use Rattle.std.proofs.Common.{◌≡◌, ℕ, zero, suc, ◌<◌, Bool, true, Some, None, sym, ap, ◌∙◌, subst, arith}
 use Rattle.std.specs.Prelude.{if◌then◌else◌, nat_lt, slice_get}
-use Rattle.go_rules.specs.Regions.{Region, cut}
+use Rattle.go_typings.specs.go_rules.Regions.{Region, cut}
 use Rattle.go_typings.specs.Assignments.{Below, before}
 use Rattle.go_typings.specs.Declarations.{Declaration, declarations}
 use Rattle.go_typings.specs.PackageEnvironments.{Entries, Entry, environment}

@@ -5,18 +5,18 @@ use Rattle.std.specs.Option.{option_or}
 use Rattle.std.specs.Str.{bytes_eq}
 use Rattle.std.proofs.lemmas.Slice.Eq.{bytes_eq-Decides}
 use Rattle.go_base.specs.Lists.{Has}
-use Rattle.go_model.specs.declared.types.names.TypeName.{TypeName}
-use Rattle.go_model.specs.declared.types.package.Defined.{Defined}
-use Rattle.go_model.specs.types.Terms.{error_type, is_error}
-use Rattle.go_model.specs.types.Underlying.{entry}
-use Rattle.go_model.specs.worlds.Worlds.{table_of}
-use Rattle.go_rules.specs.Environments.{Env, is_among}
-use Rattle.go_rules.specs.Growth.{Grown, Grows}
-use Rattle.go_rules.specs.Regions.{cut}
-use Rattle.go_rules.specs.Scopes.{as_import}
-use Rattle.go_rules.specs.declared.seen.Seen.{Seen}
-use Rattle.go_rules.proofs.OneKind.{no_truth}
-use Rattle.go_syntax.specs.declared.declaration.TypeSpec.{TypeSpec}
+use Rattle.go_typings.specs.go_model.declared.types.names.TypeName.{TypeName}
+use Rattle.go_typings.specs.go_model.declared.types.package.Defined.{Defined}
+use Rattle.go_typings.specs.go_model.types.Terms.{error_type, is_error}
+use Rattle.go_typings.specs.go_model.types.Underlying.{entry}
+use Rattle.go_typings.specs.go_model.worlds.Worlds.{table_of}
+use Rattle.go_typings.specs.go_rules.Environments.{Env, is_among}
+use Rattle.go_typings.specs.go_rules.Growth.{Grown, Grows}
+use Rattle.go_typings.specs.go_rules.Regions.{cut}
+use Rattle.go_typings.specs.go_rules.Scopes.{as_import}
+use Rattle.go_typings.specs.go_rules.declared.seen.Seen.{Seen}
+use Rattle.go_typings.proofs.go_rules_proofs.OneKind.{no_truth}
+use Rattle.go_typings.specs.go_syntax.declared.declaration.TypeSpec.{TypeSpec}
 use Rattle.go_typings.specs.Declarations.{Form, constants, variables, alias, definition, function, method, Declaration, Declared, declarations, declared}
 use Rattle.go_typings.specs.PackageEnvironments.{Entries, Entry, underlying, as_object, defined_at, defined_by, defined_with, entity_by, environment, had, had_of, import_of, meaning_at, missing, missing_of, object_of, own_defined, path_in, signature_of, underlying_of}
 use Rattle.go_typings.specs.Receivers.{DeclaredMethod, methods}

@@ -4,13 +4,13 @@ use Rattle.std.proofs.Common.{◌≡◌, ℕ, Bool, true, List, Some, refl, sym,
 use Rattle.std.specs.Prelude.{slice_get}
 use Rattle.std.specs.Str.{bytes_eq}
 use Rattle.go_base.specs.Lists.{Each}
-use Rattle.go_model.specs.declared.types.names.TypeName.{TypeName}
-use Rattle.go_model.specs.declared.types.package.Defined.{Defined}
-use Rattle.go_model.specs.types.Terms.{error_type, is_error}
-use Rattle.go_model.specs.types.Underlying.{entry}
-use Rattle.go_model.specs.worlds.Worlds.{table_of}
-use Rattle.go_references.specs.declared.references.Reference.{Reference}
-use Rattle.go_rules.specs.Regions.{IsClosed, RefersIn}
+use Rattle.go_typings.specs.go_model.declared.types.names.TypeName.{TypeName}
+use Rattle.go_typings.specs.go_model.declared.types.package.Defined.{Defined}
+use Rattle.go_typings.specs.go_model.types.Terms.{error_type, is_error}
+use Rattle.go_typings.specs.go_model.types.Underlying.{entry}
+use Rattle.go_typings.specs.go_model.worlds.Worlds.{table_of}
+use Rattle.go_typings.specs.go_references.declared.references.Reference.{Reference}
+use Rattle.go_typings.specs.go_rules.Regions.{IsClosed, RefersIn}
 use Rattle.go_typings.specs.DeclarationAsks.{Asks}
 use Rattle.go_typings.specs.DeclarationNodes.{nodes}
 use Rattle.go_typings.specs.Declarations.{Form, constants, variables, alias, definition, function, method, Declaration, declarations}

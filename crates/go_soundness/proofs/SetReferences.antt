@@ -2,22 +2,22 @@
 use Rattle.std.proofs.Common.{◌≡◌, ℕ, zero, suc, Bool, true, false, List, Option, Some, None, refl, sym, ap, ◌∙◌, subst}
 use Rattle.std.specs.Prelude.{if◌then◌else◌, length, slice_get}
 use Rattle.go_base.specs.Lists.{Each, Has}
-use Rattle.go_rules.specs.Nodes.{Node, Stands, TypeLayer, type, type_parts}
-use Rattle.go_rules.specs.Regions.{NameIn, RefersIn, Region, front, front_of, node_names, type_fronts}
-use Rattle.go_rules.proofs.LocalParts.{names_here, parts_in}
-use Rattle.go_rules.proofs.LocalTypes.{each_made}
-use Rattle.go_syntax.specs.declared.expression.Element.{Element}
-use Rattle.go_syntax.specs.declared.expression.ElementValue.{ElementValue}
-use Rattle.go_syntax.specs.declared.expression.Expr.{Expr}
-use Rattle.go_syntax.specs.declared.expression.Post.{Post}
-use Rattle.go_syntax.specs.declared.name.Name.{Name}
-use Rattle.go_syntax.specs.declared.name.QualifiedName.{QualifiedName}
-use Rattle.go_syntax.specs.declared.types.FieldDecl.{FieldDecl}
-use Rattle.go_syntax.specs.declared.types.FuncResult.{FuncResult}
-use Rattle.go_syntax.specs.declared.types.InterfaceElem.{InterfaceElem}
-use Rattle.go_syntax.specs.declared.types.ParameterDecl.{ParameterDecl, out-ParameterDecl}
-use Rattle.go_syntax.specs.declared.types.Signature.{Signature}
-use Rattle.go_syntax.specs.declared.types.«Type».{«Type» as Typ, «Type-F» as Typ-F, «fold-roll-Type» as fold-roll-Typ, «ind-Type» as ind-Typ, «map-Type» as map-Typ, «out-roll-Type» as out-roll-Typ, «roll-Type» as roll-Typ}
+use Rattle.go_typings.specs.go_rules.Nodes.{Node, Stands, TypeLayer, type, type_parts}
+use Rattle.go_typings.specs.go_rules.Regions.{NameIn, RefersIn, Region, front, front_of, node_names, type_fronts}
+use Rattle.go_typings.proofs.go_rules_proofs.LocalParts.{names_here, parts_in}
+use Rattle.go_typings.proofs.go_rules_proofs.LocalTypes.{each_made}
+use Rattle.go_typings.specs.go_syntax.declared.expression.Element.{Element}
+use Rattle.go_typings.specs.go_syntax.declared.expression.ElementValue.{ElementValue}
+use Rattle.go_typings.specs.go_syntax.declared.expression.Expr.{Expr}
+use Rattle.go_typings.specs.go_syntax.declared.expression.Post.{Post}
+use Rattle.go_typings.specs.go_syntax.declared.name.Name.{Name}
+use Rattle.go_typings.specs.go_syntax.declared.name.QualifiedName.{QualifiedName}
+use Rattle.go_typings.specs.go_syntax.declared.types.FieldDecl.{FieldDecl}
+use Rattle.go_typings.specs.go_syntax.declared.types.FuncResult.{FuncResult}
+use Rattle.go_typings.specs.go_syntax.declared.types.InterfaceElem.{InterfaceElem}
+use Rattle.go_typings.specs.go_syntax.declared.types.ParameterDecl.{ParameterDecl, out-ParameterDecl}
+use Rattle.go_typings.specs.go_syntax.declared.types.Signature.{Signature}
+use Rattle.go_typings.specs.go_syntax.declared.types.«Type».{«Type» as Typ, «Type-F» as Typ-F, «fold-roll-Type» as fold-roll-Typ, «ind-Type» as ind-Typ, «map-Type» as map-Typ, «out-roll-Type» as out-roll-Typ, «roll-Type» as roll-Typ}
 use Rattle.go_typings.specs.DeclarationNodes.{nodes}
 use Rattle.go_typings.specs.Declarations.{Form, constants, variables, alias, definition, function, method, Declaration, Declared, declarations, declared}
 use Rattle.go_typings.specs.Receivers.{NameForm, after_aliases, aliased, aliased_by, base, base_in, defined_name, definition_name, form_step, name_form, next_or, own_aliased, own_definition, pointer_form, receiver_form, unaliased, written_name}

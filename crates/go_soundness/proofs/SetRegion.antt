@@ -6,26 +6,26 @@ use Rattle.std.specs.Str.{bytes_eq}
 use Rattle.std.proofs.lemmas.Slice.Eq.{bytes_eq-Decides}
 use Rattle.go_base.specs.Keys.{first_with}
 use Rattle.go_base.specs.Lists.{Each, Has, Passes}
-use Rattle.go_model.specs.declared.types.names.TypeName.{TypeName}
-use Rattle.go_model.specs.declared.types.package.Defined.{Defined}
-use Rattle.go_model.specs.declared.types.package.Entity.{Entity}
-use Rattle.go_model.specs.declared.types.package.Entity.TheVariants as entity
-use Rattle.go_model.specs.declared.types.package.MethodOf.{MethodOf}
-use Rattle.go_model.specs.declared.types.package.Package.{Package}
-use Rattle.go_model.specs.declared.types.term.Signature.{Signature}
-use Rattle.go_model.specs.declared.types.term.Term.{Term-F}
-use Rattle.go_model.specs.types.Terms.{error_type, is_error}
-use Rattle.go_model.specs.types.Underlying.{entry}
-use Rattle.go_model.specs.worlds.PackageTypes.{package_names}
-use Rattle.go_model.specs.worlds.Worlds.{path_of, table_of}
-use Rattle.go_rules.specs.Regions.{EntityIn, IsClosed, Region, SeenIn, SignatureIn, TermIn, error_name}
-use Rattle.go_rules.specs.Scopes.{as_import, of_universe}
-use Rattle.go_rules.specs.Universe.{predeclared}
-use Rattle.go_rules.specs.declared.predeclared.Predeclared.{Predeclared}
-use Rattle.go_rules.specs.declared.seen.Seen.{Seen}
-use Rattle.go_rules.specs.declared.seen.Seen.TheVariants as seen
-use Rattle.go_rules.proofs.LocalTerms.{close_in}
-use Rattle.go_syntax.specs.declared.declaration.TypeSpec.{TypeSpec}
+use Rattle.go_typings.specs.go_model.declared.types.names.TypeName.{TypeName}
+use Rattle.go_typings.specs.go_model.declared.types.package.Defined.{Defined}
+use Rattle.go_typings.specs.go_model.declared.types.package.Entity.{Entity}
+use Rattle.go_typings.specs.go_model.declared.types.package.Entity.TheVariants as entity
+use Rattle.go_typings.specs.go_model.declared.types.package.MethodOf.{MethodOf}
+use Rattle.go_typings.specs.go_model.declared.types.package.Package.{Package}
+use Rattle.go_typings.specs.go_model.declared.types.term.Signature.{Signature}
+use Rattle.go_typings.specs.go_model.declared.types.term.Term.{Term-F}
+use Rattle.go_typings.specs.go_model.types.Terms.{error_type, is_error}
+use Rattle.go_typings.specs.go_model.types.Underlying.{entry}
+use Rattle.go_typings.specs.go_model.worlds.PackageTypes.{package_names}
+use Rattle.go_typings.specs.go_model.worlds.Worlds.{path_of, table_of}
+use Rattle.go_typings.specs.go_rules.Regions.{EntityIn, IsClosed, Region, SeenIn, SignatureIn, TermIn, error_name}
+use Rattle.go_typings.specs.go_rules.Scopes.{as_import, of_universe}
+use Rattle.go_typings.specs.go_rules.Universe.{predeclared}
+use Rattle.go_typings.specs.go_rules.declared.predeclared.Predeclared.{Predeclared}
+use Rattle.go_typings.specs.go_rules.declared.seen.Seen.{Seen}
+use Rattle.go_typings.specs.go_rules.declared.seen.Seen.TheVariants as seen
+use Rattle.go_typings.proofs.go_rules_proofs.LocalTerms.{close_in}
+use Rattle.go_typings.specs.go_syntax.declared.declaration.TypeSpec.{TypeSpec}
 use Rattle.go_typings.specs.Declarations.{Form, constants, variables, alias, definition, function, method, Declaration, Declared, declarations, declared}
 use Rattle.go_typings.specs.PackageEnvironments.{Entries, Entry, objects, underlying, signed, as_object, defined_at, defined_by, entity_by, environment, had, had_of, had_path, import_of, meaning_at, object_of, own_defined, own_type, path_in, signature_of, types_of, underlying_of}
 use Rattle.go_typings.specs.Receivers.{DeclaredMethod, declared_methods, methods}

@@ -3,7 +3,7 @@ use Rattle.std.proofs.Common.{◌≡◌, ℕ, ◌<◌, ◌≤◌, Bool, true, fa
 use Rattle.std.specs.Prelude.{not, slice_get}
 use Rattle.std.proofs.lemmas.Bool.Decides.{nat_tests}
 use Rattle.std.proofs.lemmas.Option.{slice_get_within}
-use Rattle.go_references.specs.declared.references.Reference.{Reference}
+use Rattle.go_typings.specs.go_references.declared.references.Reference.{Reference}
 use Rattle.go_typings.specs.Assignments.{Within, all_of}
 use Rattle.go_typings.specs.DeclarationNodes.{length_references, references, strong_references}
 use Rattle.go_typings.specs.Declarations.{Declaration, declarations}

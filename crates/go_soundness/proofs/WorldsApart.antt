@@ -5,10 +5,10 @@ use Rattle.std.specs.Str.{bytes_eq}
 use Rattle.std.proofs.lemmas.Slice.Eq.{bytes_eq-Decides}
 use Rattle.go_base.specs.Keys.{first_with}
 use Rattle.go_base.specs.Lists.{Has}
-use Rattle.go_model.specs.declared.types.package.Package.{Package}
-use Rattle.go_model.specs.worlds.Worlds.{IsWorld, path_of}
-use Rattle.go_model.proofs.Paths.{absent_name}
-use Rattle.go_rules.proofs.OneKind.{no_truth}
+use Rattle.go_typings.specs.go_model.declared.types.package.Package.{Package}
+use Rattle.go_typings.specs.go_model.worlds.Worlds.{IsWorld, path_of}
+use Rattle.go_typings.proofs.go_model_proofs.Paths.{absent_name}
+use Rattle.go_typings.proofs.go_rules_proofs.OneKind.{no_truth}
 use Rattle.go_typings.specs.Sources.{PackageSource, Setting}
 use Rattle.go_typings.proofs.Cells.{none_some}
 use Rattle.go_soundness.specs.Apart.{IsApart}

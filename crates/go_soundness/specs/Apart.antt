@@ -3,8 +3,8 @@
 use Rattle.std.specs.Prelude.{◌≢◌, []}
 use Rattle.go_base.specs.Gathered.{gather}
 use Rattle.go_base.specs.Lists.{Has}
-use Rattle.go_model.specs.declared.types.names.TypeName.{TypeName}
-use Rattle.go_model.specs.worlds.PackageTypes.{package_names}
+use Rattle.go_typings.specs.go_model.declared.types.names.TypeName.{TypeName}
+use Rattle.go_typings.specs.go_model.worlds.PackageTypes.{package_names}
 use Rattle.go_typings.specs.Sources.{PackageSource, Setting}
 
 -- the package's path isn't that of the predeclared `error`, and no type of the package stands in types of the imports

@@ -1,9 +1,9 @@
 //! Laws of the definitions.
 ghost use Rattle.std.specs.Prelude.{◌≡◌, ◌≢◌, ◌<◌, ℕ, Bool, true, false, [], None, Option, Some, length};
 ghost use Rattle.go_base.specs.Keys.{first_with};
-ghost use Rattle.go_model.specs.declared.types.package.Package.{Package};
-ghost use Rattle.go_model.specs.worlds.Worlds.{IsWorld, path_of};
-ghost use Rattle.go_syntax.specs.declared.name.Place.{Place};
+ghost use Rattle.go_typings.specs.go_model.declared.types.package.Package.{Package};
+ghost use Rattle.go_typings.specs.go_model.worlds.Worlds.{IsWorld, path_of};
+ghost use Rattle.go_typings.specs.go_syntax.declared.name.Place.{Place};
 ghost use Rattle.go_typings.specs.Assignments.{At};
 ghost use Rattle.go_typings.specs.Declarations.{declarations};
 ghost use Rattle.go_typings.specs.PackageEnvironments.{Entries};

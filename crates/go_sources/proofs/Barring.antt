@@ -5,7 +5,7 @@ use mathlib.Core.Bool.{true≢false}
 use Rattle.go_base.specs.Growing.{Grows}
 use Rattle.go_base.specs.Lists.{Has}
 use Rattle.go_syntax.specs.declared.name.Place.{Place}
-use Rattle.go_rules.specs.Expressions.{is_blank}
+use Rattle.go_typings.specs.go_rules.Expressions.{is_blank}
 use Rattle.go_typings.specs.Declarations.{is_init}
 use Rattle.go_typings.specs.Redeclarations.{Clash, Collide, Role, of_import, of_package, of_receiver, Site, site}
 use Rattle.go_sources.specs.inner.KnownNames.{AreKeysOf, Bars, key, Puts, Steps, Key, Block, one_file, all_files, one_package, one_receiver}

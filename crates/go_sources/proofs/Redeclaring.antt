@@ -6,7 +6,7 @@ use Rattle.go_base.specs.Gathered.{gather}
 use Rattle.go_base.specs.declared.memory.NoMemory.{NoMemory}
 use Rattle.go_syntax.specs.declared.declaration.Decl.{Decl}
 use Rattle.go_syntax.specs.declared.name.Place.{Place}
-use Rattle.go_rules.proofs.OneName.{none_some}
+use Rattle.go_typings.proofs.go_rules_proofs.OneName.{none_some}
 use Rattle.go_typings.specs.Redeclarations.{import_site, IsRedeclared, Site, sites}
 use Rattle.go_units.specs.declared.unit.«Unit».{«Unit» as PackageUnit}
 use Rattle.go_units.specs.declared.unit.UnitFile.{UnitFile}

@@ -9,7 +9,7 @@ use Rattle.go_base.specs.Lists.{Has}
 use Rattle.go_base.proofs.Lists.{take_past}
 use Rattle.go_base.proofs.Members.{has_split}
 use Rattle.go_syntax.specs.declared.name.Place.{Place}
-use Rattle.go_rules.proofs.OneName.{none_some}
+use Rattle.go_typings.proofs.go_rules_proofs.OneName.{none_some}
 use Rattle.go_typings.specs.Redeclarations.{Clash, IsLater, Site}
 use Rattle.go_sources.specs.inner.KnownNames.{After, IsFirstLater, Puts, Steps, Visited, Key}
 

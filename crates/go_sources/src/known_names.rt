@@ -7,8 +7,8 @@ ghost use Rattle.go_sources.specs.inner.KnownNames.{all_files, key, keys_of, one
 
 use go_base::memory::NoMemory;
 use go_base::text::Text;
-use go_rules::blank::is_blank;
 use go_syntax::name::Place;
+use go_typings::go_rules::blank::is_blank;
 use std::alloc::Global;
 use std::collections::BTreeSet;
 

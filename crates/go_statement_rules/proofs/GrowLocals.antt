@@ -8,22 +8,22 @@ use Rattle.go_base.specs.declared.operator.CompareOp.TheVariants as compare
 use Rattle.go_model.specs.declared.constants.value.Basic.TheVariants as basic
 use Rattle.go_model.specs.declared.constants.value.BinaryOp.{BinaryOp}
 use Rattle.go_model.specs.declared.types.term.Term.{Term, Term-F}
-use Rattle.go_rules.specs.Asks.{HasOperand, IsType, Meets}
-use Rattle.go_rules.specs.Environments.{Env}
-use Rattle.go_rules.specs.Expressions.{Computes, Has, HasEach, HasForm, IsArray, IsComparison, IsString, MayHold, chain, OfSignature, OfType, ProductComputes, product_operator}
-use Rattle.go_rules.specs.Growth.{Grows}
-use Rattle.go_rules.specs.Names.{Named}
-use Rattle.go_rules.specs.Nodes.{Node}
-use Rattle.go_rules.specs.Operands.{plain}
-use Rattle.go_rules.specs.Scopes.{innermost}
-use Rattle.go_rules.specs.Usability.{Implements, UsableAs}
-use Rattle.go_rules.specs.declared.operand.Operand.{Operand}
-use Rattle.go_rules.specs.declared.seen.Seen.{Seen}
-use Rattle.go_rules.proofs.GrowAsks.{meets_more, operand_more, whole_type_more}
-use Rattle.go_rules.proofs.GrowOperand.{all_more, has_form_more, has_more, signature_more, type_more}
-use Rattle.go_rules.proofs.GrowRelations.{implements_more, usable_more}
-use Rattle.go_rules.proofs.GrowResults.{array_more, comparison_more, computes_more, product_more, string_more}
-use Rattle.go_rules.proofs.GrowTypes.{form_more, joined, joined_is}
+use Rattle.go_typings.specs.go_rules.Asks.{HasOperand, IsType, Meets}
+use Rattle.go_typings.specs.go_rules.Environments.{Env}
+use Rattle.go_typings.specs.go_rules.Expressions.{Computes, Has, HasEach, HasForm, IsArray, IsComparison, IsString, MayHold, chain, OfSignature, OfType, ProductComputes, product_operator}
+use Rattle.go_typings.specs.go_rules.Growth.{Grows}
+use Rattle.go_typings.specs.go_rules.Names.{Named}
+use Rattle.go_typings.specs.go_rules.Nodes.{Node}
+use Rattle.go_typings.specs.go_rules.Operands.{plain}
+use Rattle.go_typings.specs.go_rules.Scopes.{innermost}
+use Rattle.go_typings.specs.go_rules.Usability.{Implements, UsableAs}
+use Rattle.go_typings.specs.go_rules.declared.operand.Operand.{Operand}
+use Rattle.go_typings.specs.go_rules.declared.seen.Seen.{Seen}
+use Rattle.go_typings.proofs.go_rules_proofs.GrowAsks.{meets_more, operand_more, whole_type_more}
+use Rattle.go_typings.proofs.go_rules_proofs.GrowOperand.{all_more, has_form_more, has_more, signature_more, type_more}
+use Rattle.go_typings.proofs.go_rules_proofs.GrowRelations.{implements_more, usable_more}
+use Rattle.go_typings.proofs.go_rules_proofs.GrowResults.{array_more, comparison_more, computes_more, product_more, string_more}
+use Rattle.go_typings.proofs.go_rules_proofs.GrowTypes.{form_more, joined, joined_is}
 use Rattle.go_statement_rules.specs.Assignments.{AreAssigned, assigned_blank, assigned_none, assigned_side, AreDefined, defined_blank, defined_new, defined_none, defined_old, AreResults, results_more, results_none, IsCallAlone, call_alone, call_in_parentheses, Operates, Returns, returns_call, returns_each, returns_nothing}
 use Rattle.go_statement_rules.specs.Clauses.{IsCase, IsNil, is_nil, nil_in_parentheses, IsTag, no_tag, tag, Lists, lists_nil, lists_type, ListsAll, lists_more, lists_none, Ranges, ranges_array, ranges_channel, ranges_map, ranges_slice, ranges_string}
 use Rattle.go_statement_rules.specs.Scopes.{Scopes, at_place, within}

@@ -1,9 +1,9 @@
 -- What is typed in an environment is typed in one that has more, and so without the flag of the profile.
 use Rattle.std.proofs.Common.{List, [], Option, refl}
 use Rattle.go_model.specs.declared.types.term.Term.{Term, Term-F}
-use Rattle.go_rules.specs.Environments.{Env}
-use Rattle.go_rules.specs.Nodes.{Node}
-use Rattle.go_rules.specs.declared.operand.Operand.{Operand}
+use Rattle.go_typings.specs.go_rules.Environments.{Env}
+use Rattle.go_typings.specs.go_rules.Nodes.{Node}
+use Rattle.go_typings.specs.go_rules.declared.operand.Operand.{Operand}
 use Rattle.go_statement_rules.specs.Bodies.{AreTypedOutside, IsTypedBody, no_body, typed_body}
 use Rattle.go_statement_rules.specs.Functions.{Enclosing, EntersBody, EntersFunction, OfReceiver, Run, enters_body, enters_function, no_receiver, receiver}
 use Rattle.go_statement_rules.specs.Scopes.{Scopes, within}
@@ -21,8 +21,8 @@ use Rattle.go_syntax.specs.declared.statement.Stmt.{Stmt}
 use Rattle.go_syntax.specs.declared.statement.TypeCase.{TypeCase, out-TypeCase}
 use Rattle.go_syntax.specs.declared.types.ParameterDecl.{ParameterDecl}
 use Rattle.go_syntax.specs.declared.types.Signature.{Signature as Sig}
-use Rattle.go_rules.specs.Growth.{Grows}
-use Rattle.go_rules.proofs.GrowTypes.{form_more}
+use Rattle.go_typings.specs.go_rules.Growth.{Grows}
+use Rattle.go_typings.proofs.go_rules_proofs.GrowTypes.{form_more}
 use Rattle.go_statement_rules.proofs.GrowLocals.{assigned_f, call_f, case_f, clauses_f, computes_f, defined_f, fits_f, form_env_more, initialize_f, listed_f, meets_f, operand_f, operates_f, ranges_f, returns_f, signature_f, tag_f, truth_f, type_f, usable_f, within_more}
 use Rattle.go_statement_rules.specs.Statements.{form_env}
 use Rattle.go_typings.proofs.GrowRules.{gives_more}

@@ -2,12 +2,12 @@
 use Rattle.std.proofs.Common.{inl, inr, ◌≡◌, List, [], ◌∷◌, ◌++◌, map, take, length, Option, Some, sym, ap, ◌∙◌, subst}
 use Rattle.go_base.specs.Lists.{Has as In}
 use Rattle.go_model.specs.declared.types.term.Term.{Term}
-use Rattle.go_rules.specs.Environments.{Env}
-use Rattle.go_rules.specs.Nodes.{Node, Stands, expression}
-use Rattle.go_rules.specs.Operands.{IsTyped}
-use Rattle.go_rules.proofs.OneKind.{one_type}
-use Rattle.go_rules.proofs.OneName.{none_some, one_some}
-use Rattle.go_rules.specs.declared.operand.Operand.{Operand}
+use Rattle.go_typings.specs.go_rules.Environments.{Env}
+use Rattle.go_typings.specs.go_rules.Nodes.{Node, Stands, expression}
+use Rattle.go_typings.specs.go_rules.Operands.{IsTyped}
+use Rattle.go_typings.proofs.go_rules_proofs.OneKind.{one_type}
+use Rattle.go_typings.proofs.go_rules_proofs.OneName.{none_some, one_some}
+use Rattle.go_typings.specs.go_rules.declared.operand.Operand.{Operand}
 use Rattle.go_statement_rules.specs.Bodies.{IsTypedRun}
 use Rattle.go_statement_rules.specs.Clauses.{Ranges, bound_type}
 use Rattle.go_statement_rules.specs.Contexts.{decides, InContext, in_context, in_context_inside, Inside, StandsAmong, stands_among, StandsIn, Switches, switches, SwitchesTypes, switches_types, forms_of, header_nodes, init_of, own_nodes}

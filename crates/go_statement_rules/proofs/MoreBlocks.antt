@@ -1,9 +1,9 @@
 -- What is typed with the blocks of a list is typed with those of one that has them too: a recursion on the derivation, through function literals.
 use Rattle.std.proofs.Common.{ℕ, List, Option}
 use Rattle.go_model.specs.declared.types.term.Term.{Term}
-use Rattle.go_rules.specs.Environments.{Env}
-use Rattle.go_rules.specs.Nodes.{Node}
-use Rattle.go_rules.specs.declared.operand.Operand.{Operand}
+use Rattle.go_typings.specs.go_rules.Environments.{Env}
+use Rattle.go_typings.specs.go_rules.Nodes.{Node}
+use Rattle.go_typings.specs.go_rules.declared.operand.Operand.{Operand}
 use Rattle.go_statement_rules.specs.Bodies.{AreTypedOutside, IsTypedBody, no_body, typed_body}
 use Rattle.go_statement_rules.specs.Functions.{Enclosing, EntersBody, EntersFunction, IsBlockAt, Run, enters_body, enters_function}
 use Rattle.go_statement_rules.specs.Scopes.{Scopes}

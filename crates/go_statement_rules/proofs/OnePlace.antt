@@ -3,7 +3,7 @@ use Rattle.std.proofs.Common.{inl, inr, ◌≡◌, ◌⊎◌, ◌≤◌, ◌<◌
 use Rattle.std.proofs.lemmas.Bool.{cases_lt}
 use Rattle.std.proofs.Math.Nat.{le_antisymm}
 use Rattle.go_base.specs.Lists.{Has as In}
-use Rattle.go_rules.specs.Environments.{Env}
+use Rattle.go_typings.specs.go_rules.Environments.{Env}
 use Rattle.go_statement_rules.specs.Bodies.{IsTypedRun}
 use Rattle.go_statement_rules.specs.Contexts.{InContext, in_context, in_context_inside, Inside, StandsAmong, stands_among}
 use Rattle.go_statement_rules.specs.Contexts.{inside_block, inside_case, inside_communication, inside_else, inside_for, inside_init, inside_label, inside_literal, inside_post, inside_range, inside_range_assigned, inside_range_defined, inside_select_case, inside_then, inside_type_case, inside_while}

@@ -7,16 +7,16 @@ use Rattle.go_model.specs.declared.types.term.Signature.{out-Signature}
 use Rattle.go_model.specs.declared.types.term.Term.{Term, Term-F}
 use Rattle.go_model.specs.types.Terms.{Layer}
 use Rattle.go_model.specs.types.Underlying.{under}
-use Rattle.go_rules.specs.Environments.{Env}
-use Rattle.go_rules.specs.Expressions.{Denotes, NamesType, IsArray, OfForm, OfType, IsTypeName, array_itself, array_pointer, for_names, is_type, of_name, of_paren, of_type, seen_operand, string_typed, string_untyped, string_value}
-use Rattle.go_rules.specs.Nodes.{TypeLayer}
-use Rattle.go_rules.specs.Operands.{basic_term, nil, type_name}
-use Rattle.go_rules.specs.declared.operand.Operand.{Operand}
-use Rattle.go_rules.specs.declared.predeclared.Predeclared.TheVariants as p
-use Rattle.go_rules.specs.declared.seen.Seen.TheVariants as seen
-use Rattle.go_rules.proofs.OneKind.{const_in, no_truth, typed}
-use Rattle.go_rules.proofs.OneName.{none_some, one_some}
-use Rattle.go_rules.proofs.OneOperand.{has_once, signature_once, type_once}
+use Rattle.go_typings.specs.go_rules.Environments.{Env}
+use Rattle.go_typings.specs.go_rules.Expressions.{Denotes, NamesType, IsArray, OfForm, OfType, IsTypeName, array_itself, array_pointer, for_names, is_type, of_name, of_paren, of_type, seen_operand, string_typed, string_untyped, string_value}
+use Rattle.go_typings.specs.go_rules.Nodes.{TypeLayer}
+use Rattle.go_typings.specs.go_rules.Operands.{basic_term, nil, type_name}
+use Rattle.go_typings.specs.go_rules.declared.operand.Operand.{Operand}
+use Rattle.go_typings.specs.go_rules.declared.predeclared.Predeclared.TheVariants as p
+use Rattle.go_typings.specs.go_rules.declared.seen.Seen.TheVariants as seen
+use Rattle.go_typings.proofs.go_rules_proofs.OneKind.{const_in, no_truth, typed}
+use Rattle.go_typings.proofs.go_rules_proofs.OneName.{none_some, one_some}
+use Rattle.go_typings.proofs.go_rules_proofs.OneOperand.{has_once, signature_once, type_once}
 use Rattle.go_statement_rules.specs.Bodies.{IsTypedBody, IsTypedRun, no_body, typed_body}
 use Rattle.go_statement_rules.specs.Clauses.{IsNil, is_nil, nil_in_parentheses, Lists, lists_nil, lists_type, ListsAll, lists_more, lists_none, Ranges, ranges_array, ranges_channel, ranges_map, ranges_slice, ranges_string}
 use Rattle.go_statement_rules.specs.Functions.{Enclosing, EntersBody, EntersFunction, IsBlockAt, OfReceiver, Run, block_here, block_later, enclosing, enters_body, enters_function, no_receiver, receiver, receiver_slots, run}

@@ -4,13 +4,13 @@ use Rattle.go_model.specs.declared.types.package.ConstTerm.{ConstTerm}
 use Rattle.go_model.specs.declared.types.package.ConstTerm.TheVariants as constant
 use Rattle.go_model.specs.declared.types.package.Entity.{Entity}
 use Rattle.go_model.specs.declared.types.term.Term.{Term}
-use Rattle.go_rules.specs.Environments.{Env}
-use Rattle.go_rules.specs.Names.{Named}
-use Rattle.go_rules.specs.Operands.{default_type}
-use Rattle.go_rules.specs.declared.operand.Operand.{Operand}
-use Rattle.go_rules.specs.declared.seen.Seen.{Seen}
-use Rattle.go_rules.specs.declared.seen.Seen.TheVariants as seen
-use Rattle.go_rules.proofs.OneKind.{const_in, typed}
+use Rattle.go_typings.specs.go_rules.Environments.{Env}
+use Rattle.go_typings.specs.go_rules.Names.{Named}
+use Rattle.go_typings.specs.go_rules.Operands.{default_type}
+use Rattle.go_typings.specs.go_rules.declared.operand.Operand.{Operand}
+use Rattle.go_typings.specs.go_rules.declared.seen.Seen.{Seen}
+use Rattle.go_typings.specs.go_rules.declared.seen.Seen.TheVariants as seen
+use Rattle.go_typings.proofs.go_rules_proofs.OneKind.{const_in, typed}
 use Rattle.go_statement_rules.specs.Assignments.{AreDefined, defined_blank, defined_new, defined_none, defined_old}
 use Rattle.go_statement_rules.specs.Functions.{Enclosing}
 use Rattle.go_statement_rules.specs.Scopes.{Scopes, Declares, declares_blank, declares_name, declares_none, declares_nothing, local_of, within}

@@ -1,7 +1,7 @@
 -- Every statement is a finite tree: the form in which other files recurse on statements.
 use Rattle.std.proofs.Common.{inl, inr, ◌≡◌, List, [], ◌∷◌, ◌++◌, map, Option, Some, None, sym, ap, subst}
 use Rattle.go_base.specs.Lists.{Has as In}
-use Rattle.go_rules.proofs.OneName.{none_some}
+use Rattle.go_typings.proofs.go_rules_proofs.OneName.{none_some}
 use Rattle.go_statement_rules.specs.Contexts.{init_of}
 use Rattle.go_statement_rules.specs.Statements.{KindLayer, kind_of}
 use Rattle.go_syntax.specs.declared.statement.Case.{Case, Case-F, out-Case, roll-Case, out-roll-Case}

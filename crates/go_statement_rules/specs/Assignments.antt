@@ -13,20 +13,20 @@ use Rattle.go_model.specs.declared.constants.value.Untyped.TheVariants as untype
 use Rattle.go_model.specs.declared.constants.value.Value.TheVariants as value
 use Rattle.go_model.specs.declared.types.package.ConstTerm.TheVariants as constant
 use Rattle.go_model.specs.declared.types.term.Term.{Term}
-use Rattle.go_rules.specs.Environments.{Env}
-use Rattle.go_rules.specs.Expressions.{Has, HasEach, HasForm, IsCall, chain, Computes, ProductComputes, product_operator, sum_operator, is_blank}
-use Rattle.go_rules.specs.Names.{Named, value_at}
-use Rattle.go_rules.specs.Operands.{constant_of, plain, tuple, value_of}
-use Rattle.go_rules.specs.Usability.{UsableAs}
-use Rattle.go_rules.specs.declared.operand.Mode.{Mode}
-use Rattle.go_rules.specs.declared.operand.Mode.TheVariants as mode
-use Rattle.go_rules.specs.declared.operand.Operand.{Operand}
-use Rattle.go_rules.specs.declared.operand.Shape.{Shape}
-use Rattle.go_rules.specs.declared.operand.Shape.TheVariants as shape
-use Rattle.go_rules.specs.declared.predeclared.Predeclared.{Predeclared}
-use Rattle.go_rules.specs.declared.predeclared.Predeclared.TheVariants as p
-use Rattle.go_rules.specs.declared.seen.Seen.{Seen}
-use Rattle.go_rules.specs.declared.seen.Seen.TheVariants as seen
+use Rattle.go_typings.specs.go_rules.Environments.{Env}
+use Rattle.go_typings.specs.go_rules.Expressions.{Has, HasEach, HasForm, IsCall, chain, Computes, ProductComputes, product_operator, sum_operator, is_blank}
+use Rattle.go_typings.specs.go_rules.Names.{Named, value_at}
+use Rattle.go_typings.specs.go_rules.Operands.{constant_of, plain, tuple, value_of}
+use Rattle.go_typings.specs.go_rules.Usability.{UsableAs}
+use Rattle.go_typings.specs.go_rules.declared.operand.Mode.{Mode}
+use Rattle.go_typings.specs.go_rules.declared.operand.Mode.TheVariants as mode
+use Rattle.go_typings.specs.go_rules.declared.operand.Operand.{Operand}
+use Rattle.go_typings.specs.go_rules.declared.operand.Shape.{Shape}
+use Rattle.go_typings.specs.go_rules.declared.operand.Shape.TheVariants as shape
+use Rattle.go_typings.specs.go_rules.declared.predeclared.Predeclared.{Predeclared}
+use Rattle.go_typings.specs.go_rules.declared.predeclared.Predeclared.TheVariants as p
+use Rattle.go_typings.specs.go_rules.declared.seen.Seen.{Seen}
+use Rattle.go_typings.specs.go_rules.declared.seen.Seen.TheVariants as seen
 use Rattle.go_syntax.specs.declared.expression.Expr.{Expr, Expr-F, out-Expr}
 use Rattle.go_syntax.specs.declared.expression.Post.{Post, out-Post}
 use Rattle.go_syntax.specs.declared.name.Name.{Name}

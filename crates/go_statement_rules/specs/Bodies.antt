@@ -1,8 +1,8 @@
 -- The bodies of functions and methods that are declared, and the function literals that stand outside of bodies, as in the value of a variable of the package.
 -- Public source: Go specification, "Function declarations", "Method declarations" and "Function literals".
 use Rattle.std.specs.Prelude.{◌≡◌, List, [], None}
-use Rattle.go_rules.specs.Environments.{Env}
-use Rattle.go_rules.specs.Nodes.{Node}
+use Rattle.go_typings.specs.go_rules.Environments.{Env}
+use Rattle.go_typings.specs.go_rules.Nodes.{Node}
 use Rattle.go_statement_rules.specs.Functions.{EntersBody, Run, outside}
 use Rattle.go_statement_rules.specs.Scopes.{Scopes}
 use Rattle.go_statement_rules.specs.Statements.{AreTyped, LiteralsAreTyped}

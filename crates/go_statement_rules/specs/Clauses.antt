@@ -6,13 +6,13 @@ use Rattle.go_model.specs.declared.constants.value.Basic.TheVariants as basic
 use Rattle.go_model.specs.declared.types.term.Direction.{Direction}
 use Rattle.go_model.specs.declared.types.term.Term.{Term, Term-F}
 use Rattle.go_model.specs.types.Underlying.{under}
-use Rattle.go_rules.specs.Asks.{IsType}
-use Rattle.go_rules.specs.Environments.{Env}
-use Rattle.go_rules.specs.Expressions.{Has, IsArray, IsComparison, IsString, MayHold, receives}
-use Rattle.go_rules.specs.Operands.{IsTyped, basic_term, plain}
-use Rattle.go_rules.specs.declared.operand.Operand.{Operand}
-use Rattle.go_rules.specs.declared.predeclared.Predeclared.TheVariants as p
-use Rattle.go_rules.specs.declared.seen.Seen.TheVariants as seen
+use Rattle.go_typings.specs.go_rules.Asks.{IsType}
+use Rattle.go_typings.specs.go_rules.Environments.{Env}
+use Rattle.go_typings.specs.go_rules.Expressions.{Has, IsArray, IsComparison, IsString, MayHold, receives}
+use Rattle.go_typings.specs.go_rules.Operands.{IsTyped, basic_term, plain}
+use Rattle.go_typings.specs.go_rules.declared.operand.Operand.{Operand}
+use Rattle.go_typings.specs.go_rules.declared.predeclared.Predeclared.TheVariants as p
+use Rattle.go_typings.specs.go_rules.declared.seen.Seen.TheVariants as seen
 use Rattle.go_syntax.specs.declared.expression.Expr.{Expr}
 use Rattle.go_syntax.specs.declared.name.QualifiedName.{QualifiedName}
 use Rattle.go_syntax.specs.declared.types.«Type».{«Type» as Typ, «Type-F» as Typ-F, «out-Type» as out-Typ}

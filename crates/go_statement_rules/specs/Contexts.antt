@@ -7,10 +7,10 @@ use Rattle.go_base.specs.Lists.{Has as In}
 use Rattle.go_model.specs.declared.types.term.Method.{Method}
 use Rattle.go_model.specs.declared.types.term.Term.{Term, Term-F}
 use Rattle.go_model.specs.types.Underlying.{under}
-use Rattle.go_rules.specs.Environments.{Env}
-use Rattle.go_rules.specs.Nodes.{Node, Stands, expression}
-use Rattle.go_rules.specs.Operands.{IsTyped, plain}
-use Rattle.go_rules.specs.declared.operand.Operand.{Operand}
+use Rattle.go_typings.specs.go_rules.Environments.{Env}
+use Rattle.go_typings.specs.go_rules.Nodes.{Node, Stands, expression}
+use Rattle.go_typings.specs.go_rules.Operands.{IsTyped, plain}
+use Rattle.go_typings.specs.go_rules.declared.operand.Operand.{Operand}
 use Rattle.go_statement_rules.specs.Assignments.{AreAssigned}
 use Rattle.go_statement_rules.specs.Clauses.{IsTag, Ranges, bound_type}
 use Rattle.go_statement_rules.specs.Functions.{Enclosing, EntersFunction, Run, Spot, run, spot}

@@ -5,8 +5,8 @@
 use Rattle.std.specs.Prelude.{◌≡◌, ◌≤◌, ℕ, suc, List, [], ◌∷◌, ◌++◌, Option, None, Some}
 use Rattle.go_model.specs.declared.types.term.Signature.{Signature, out-Signature}
 use Rattle.go_model.specs.declared.types.term.Term.{Term}
-use Rattle.go_rules.specs.Environments.{Env}
-use Rattle.go_rules.specs.Expressions.{OfSignature, OfType, for_names}
+use Rattle.go_typings.specs.go_rules.Environments.{Env}
+use Rattle.go_typings.specs.go_rules.Expressions.{OfSignature, OfType, for_names}
 use Rattle.go_statement_rules.specs.Scopes.{Scopes, Declares, locals, opened, parameter_slots, result_slots, slots_of, within}
 use Rattle.go_syntax.specs.declared.body.BodyRange.{BodyRange}
 use Rattle.go_syntax.specs.declared.declaration.Func.{Func}

@@ -1,7 +1,7 @@
 -- The place that is told of statements that aren't typed: that of the first statement that fails and holds none that does.
 -- Own: the place. Public source of what it means to be typed: Go specification, "Statements" and "Blocks".
 use Rattle.std.specs.Prelude.{◌≡◌, ◌≤◌, ℕ, List}
-use Rattle.go_rules.specs.Environments.{Env}
+use Rattle.go_typings.specs.go_rules.Environments.{Env}
 use Rattle.go_statement_rules.specs.Contexts.{InContext, Inside}
 use Rattle.go_statement_rules.specs.Functions.{Run, Spot}
 use Rattle.go_statement_rules.specs.Scopes.{Scopes}

@@ -5,16 +5,16 @@ use Rattle.std.specs.Option.{option_or}
 use Rattle.go_model.specs.declared.types.package.Entity.{Entity}
 use Rattle.go_model.specs.declared.types.package.Entity.TheVariants as entity
 use Rattle.go_model.specs.declared.types.term.Term.{Term}
-use Rattle.go_rules.specs.Environments.{Env}
-use Rattle.go_rules.specs.Expressions.{is_blank}
-use Rattle.go_rules.specs.Names.{Named, value_at, with_value}
-use Rattle.go_rules.specs.Scopes.{innermost}
-use Rattle.go_rules.specs.declared.seen.Seen.{Seen}
-use Rattle.go_rules.specs.declared.seen.Seen.TheVariants as seen
+use Rattle.go_typings.specs.go_rules.Environments.{Env}
+use Rattle.go_typings.specs.go_rules.Expressions.{is_blank}
+use Rattle.go_typings.specs.go_rules.Names.{Named, value_at, with_value}
+use Rattle.go_typings.specs.go_rules.Scopes.{innermost}
+use Rattle.go_typings.specs.go_rules.declared.seen.Seen.{Seen}
+use Rattle.go_typings.specs.go_rules.declared.seen.Seen.TheVariants as seen
 use Rattle.go_syntax.specs.declared.name.Name.{Name}
 use Rattle.go_syntax.specs.declared.types.FuncResult.{FuncResult, FuncResult-F, out-FuncResult}
 use Rattle.go_syntax.specs.declared.types.ParameterDecl.{ParameterDecl, out-ParameterDecl}
-use Rattle.go_rules.specs.Nodes.{ResultLayer}
+use Rattle.go_typings.specs.go_rules.Nodes.{ResultLayer}
 
 -- the names of the opened scopes with what they mean
 abbrev pub Scopes : Type 0

@@ -13,22 +13,22 @@ use Rattle.go_model.specs.declared.types.term.Direction.{Direction}
 use Rattle.go_model.specs.declared.types.term.Method.{Method}
 use Rattle.go_model.specs.declared.types.term.Term.{Term, Term-F}
 use Rattle.go_model.specs.types.Underlying.{under}
-use Rattle.go_rules.specs.Asks.{AreDistinctNames, HasOperand, Meets, texts}
-use Rattle.go_rules.specs.Environments.{Env}
-use Rattle.go_rules.specs.Expressions.{is_blank, sends}
-use Rattle.go_rules.specs.Names.{Named}
-use Rattle.go_rules.specs.Nodes.{Node, Stands, expression, type}
-use Rattle.go_rules.specs.Operands.{IsTyped, IsUntyped, plain}
-use Rattle.go_rules.specs.Usability.{UsableAs}
-use Rattle.go_rules.specs.declared.operand.Operand.{Operand}
-use Rattle.go_rules.specs.declared.seen.Seen.{Seen}
-use Rattle.go_rules.specs.declared.seen.Seen.TheVariants as seen
+use Rattle.go_typings.specs.go_rules.Asks.{AreDistinctNames, HasOperand, Meets, texts}
+use Rattle.go_typings.specs.go_rules.Environments.{Env}
+use Rattle.go_typings.specs.go_rules.Expressions.{is_blank, sends}
+use Rattle.go_typings.specs.go_rules.Names.{Named}
+use Rattle.go_typings.specs.go_rules.Nodes.{Node, Stands, expression, type}
+use Rattle.go_typings.specs.go_rules.Operands.{IsTyped, IsUntyped, plain}
+use Rattle.go_typings.specs.go_rules.Usability.{UsableAs}
+use Rattle.go_typings.specs.go_rules.declared.operand.Operand.{Operand}
+use Rattle.go_typings.specs.go_rules.declared.seen.Seen.{Seen}
+use Rattle.go_typings.specs.go_rules.declared.seen.Seen.TheVariants as seen
 use Rattle.go_model.specs.declared.constants.value.Untyped.TheVariants as untyped
 use Rattle.go_statement_rules.specs.Assignments.{AreAssigned, AreDefined, IsAssigned, IsCallAlone, IsReceiveAlone, Operates, Returns, one, step_operator}
 use Rattle.go_statement_rules.specs.Clauses.{IsCase, IsTag, ListsAll, Ranges, bound_type}
 use Rattle.go_statement_rules.specs.Functions.{Enclosing, EntersFunction, Run}
 use Rattle.go_statement_rules.specs.Scopes.{Scopes, Declares, at_place, local_of, locals, opened, within}
-use Rattle.go_rules.specs.Expressions.{Computes}
+use Rattle.go_typings.specs.go_rules.Expressions.{Computes}
 use Rattle.go_syntax.specs.declared.body.BodyRange.{BodyRange}
 use Rattle.go_syntax.specs.declared.declaration.ConstSpec.{ConstSpec}
 use Rattle.go_syntax.specs.declared.declaration.VarSpec.{VarSpec}

@@ -1,9 +1,9 @@
 //! Laws of typed statements and bodies, and of the place of those that aren't.
 ghost use Rattle.std.specs.Prelude.{◌≡◌, ℕ, List, map};
 ghost use Rattle.go_base.specs.Lists.{Once};
-ghost use Rattle.go_rules.specs.Environments.{Env};
-ghost use Rattle.go_rules.specs.Growth.{Grows};
-ghost use Rattle.go_rules.specs.Nodes.{Node};
+ghost use Rattle.go_typings.specs.go_rules.Environments.{Env};
+ghost use Rattle.go_typings.specs.go_rules.Growth.{Grows};
+ghost use Rattle.go_typings.specs.go_rules.Nodes.{Node};
 ghost use Rattle.go_statement_rules.specs.Bodies.{AreTypedOutside, IsTypedBody, IsTypedRun};
 ghost use Rattle.go_statement_rules.specs.Functions.{Enclosing, EntersBody, EntersFunction, IsBlockAt, Run};
 ghost use Rattle.go_statement_rules.specs.Places.{IsUntypedPlace};

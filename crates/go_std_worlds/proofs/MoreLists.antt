@@ -6,7 +6,7 @@ use Rattle.go_base.proofs.Ordered.{first_key}
 use Rattle.go_base.specs.Keys.{first_with, placed}
 use Rattle.go_base.specs.Lists.{Has, Passes}
 use Rattle.go_model.proofs.MoreWorlds.{first_placed}
-use Rattle.go_typed_packages.proofs.Lists.{own_placed}
+use Rattle.go_taken_packages.proofs.go_typed_packages_proofs.Lists.{own_placed}
 use Rattle.go_typings.proofs.Cells.{either, some_once}
 use Rattle.go_typings.proofs.ReachedRegion.{first_has}
 

@@ -12,10 +12,10 @@ use Rattle.go_typings.specs.PackageEnvironments.{had_path}
 use Rattle.go_typings.specs.PackageWorlds.{AreTyped, Outcome, typed, refused, blocked, is_public, is_typed, over}
 use Rattle.go_typings.specs.ReachedPackages.{HoldImports, ReachesSame, is_reached}
 use Rattle.go_typings.specs.Sources.{PackageSource}
-use Rattle.go_exposed.specs.OfferedPackages.{IsOfferedAs}
-use Rattle.go_exposed.specs.OfferedWorlds.{Become, become_none, become_more, IsWorldOf}
-use Rattle.go_exposed.proofs.OneOffer.{one_offer}
-use Rattle.go_exposed.proofs.SameImports.{offered_same}
+use Rattle.go_taken_packages.specs.go_exposed.OfferedPackages.{IsOfferedAs}
+use Rattle.go_taken_packages.specs.go_exposed.OfferedWorlds.{Become, become_none, become_more, IsWorldOf}
+use Rattle.go_taken_packages.proofs.go_exposed_proofs.OneOffer.{one_offer}
+use Rattle.go_taken_packages.proofs.go_exposed_proofs.SameImports.{offered_same}
 use Rattle.go_std_worlds.proofs.MoreLists.{found_after, passes_two}
 use Rattle.go_std_worlds.proofs.StdWorlds.{AreNew, Keeps, all_new, is_std, keeps_all, keeps_next, keeps_none, new_rest, std_either, std_found, std_held, std_in, std_reached}
 use Rattle.go_std_worlds.specs.StdSources.{KeepStdApart, HavePaths, HaveSameStd}

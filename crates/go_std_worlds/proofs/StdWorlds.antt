@@ -11,16 +11,16 @@ use Rattle.go_model.specs.types.Terms.{is_error}
 use Rattle.go_model.specs.worlds.PackageTypes.{package_names}
 use Rattle.go_model.specs.worlds.Worlds.{Packages, path_of, with_package}
 use Rattle.go_rules.proofs.OneKind.{no_truth}
-use Rattle.go_typed_packages.proofs.Lists.{own_placed}
+use Rattle.go_taken_packages.proofs.go_typed_packages_proofs.Lists.{own_placed}
 use Rattle.go_typings.proofs.Cells.{either, maybe, none_some}
 use Rattle.go_typings.proofs.HeldImports.{path_found, path_missing}
 use Rattle.go_typings.proofs.ReachedRegion.{or_second, region, weaker}
 use Rattle.go_typings.specs.PackageWorlds.{AreTyped, Outcome, typed, refused, blocked, is_public, is_typed, no_packages, over}
 use Rattle.go_typings.specs.ReachedPackages.{AreReached, HoldImports, ReachesSame, is_reached}
 use Rattle.go_typings.specs.Sources.{PackageSource}
-use Rattle.go_exposed.specs.OfferedPackages.{IsOfferedAs}
-use Rattle.go_exposed.specs.OfferedWorlds.{Become, become_none, become_more}
-use Rattle.go_exposed.proofs.SameImports.{offered_same}
+use Rattle.go_taken_packages.specs.go_exposed.OfferedPackages.{IsOfferedAs}
+use Rattle.go_taken_packages.specs.go_exposed.OfferedWorlds.{Become, become_none, become_more}
+use Rattle.go_taken_packages.proofs.go_exposed_proofs.SameImports.{offered_same}
 use Rattle.go_std_worlds.proofs.MoreLists.{found_after, found_still, has_key, key_finds, mapped}
 use Rattle.go_taken_packages.proofs.TypedNames.{typed_names}
 use Rattle.go_std_worlds.specs.StdSources.{KeepStdApart, HaveOwnPaths, HavePaths, source_path}

@@ -16,7 +16,7 @@ use Rattle.go_reading.specs.FolderReadings.{IsReading}
 use Rattle.go_reading.specs.TreeFolders.{ReadsFolder}
 use Rattle.go_reading.specs.TreeUnits.{AreUnitsOfTrees}
 use Rattle.go_sources.specs.UnitSources.{file_of, import_of, source_of}
-use Rattle.go_exposed.specs.OfferedWorlds.{IsWorldOf}
+use Rattle.go_taken_packages.specs.go_exposed.OfferedWorlds.{IsWorldOf}
 use Rattle.go_typings.specs.Sources.{Import, PackageSource, imports_in}
 use Rattle.go_units.proofs.FolderLookups.{at_once}
 use Rattle.go_units.proofs.Giving.{given_by}

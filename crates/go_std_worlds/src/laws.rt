@@ -3,8 +3,8 @@ ghost use Rattle.std.specs.Prelude.{◌≡◌, ◌≢◌, ◌||◌, ℕ, Bool, t
 ghost use Rattle.std.specs.Str.{bytes_eq};
 ghost use Rattle.go_base.specs.Keys.{first_with};
 ghost use Rattle.go_base.specs.Lists.{Has, Passes};
-ghost use Rattle.go_exposed.specs.OfferedPackages.{IsOfferedAs};
-ghost use Rattle.go_exposed.specs.OfferedWorlds.{IsWorldOf};
+ghost use Rattle.go_taken_packages.specs.go_exposed.OfferedPackages.{IsOfferedAs};
+ghost use Rattle.go_taken_packages.specs.go_exposed.OfferedWorlds.{IsWorldOf};
 ghost use Rattle.go_imports.specs.ImportPaths.{IsUnder};
 ghost use Rattle.go_model.specs.declared.files.platform.Platform.{Platform};
 ghost use Rattle.go_model.specs.declared.files.tree.Tree.{Tree};

@@ -2,5 +2,9 @@
 //! the grammar derives, where the bodies of function literals are skipped.
 #![tactic(auto)]
 
+pub use go_parse;
+pub use go_simple_stmts;
+pub use go_simple_stmts::go_exprs;
+
 pub mod headers;
 pub mod laws;

@@ -5,7 +5,7 @@ use denote.Ref.{MutBor}
 use Rattle.go_cursor.specs.declared.error.ParseError.{ParseError}
 use Rattle.go_cursor.specs.declared.error.ParseError.TheVariants.{NoMemory, Syntax}
 use Rattle.go_cursor.specs.Reading.{Found}
-use Rattle.go_exprs.specs.declared.readers.Readers.{Readers}
+use Rattle.go_stmt_descent.specs.go_exprs.declared.readers.Readers.{Readers}
 use Rattle.go_stmt_lists.specs.declared.parts.StmtPart.{StmtPart}
 use Rattle.go_stmt_lists.specs.declared.parts.StmtPart.TheVariants as part
 use Rattle.go_stmt_lists.specs.declared.parts.StmtTree.{StmtTree}

@@ -13,8 +13,8 @@ use crate::level::Level;
 use crate::parts::{StmtPart, StmtTree};
 use go_cursor::cursor::Cursor;
 use go_cursor::error::ParseError;
-use go_exprs::readers::Readers;
-use go_simple_stmts::simple::SimpleStmts;
+use go_stmt_descent::go_exprs::readers::Readers;
+use go_stmt_descent::go_simple_stmts::simple::SimpleStmts;
 use go_stmt_parts::communications::communication_at;
 use go_stmt_parts::type_lists::types;
 use go_syntax::held::statement::{

@@ -8,7 +8,7 @@ ghost use Rattle.go_syntax.specs.grammar.Terminals.{terminals};
 use crate::parts::{StmtPart, StmtTree};
 use go_cursor::cursor::Cursor;
 use go_cursor::error::ParseError;
-use go_exprs::readers::Readers;
+use go_stmt_descent::go_exprs::readers::Readers;
 use go_stmt_parts::lower::Lower;
 use go_syntax::held::statement::{HeldStmt, HeldStmts};
 

@@ -4,7 +4,7 @@ use Rattle.go_cursor.specs.declared.error.ParseError.{ParseError}
 use Rattle.go_cursor.specs.Reading.{Found, bind, close}
 use Rattle.go_cursor.specs.Reads.{Reads}
 use Rattle.go_descent.specs.Levels.{levels}
-use Rattle.go_simple_stmts.specs.SimpleStatements.{simple}
+use Rattle.go_stmt_descent.specs.go_simple_stmts.SimpleStatements.{simple}
 use Rattle.go_stmt_descent.specs.Communications.{communication, communication_at, receive, receive_alone}
 use Rattle.go_stmt_descent.specs.Headers.{simple_at}
 use Rattle.go_syntax.specs.declared.expression.Expr.{Expr}

@@ -1,7 +1,7 @@
 //! The readers of expressions and types that are parts of a statement.
 ghost use Rattle.std.specs.Prelude.{◌≡◌, ◌≤◌, suc};
 
-use go_exprs::readers::Readers;
+use go_stmt_descent::go_exprs::readers::Readers;
 
 /// The readers of expressions and types that are parts of a statement.
 #[derive(Clone, Copy)]

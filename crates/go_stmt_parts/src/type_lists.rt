@@ -6,7 +6,7 @@ ghost use Rattle.go_syntax.specs.grammar.Terminals.{terminals};
 
 use go_cursor::cursor::Cursor;
 use go_cursor::error::ParseError;
-use go_exprs::readers::Readers;
+use go_stmt_descent::go_exprs::readers::Readers;
 use go_syntax::held::types::HeldTypes;
 use go_syntax::token::TokenKind;
 

@@ -1,9 +1,9 @@
 -- The readers of the parts of statements at height 0, and above it.
 use Rattle.std.proofs.Common.{◌≡◌, ℕ, suc, List, Result, sym, ap, subst}
 use Rattle.go_cursor.specs.declared.error.ParseError.{ParseError}
-use Rattle.go_stmt_lists.specs.declared.parts.StmtPart.{StmtPart}
-use Rattle.go_stmt_lists.specs.declared.parts.StmtTree.{StmtTree}
-use Rattle.go_stmt_lists.specs.Parts.{ReadsPart}
+use Rattle.go_control_stmts.specs.go_stmt_lists.declared.parts.StmtPart.{StmtPart}
+use Rattle.go_control_stmts.specs.go_stmt_lists.declared.parts.StmtTree.{StmtTree}
+use Rattle.go_control_stmts.specs.go_stmt_lists.Parts.{ReadsPart}
 use Rattle.go_stmt_descent.specs.Statements.{Statements, flat_statements, statements, statements_over}
 use Rattle.go_syntax.specs.declared.token.Token.{Token}
 use Rattle.go_syntax.specs.grammar.Terminals.{Terminal}

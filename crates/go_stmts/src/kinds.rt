@@ -1,20 +1,20 @@
 //! Statements by what they begin with.
 ghost use Rattle.std.specs.Prelude.{◌≡◌};
 ghost use Rattle.go_cursor.specs.Reads.{Reads};
-ghost use Rattle.go_stmt_lists.specs.Parts.{ReadsLower};
+ghost use Rattle.go_control_stmts.specs.go_stmt_lists.Parts.{ReadsLower};
 ghost use Rattle.go_stmt_descent.specs.Statements as rules;
 ghost use Rattle.go_stmt_descent.specs.Statements.{statements};
 ghost use Rattle.go_syntax.specs.grammar.Terminals.{terminals};
 
 use go_control_stmts::controls::Controls;
+use go_control_stmts::go_stmt_lists::clauses::Clauses;
+use go_control_stmts::go_stmt_lists::level::Level;
+use go_control_stmts::go_stmt_lists::parts::{StmtPart, StmtTree};
+use go_control_stmts::go_stmt_parts::words::{Words, begins_label, ends_stmt};
 use go_cursor::cursor::Cursor;
 use go_cursor::error::ParseError;
-use go_exprs::readers::Readers;
-use go_simple_stmts::simple::SimpleStmts;
-use go_stmt_lists::clauses::Clauses;
-use go_stmt_lists::level::Level;
-use go_stmt_lists::parts::{StmtPart, StmtTree};
-use go_stmt_parts::words::{Words, begins_label, ends_stmt};
+use go_stmt_descent::go_exprs::readers::Readers;
+use go_stmt_descent::go_simple_stmts::simple::SimpleStmts;
 use go_syntax::held::statement::{HeldStmt, boxed_stmt};
 use go_syntax::statement::{Stmt, StmtKind};
 use go_syntax::token::TokenKind;

@@ -1,20 +1,20 @@
 //! The readers of statements and blocks, for the crates above. The body of a function literal is skipped.
 ghost use Rattle.std.specs.Prelude.{◌≡◌, Some};
 ghost use Rattle.go_cursor.specs.Reads.{Reads};
-ghost use Rattle.go_stmt_lists.specs.Parts.{ReadsLower, ReadsPart};
+ghost use Rattle.go_control_stmts.specs.go_stmt_lists.Parts.{ReadsLower, ReadsPart};
 ghost use Rattle.go_stmt_descent.specs.Statements as rules;
 ghost use Rattle.go_stmt_descent.specs.Statements.{statements};
 ghost use Rattle.go_syntax.specs.grammar.Terminals.{terminals};
 
 use crate::kinds::Kinds;
 use go_base::list::List;
+use go_control_stmts::go_stmt_lists::clauses::Clauses;
+use go_control_stmts::go_stmt_lists::level::Level;
+use go_control_stmts::go_stmt_lists::parts::{StmtPart, StmtTree};
+use go_control_stmts::go_stmt_parts::lower::Lower;
 use go_cursor::cursor::Cursor;
 use go_cursor::error::ParseError;
-use go_exprs::readers::Readers;
-use go_stmt_lists::clauses::Clauses;
-use go_stmt_lists::level::Level;
-use go_stmt_lists::parts::{StmtPart, StmtTree};
-use go_stmt_parts::lower::Lower;
+use go_stmt_descent::go_exprs::readers::Readers;
 use go_syntax::held::statement::{HeldStmt, HeldStmts};
 use go_syntax::statement::{Stmt, StmtKind};
 use go_syntax::token::TokenKind;

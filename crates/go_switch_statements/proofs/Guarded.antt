@@ -3,9 +3,9 @@ use Rattle.std.proofs.Common.{inl, inr, ◌≡◌, ◌∙◌, ◌⊎◌, ◌≤�
 use Rattle.std.specs.Prelude.{IfOk}
 use Rattle.go_base.specs.Lists.{Each}
 use Rattle.go_base.specs.declared.memory.NoMemory.{NoMemory}
-use Rattle.go_clauses.specs.Clauses.{IsGuardOf}
-use Rattle.go_flat_statements.specs.Judging.{JudgesKind}
-use Rattle.go_flat_statements.proofs.MetTrees.{met_parts, met_whole}
+use Rattle.go_type_switches.specs.go_clauses.Clauses.{IsGuardOf}
+use Rattle.go_nested_statements.specs.go_flat_statements.Judging.{JudgesKind}
+use Rattle.go_nested_statements.proofs.go_flat_statements_proofs.MetTrees.{met_parts, met_whole}
 use Rattle.go_judged.specs.Judging.{Among, Finds, Judges, JudgesTo, both, found, tested, with_test}
 use Rattle.go_judged.specs.declared.judged.Judged.{Judged}
 use Rattle.go_judged.proofs.Found.{found_typed}

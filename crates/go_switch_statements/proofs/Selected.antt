@@ -1,7 +1,7 @@
 -- What is found in a `select` statement.
 use Rattle.std.proofs.Common.{inl, inr, ◌≡◌, ◌∙◌, ◌⊎◌, ℕ, Bool, true, false, ◌&&◌, List, [], ◌∷◌, Option, ap, subst}
 use Rattle.go_base.specs.Lists.{Each}
-use Rattle.go_flat_statements.specs.Judging.{JudgesKind}
+use Rattle.go_nested_statements.specs.go_flat_statements.Judging.{JudgesKind}
 use Rattle.go_judged.specs.Judging.{Among, Finds, Judges, JudgesTo, both, found}
 use Rattle.go_judged.specs.declared.judged.Judged.{Judged}
 use Rattle.go_judged.proofs.Found.{found_typed}

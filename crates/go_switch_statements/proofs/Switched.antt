@@ -1,9 +1,9 @@
 -- What is found in an expression switch.
 use Rattle.std.proofs.Common.{inl, inr, ◌≡◌, ◌∙◌, ◌⊎◌, Bool, true, false, ◌&&◌, List, [], ◌∷◌, map, Option, None, Some, refl, sym, ap, subst}
 use Rattle.go_base.specs.Lists.{Each}
-use Rattle.go_clauses.specs.Clauses.{AreCasesOf, IsTagOf, tag_of}
-use Rattle.go_flat_statements.specs.Judging.{JudgesKind}
-use Rattle.go_flat_statements.proofs.MetTrees.{met_own, met_parts, met_whole, own_met}
+use Rattle.go_type_switches.specs.go_clauses.Clauses.{AreCasesOf, IsTagOf, tag_of}
+use Rattle.go_nested_statements.specs.go_flat_statements.Judging.{JudgesKind}
+use Rattle.go_nested_statements.proofs.go_flat_statements_proofs.MetTrees.{met_own, met_parts, met_whole, own_met}
 use Rattle.go_judged.specs.Judging.{Among, Judges, JudgesTo, both, tested, with_test}
 use Rattle.go_judged.specs.declared.judged.Judged.{Judged}
 use Rattle.go_judged.proofs.Joining.{judged_alone, judged_as, judged_both, judged_test, so_false, so_reached, so_true}

@@ -1,7 +1,7 @@
 //! `select` statements.
 ghost use Rattle.std.specs.Prelude.{◌≡◌, ◌≢◌, [], IfOk};
 ghost use Rattle.go_base.specs.Lists.{Each};
-ghost use Rattle.go_flat_statements.specs.Judging.{JudgesHere};
+ghost use Rattle.go_nested_statements.specs.go_flat_statements.Judging.{JudgesHere};
 ghost use Rattle.go_judged.specs.Judging.{Among, Judges};
 ghost use Rattle.go_local_scopes.specs.States.{IsAt, Kept};
 ghost use Rattle.go_switch_statements.specs.Selecting.{InSelectCase, IsTypedSelectCase};

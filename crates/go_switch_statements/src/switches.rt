@@ -1,8 +1,8 @@
 //! Expression switches.
 ghost use Rattle.std.specs.Prelude.{◌≡◌, ◌≢◌, [], Some, IfOk};
 ghost use Rattle.go_base.specs.Lists.{Each};
-ghost use Rattle.go_clauses.specs.Clauses.{AreCasesOf, IsTagOf};
-ghost use Rattle.go_flat_statements.specs.Judging.{JudgesHere};
+ghost use Rattle.go_type_switches.specs.go_clauses.Clauses.{AreCasesOf, IsTagOf};
+ghost use Rattle.go_nested_statements.specs.go_flat_statements.Judging.{JudgesHere};
 ghost use Rattle.go_judged.specs.Judging.{Among, Judges};
 ghost use Rattle.go_local_scopes.specs.States.{IsAt, Kept};
 ghost use Rattle.go_nested_statements.specs.Heads.{JudgesWithin};
@@ -19,13 +19,13 @@ ghost use Rattle.go_walks.specs.Below.{RunsBelow, blocks_of, enclosing_of};
 use go_base::boxed::Box;
 use go_base::list::List;
 use go_base::memory::NoMemory;
-use go_clauses::tags::{cases, tag};
-use go_flat_statements::trees::{expr_trees, optional_tree};
 use go_judged::judged::Judged;
 use go_model::types::term::Term;
+use go_nested_statements::go_flat_statements::trees::{expr_trees, optional_tree};
 use go_rules::env::Env;
 use go_syntax::expression::Expr;
 use go_syntax::statement::{Case, Stmt};
+use go_type_switches::go_clauses::tags::{cases, tag};
 use go_usability::context::Context;
 use go_walks::answers::found;
 use go_walks::frame::Frame;

@@ -1,8 +1,8 @@
 //! Type switches.
 ghost use Rattle.std.specs.Prelude.{◌≡◌, ◌≢◌, [], ◌∷◌, Some, IfOk};
 ghost use Rattle.go_base.specs.Lists.{Each};
-ghost use Rattle.go_clauses.specs.Clauses.{IsGuardOf};
-ghost use Rattle.go_flat_statements.specs.Judging.{JudgesHere};
+ghost use Rattle.go_type_switches.specs.go_clauses.Clauses.{IsGuardOf};
+ghost use Rattle.go_nested_statements.specs.go_flat_statements.Judging.{JudgesHere};
 ghost use Rattle.go_judged.specs.Judging.{Among, Judges};
 ghost use Rattle.go_local_scopes.specs.States.{IsAt, Kept, Reaches};
 ghost use Rattle.go_nested_statements.specs.Heads.{JudgesWithin};
@@ -22,15 +22,13 @@ ghost use Rattle.go_type_terms.specs.Answers.{Tells, env_in};
 ghost use Rattle.go_usability.specs.Answers.{Gives};
 ghost use Rattle.go_walks.specs.Below.{RunsBelow, blocks_of, enclosing_of};
 
-use go_asks::meets::meet;
 use go_base::boxed::Box;
 use go_base::list::List;
 use go_base::memory::NoMemory;
-use go_clauses::guards::{all_listed, guard};
-use go_flat_statements::trees::{expr_tree, listed_trees};
 use go_judged::judged::Judged;
 use go_local_scopes::declaring::declare;
 use go_model::types::term::Term;
+use go_nested_statements::go_flat_statements::trees::{expr_tree, listed_trees};
 use go_nodes::trees::Trees;
 use go_rules::blank::is_blank;
 use go_rules::env::Env;
@@ -40,6 +38,8 @@ use go_syntax::name::Name;
 use go_syntax::statement::{Stmt, TypeCase};
 use go_syntax::types::Type;
 use go_type_switches::clauses::clauses;
+use go_type_switches::go_asks::meets::meet;
+use go_type_switches::go_clauses::guards::{all_listed, guard};
 use go_type_terms::error::ExprError;
 use go_usability::context::Context;
 use go_walks::answers::{found, holds};

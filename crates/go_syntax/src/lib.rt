@@ -4,6 +4,8 @@
 //! grows with the length of a file.
 #![tactic(auto)]
 
+pub use go_base;
+
 pub mod body;
 pub mod declaration;
 pub mod expression;

@@ -1,3 +1,5 @@
+pub use Rattle.go_exposed.proofs as go_exposed_proofs
+pub use Rattle.go_typed_packages.proofs as go_typed_packages_proofs
 pub mod KeptPaths
 pub mod OverAll
 pub mod SameReach

@@ -10,12 +10,12 @@ ghost use Rattle.go_cursor.specs.Reads.{Reads};
 ghost use Rattle.go_descent.specs.Rules as rules;
 ghost use Rattle.go_cursor.specs.Names as name_rules;
 
-use go_base::list::List;
 use go_cursor::cursor::Cursor;
 use go_cursor::error::ParseError;
 use go_cursor::looks::{names_field, names_method};
 use go_cursor::names::{names, tag, type_name};
 use go_descent::grammar::{Grammar, Part, PartTree};
+use go_syntax::go_base::list::List;
 use go_syntax::held::expression::HeldExpr;
 use go_syntax::held::types::{
     HeldFields, HeldInterfaceElems, HeldType, array_type, boxed_signature, boxed_type, map_type,

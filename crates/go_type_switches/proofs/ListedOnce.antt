@@ -4,7 +4,7 @@ use Rattle.go_base.specs.Lists.{Has, Once}
 use Rattle.go_model.specs.declared.types.term.Term.{Term}
 use Rattle.go_selectors.specs.Answers.{Decides}
 use Rattle.go_type_codes.proofs.PrefixFree.{some_code, types_told}
-use Rattle.go_assignments.proofs.Decided.{decided_so}
+use Rattle.go_clauses.proofs.go_assignments_proofs.Decided.{decided_so}
 use Rattle.go_type_switches.specs.inner.Listing.{code_in}
 
 listed_told : (x y : Option Term) → code_in x ≡ code_in y → x ≡ y

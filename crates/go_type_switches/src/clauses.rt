@@ -15,11 +15,11 @@ use go_base::text::Text;
 use go_clauses::guards::all_listed;
 use go_model::types::term::Term;
 use go_nodes::distinct::are_once;
+use go_operators::go_usability::context::Context;
 use go_syntax::statement::TypeCase;
 use go_syntax::types::Type;
 use go_type_codes::codes::type_code;
 use go_type_terms::error::ExprError;
-use go_usability::context::Context;
 use std::alloc::Global;
 
 // Bytes that tell what is listed apart: of `nil` none.

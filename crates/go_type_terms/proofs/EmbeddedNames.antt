@@ -11,7 +11,7 @@ use Rattle.std.proofs.lemmas.Map.Text.{is_eq-slice_cmp}
 use Rattle.go_base.specs.Lists.{Has as In}
 use Rattle.go_base.proofs.Members.{found_has}
 use Rattle.go_model.specs.declared.types.names.TypeName.{TypeName}
-use Rattle.go_selectors.specs.Names.{same_name, same_name_is}
+use Rattle.go_usability.specs.go_selectors.Names.{same_name, same_name_is}
 
 -- names in order, by package and then by name
 abbrev pub name_order : TypeName → TypeName → Ordering

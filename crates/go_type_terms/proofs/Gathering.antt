@@ -16,7 +16,7 @@ use Rattle.go_model.specs.declared.types.term.Method.{Method, out-Method, roll-M
 use Rattle.go_model.specs.declared.types.term.Signature.{Signature}
 use Rattle.go_model.specs.types.MethodSets.{method_sel, sel_order}
 use Rattle.go_rules.proofs.OneName.{one_some}
-use Rattle.go_selectors.proofs.Noting.{eq_same, sel_is, sel_self}
+use Rattle.go_usability.proofs.go_selectors_proofs.Noting.{eq_same, sel_is, sel_self}
 use Rattle.go_type_terms.specs.inner.Gathered.{AreKeyed, Clashes, Entries, Notes, Takes}
 use Rattle.go_type_terms.proofs.Gone.{next_of}
 

@@ -12,7 +12,7 @@ use Rattle.go_model.specs.declared.types.term.Term.{Term, roll-Term, roll-out-Te
 use Rattle.go_model.specs.declared.types.term.Term.TheVariants as term
 use Rattle.go_model.specs.declared.types.term.Term.TheVariants.{outs-Interface}
 use Rattle.go_model.specs.types.MethodSets.{sel_order}
-use Rattle.go_selectors.proofs.Lists.{has-left, has-right, has-split}
+use Rattle.go_usability.proofs.go_selectors_proofs.Lists.{has-left, has-right, has-split}
 use Rattle.go_syntax.specs.declared.name.Name.{Name}
 use Rattle.go_syntax.specs.declared.types.InterfaceElem.{InterfaceElem, InterfaceElem-F, out-InterfaceElem}
 use Rattle.go_syntax.specs.declared.types.Signature.{Signature as Sig, out-Signature as out-Sig}

@@ -1,7 +1,7 @@
 -- Whether trees are loud, by their parts.
 use Rattle.std.proofs.Common.{◌≡◌, List, [], ◌∷◌, ◌++◌, ◌⊎◌, inl, inr, refl, subst, Bool, true, false, ◌||◌}
 use Rattle.go_base.specs.Lists.{Has as In}
-use Rattle.go_selectors.proofs.Lists.{has-left, has-right, has-split}
+use Rattle.go_usability.proofs.go_selectors_proofs.Lists.{has-left, has-right, has-split}
 use Rattle.go_syntax.specs.declared.expression.Expr.{Expr}
 use Rattle.go_rules.specs.Environments.{Env}
 use Rattle.go_rules.specs.Nodes.{Node, Stands, stands_here, stands_in, parts, expression}

@@ -12,7 +12,7 @@ use go_base::list::List;
 use go_base::memory::NoMemory;
 use go_model::types::names::Sel;
 use go_model::types::term::Method;
-use go_selectors::identity::same_signature;
+use go_usability::go_selectors::identity::same_signature;
 use std::alloc::Global;
 use std::collections::BTreeMap;
 

@@ -3,9 +3,9 @@ ghost use Rattle.std.specs.Prelude.{◌≡◌, ◌⊎◌, ℕ, pos, ◌<◌, ◌
 ghost use Rattle.go_usability.specs.Answers.{Gives};
 ghost use Rattle.go_type_terms.specs.Lengths.{IsLength, IsLengthValue};
 
-use go_const::representation::representable;
 use go_model::constants::value::{Basic, Value};
 use go_rules::operand::{Mode, Operand, Shape};
+use go_usability::go_const::representation::representable;
 
 // The number from 0, where it fits into 64 bits.
 fn natural(number: i128) -> Option<u64>

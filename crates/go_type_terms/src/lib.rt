@@ -1,6 +1,8 @@
 //! The frame in which a tree is typed over its parts, and the terms that type forms stand for.
 #![tactic(auto)]
 
+pub use go_usability;
+
 mod embedded;
 pub mod error;
 mod gathered;

@@ -21,8 +21,8 @@ use Rattle.go_model.specs.worlds.Worlds.{IsDefined, IsOwned, IsPackage, IsWorld,
 use Rattle.go_rules.proofs.LocalTypes.{each_made}
 use Rattle.go_rules.proofs.OneKind.{no_truth}
 use Rattle.go_rules.specs.Environments.{Env, is_exported}
-use Rattle.go_soundness.proofs.DeclaredForms.{is_at, own_name}
-use Rattle.go_soundness.proofs.WorldsApart.{world_apart}
+use Rattle.go_exposed.proofs.go_soundness_proofs.DeclaredForms.{is_at, own_name}
+use Rattle.go_exposed.proofs.go_soundness_proofs.WorldsApart.{world_apart}
 use Rattle.go_syntax.specs.declared.declaration.TypeSpec.{TypeSpec}
 use Rattle.go_typings.proofs.Cells.{none_some}
 use Rattle.go_typings.proofs.SoundDeclarations.{typed_sound}

@@ -11,7 +11,7 @@ use Rattle.go_model.specs.declared.types.term.Signature.{Signature}
 use Rattle.go_model.specs.declared.types.term.Term.{Term}
 use Rattle.go_rules.proofs.OneKind.{no_truth}
 use Rattle.go_rules.specs.Expressions.{is_blank}
-use Rattle.go_soundness.proofs.DeclaredForms.{method_declared}
+use Rattle.go_exposed.proofs.go_soundness_proofs.DeclaredForms.{method_declared}
 use Rattle.go_syntax.specs.declared.declaration.Func.{Func}
 use Rattle.go_syntax.specs.declared.declaration.TypeSpec.{TypeSpec}
 use Rattle.go_syntax.specs.declared.types.ParameterDecl.{ParameterDecl}

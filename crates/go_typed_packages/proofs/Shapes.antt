@@ -16,7 +16,7 @@ use Rattle.go_rules.proofs.LocalTypes.{each_made}
 use Rattle.go_rules.proofs.OneKind.{no_truth}
 use Rattle.go_rules.specs.Environments.{Env}
 use Rattle.go_rules.specs.Expressions.{is_blank}
-use Rattle.go_soundness.proofs.DeclaredForms.{is_at}
+use Rattle.go_exposed.proofs.go_soundness_proofs.DeclaredForms.{is_at}
 use Rattle.go_typings.proofs.Cells.{if_true, some_once}
 use Rattle.go_typings.proofs.OnePackage.{found, in_order}
 use Rattle.go_typings.proofs.ReachedRegion.{own_path}

@@ -1,3 +1,4 @@
+pub use Rattle.go_selectors.proofs as go_selectors_proofs
 pub mod Agree
 pub mod Alternatives
 pub mod Called

@@ -5,18 +5,18 @@ use Rattle.std.specs.Option.{option_or}
 use Rattle.std.specs.Str.{bytes_eq}
 use Rattle.std.proofs.lemmas.Bool.Decides.{nat_tests}
 use Rattle.std.proofs.lemmas.Slice.Eq.{bytes_eq-Decides}
-use Rattle.go_base.specs.Keys.{first_with}
-use Rattle.go_base.specs.Lists.{Each, Has}
-use Rattle.go_model.specs.declared.constants.value.Basic.{Basic}
-use Rattle.go_model.specs.declared.constants.value.Kind.{Kind}
-use Rattle.go_model.specs.declared.types.names.TypeName.{TypeName}
-use Rattle.go_model.specs.declared.types.package.ConstTerm.{ConstTerm}
-use Rattle.go_model.specs.declared.types.package.Entity.{Entity}
-use Rattle.go_model.specs.declared.types.package.Entity.TheVariants as entity
-use Rattle.go_model.specs.declared.types.term.Term.{Term-F, out-Term, out-roll-Term}
-use Rattle.go_model.specs.types.Terms.{Layer, error_method, error_type, is_error}
-use Rattle.go_model.specs.types.Underlying.{entry, under_entry, under_layer}
-use Rattle.go_model.specs.worlds.Worlds.{defined_in, path_of, table_of}
+use Rattle.go_references.specs.go_base.Keys.{first_with}
+use Rattle.go_references.specs.go_base.Lists.{Each, Has}
+use Rattle.go_rules.specs.go_model.declared.constants.value.Basic.{Basic}
+use Rattle.go_rules.specs.go_model.declared.constants.value.Kind.{Kind}
+use Rattle.go_rules.specs.go_model.declared.types.names.TypeName.{TypeName}
+use Rattle.go_rules.specs.go_model.declared.types.package.ConstTerm.{ConstTerm}
+use Rattle.go_rules.specs.go_model.declared.types.package.Entity.{Entity}
+use Rattle.go_rules.specs.go_model.declared.types.package.Entity.TheVariants as entity
+use Rattle.go_rules.specs.go_model.declared.types.term.Term.{Term-F, out-Term, out-roll-Term}
+use Rattle.go_rules.specs.go_model.types.Terms.{Layer, error_method, error_type, is_error}
+use Rattle.go_rules.specs.go_model.types.Underlying.{entry, under_entry, under_layer}
+use Rattle.go_rules.specs.go_model.worlds.Worlds.{defined_in, path_of, table_of}
 use Rattle.go_rules.specs.Environments.{Env}
 use Rattle.go_rules.specs.KeptConstants.{ConstantsKept}
 use Rattle.go_rules.specs.Operands.{HasKind, kind_of_type, kind_of_untyped}

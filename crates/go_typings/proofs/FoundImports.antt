@@ -1,10 +1,10 @@
 -- Where no import is the first that isn't found, each is found.
 use Rattle.std.proofs.Common.{◌≡◌, ℕ, zero, suc, true, List, [], ◌∷◌, map, inl, inr}
 use Rattle.std.specs.Prelude.{slice_get}
-use Rattle.go_base.specs.Lists.{Each, Has}
+use Rattle.go_references.specs.go_base.Lists.{Each, Has}
 use Rattle.go_rules.proofs.LocalParts.{each_left, each_right}
 use Rattle.go_rules.proofs.LocalTerms.{each_has}
-use Rattle.go_syntax.specs.declared.name.Place.{Place}
+use Rattle.go_references.specs.go_syntax.declared.name.Place.{Place}
 use Rattle.go_typings.specs.Refusals.{IsFirstMissing, missing_here, missing_later, IsMissing, import_at, imports_from}
 use Rattle.go_typings.specs.Sources.{AreFound, Import, PackageSource, SourceFile, imports_in}
 use Rattle.go_typings.proofs.Cells.{either}

@@ -3,16 +3,16 @@ use Rattle.std.proofs.Common.{◌≡◌, ℕ, Bool, true, false, ◌||◌, List,
 use Rattle.std.specs.Prelude.{if◌then◌else◌, slice_get}
 use Rattle.std.specs.Option.{option_or}
 use Rattle.std.specs.Str.{bytes_eq}
-use Rattle.go_model.specs.declared.types.names.Sel.{Sel}
-use Rattle.go_model.specs.declared.types.names.TypeName.{TypeName}
-use Rattle.go_model.specs.declared.types.package.Defined.{Defined}
-use Rattle.go_model.specs.declared.types.package.Entity.{Entity}
-use Rattle.go_model.specs.declared.types.package.MethodOf.{MethodOf}
-use Rattle.go_model.specs.declared.types.term.Signature.{Signature}
-use Rattle.go_model.specs.declared.types.term.Term.{Term}
-use Rattle.go_model.specs.types.Terms.{error_type, is_error, same_sel}
-use Rattle.go_model.specs.types.Underlying.{entry}
-use Rattle.go_model.specs.worlds.Worlds.{table_of}
+use Rattle.go_rules.specs.go_model.declared.types.names.Sel.{Sel}
+use Rattle.go_rules.specs.go_model.declared.types.names.TypeName.{TypeName}
+use Rattle.go_rules.specs.go_model.declared.types.package.Defined.{Defined}
+use Rattle.go_rules.specs.go_model.declared.types.package.Entity.{Entity}
+use Rattle.go_rules.specs.go_model.declared.types.package.MethodOf.{MethodOf}
+use Rattle.go_rules.specs.go_model.declared.types.term.Signature.{Signature}
+use Rattle.go_rules.specs.go_model.declared.types.term.Term.{Term}
+use Rattle.go_rules.specs.go_model.types.Terms.{error_type, is_error, same_sel}
+use Rattle.go_rules.specs.go_model.types.Underlying.{entry}
+use Rattle.go_rules.specs.go_model.worlds.Worlds.{table_of}
 use Rattle.go_rules.specs.Environments.{Env, is_among}
 use Rattle.go_rules.specs.Growth.{Grown, Grows, if_named, methods_named}
 use Rattle.go_rules.specs.Scopes.{as_import}

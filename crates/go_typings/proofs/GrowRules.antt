@@ -1,10 +1,10 @@
 -- Among more entries a declaration is given what it was given.
 use Rattle.std.proofs.Common.{◌≡◌, ℕ, true, false, List, Option, refl, subst}
-use Rattle.go_model.specs.declared.types.package.ConstTerm.{ConstTerm}
-use Rattle.go_model.specs.declared.constants.value.Value.{Value}
-use Rattle.go_model.specs.declared.types.package.Entity.{Entity}
-use Rattle.go_model.specs.declared.types.term.Term.{Term, Term-F}
-use Rattle.go_model.specs.types.Terms.{Layer}
+use Rattle.go_rules.specs.go_model.declared.types.package.ConstTerm.{ConstTerm}
+use Rattle.go_rules.specs.go_model.declared.constants.value.Value.{Value}
+use Rattle.go_rules.specs.go_model.declared.types.package.Entity.{Entity}
+use Rattle.go_rules.specs.go_model.declared.types.term.Term.{Term, Term-F}
+use Rattle.go_rules.specs.go_model.types.Terms.{Layer}
 use Rattle.go_rules.specs.Environments.{Env}
 use Rattle.go_rules.specs.Growth.{Grows}
 use Rattle.go_rules.specs.declared.operand.Operand.{Operand}
@@ -12,8 +12,8 @@ use Rattle.go_rules.proofs.GrowOperand.{all_more, has_more, signature_more, type
 use Rattle.go_rules.proofs.GrowRelations.{usable_more}
 use Rattle.go_rules.proofs.GrowTypes.{form_more, is_form, joined, joined_is}
 use Rattle.go_rules.proofs.OneKind.{no_truth}
-use Rattle.go_syntax.specs.declared.expression.Expr.{Expr}
-use Rattle.go_syntax.specs.declared.types.«Type».{«Type» as Typ}
+use Rattle.go_references.specs.go_syntax.declared.expression.Expr.{Expr}
+use Rattle.go_references.specs.go_syntax.declared.types.«Type».{«Type» as Typ}
 use Rattle.go_typings.specs.DeclarationRules.{AreConstants, constants_none, constants_more, Gives, gives_constants, gives_typed_variables, gives_variables, gives_alias, gives_definition, gives_function, gives_method, MayDefine, TypeOfConstant, own_kind, given_type, is_name}
 use Rattle.go_typings.specs.Declarations.{Declaration, Form}
 use Rattle.go_typings.specs.Initializers.{GivesValueAndTruth, two_of_map, two_of_value, Initialize, by_each, by_call, by_two, TypeOfValue, own_type, default_of_constant, default_of_truth, TypesOfValues, types_none, types_more}

@@ -2,13 +2,13 @@
 use Rattle.std.proofs.Common.{◌≡◌, ℕ, Bool, true, false, ◌||◌, List, [], Some, None, refl, sym, ap, ◌∙◌, inl, inr}
 use Rattle.std.specs.Str.{bytes_eq}
 use Rattle.std.proofs.lemmas.Slice.Eq.{bytes_eq-Decides}
-use Rattle.go_base.specs.Keys.{first_with}
-use Rattle.go_base.specs.Lists.{Has, Passes}
-use Rattle.go_model.specs.declared.types.names.TypeName.{TypeName}
-use Rattle.go_model.specs.declared.types.package.Package.{Package}
-use Rattle.go_model.specs.types.Terms.{is_error}
-use Rattle.go_model.specs.worlds.PackageTypes.{package_names}
-use Rattle.go_model.specs.worlds.Worlds.{Packages, path_of}
+use Rattle.go_references.specs.go_base.Keys.{first_with}
+use Rattle.go_references.specs.go_base.Lists.{Has, Passes}
+use Rattle.go_rules.specs.go_model.declared.types.names.TypeName.{TypeName}
+use Rattle.go_rules.specs.go_model.declared.types.package.Package.{Package}
+use Rattle.go_rules.specs.go_model.types.Terms.{is_error}
+use Rattle.go_rules.specs.go_model.worlds.PackageTypes.{package_names}
+use Rattle.go_rules.specs.go_model.worlds.Worlds.{Packages, path_of}
 use Rattle.go_typings.specs.PackageEnvironments.{had_path}
 use Rattle.go_typings.specs.ReachedPackages.{AreReached, HoldImports, ReachesSame, is_reached}
 use Rattle.go_typings.specs.Sources.{AreFound, Import, PackageSource, Setting}

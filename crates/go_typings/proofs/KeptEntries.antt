@@ -1,22 +1,22 @@
 -- What a declaration is given keeps that the value of each constant is of its type or untyped kind.
 use Rattle.std.proofs.Common.{◌≡◌, ℕ, zero, suc, Bool, true, false, not, ◌&&◌, List, [], ◌∷◌, Option, map, refl, sym, ap, ◌∙◌, subst}
 use Rattle.std.specs.Prelude.{replicate}
-use Rattle.go_base.specs.Lists.{Each}
-use Rattle.go_model.specs.constants.Classes.{class_of_basic, is_inexact}
-use Rattle.go_model.specs.constants.Constants.{is_of, is_representable}
-use Rattle.go_model.specs.declared.constants.value.Basic.{Basic}
-use Rattle.go_model.specs.declared.constants.value.Basic.TheVariants as basic
-use Rattle.go_model.specs.declared.constants.value.Kind.TheVariants as kind
-use Rattle.go_model.specs.declared.constants.value.Value.{Value}
-use Rattle.go_model.specs.declared.types.package.ConstTerm.{ConstTerm}
-use Rattle.go_model.specs.declared.types.package.ConstTerm.TheVariants as constant
-use Rattle.go_model.specs.declared.types.package.Entity.{Entity}
-use Rattle.go_model.specs.declared.types.package.Entity.TheVariants as entity
-use Rattle.go_model.specs.declared.types.term.Direction.TheVariants as direction
-use Rattle.go_model.specs.declared.types.term.Term.{Term, Term-F}
-use Rattle.go_model.specs.types.Assignability.{AreChannels}
-use Rattle.go_model.specs.types.Terms.{Layer}
-use Rattle.go_model.specs.types.Underlying.{under}
+use Rattle.go_references.specs.go_base.Lists.{Each}
+use Rattle.go_rules.specs.go_model.constants.Classes.{class_of_basic, is_inexact}
+use Rattle.go_rules.specs.go_model.constants.Constants.{is_of, is_representable}
+use Rattle.go_rules.specs.go_model.declared.constants.value.Basic.{Basic}
+use Rattle.go_rules.specs.go_model.declared.constants.value.Basic.TheVariants as basic
+use Rattle.go_rules.specs.go_model.declared.constants.value.Kind.TheVariants as kind
+use Rattle.go_rules.specs.go_model.declared.constants.value.Value.{Value}
+use Rattle.go_rules.specs.go_model.declared.types.package.ConstTerm.{ConstTerm}
+use Rattle.go_rules.specs.go_model.declared.types.package.ConstTerm.TheVariants as constant
+use Rattle.go_rules.specs.go_model.declared.types.package.Entity.{Entity}
+use Rattle.go_rules.specs.go_model.declared.types.package.Entity.TheVariants as entity
+use Rattle.go_rules.specs.go_model.declared.types.term.Direction.TheVariants as direction
+use Rattle.go_rules.specs.go_model.declared.types.term.Term.{Term, Term-F}
+use Rattle.go_rules.specs.go_model.types.Assignability.{AreChannels}
+use Rattle.go_rules.specs.go_model.types.Terms.{Layer}
+use Rattle.go_rules.specs.go_model.types.Underlying.{under}
 use Rattle.go_rules.specs.Environments.{Env}
 use Rattle.go_rules.specs.Expressions.{is_constant}
 use Rattle.go_rules.specs.Growth.{Grows}
@@ -28,8 +28,8 @@ use Rattle.go_rules.proofs.GrowRelations.{kind_more}
 use Rattle.go_rules.proofs.GrowTypes.{joined_is}
 use Rattle.go_rules.proofs.KeptOperands.{has_kept}
 use Rattle.go_rules.proofs.OneKind.{const_in, no_truth, one_kind, typed, value_in}
-use Rattle.go_syntax.specs.declared.expression.Expr.{Expr}
-use Rattle.go_syntax.specs.declared.types.«Type».{«Type» as Typ}
+use Rattle.go_references.specs.go_syntax.declared.expression.Expr.{Expr}
+use Rattle.go_references.specs.go_syntax.declared.types.«Type».{«Type» as Typ}
 use Rattle.go_typings.specs.DeclarationRules.{AreConstants, constants_none, constants_more, Gives, gives_constants, gives_typed_variables, gives_variables, gives_alias, gives_definition, gives_function, gives_method, TypeOfConstant, own_kind, given_type}
 use Rattle.go_typings.specs.Declarations.{Declaration, Form}
 use Rattle.go_typings.specs.PackageEnvironments.{Entry, objects, underlying, signed}

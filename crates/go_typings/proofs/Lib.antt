@@ -1,3 +1,5 @@
+pub use Rattle.go_rules.proofs.go_model_proofs as go_model_proofs
+pub use Rattle.go_rules.proofs as go_rules_proofs
 pub mod Cells
 pub mod Agree
 pub mod GrowEnvironments

@@ -1,15 +1,15 @@
 -- What a declaration is given depends on a closed region alone, where it refers to that alone, and is of it.
 use Rattle.std.proofs.Common.{◌≡◌, ℕ, zero, suc, true, List, [], ◌∷◌, ◌++◌, Option, Some, map, subst}
 use Rattle.std.specs.Prelude.{replicate}
-use Rattle.go_base.specs.Lists.{Each}
-use Rattle.go_model.specs.declared.constants.value.Untyped.{Untyped}
-use Rattle.go_model.specs.declared.constants.value.Untyped.TheVariants as untyped
-use Rattle.go_model.specs.declared.constants.value.Basic.TheVariants as basic
-use Rattle.go_model.specs.declared.constants.value.Value.{Value}
-use Rattle.go_model.specs.declared.types.package.ConstTerm.{ConstTerm}
-use Rattle.go_model.specs.declared.types.package.Entity.{Entity}
-use Rattle.go_model.specs.declared.types.package.Entity.TheVariants as entity
-use Rattle.go_model.specs.declared.types.term.Term.{Term, Term-F}
+use Rattle.go_references.specs.go_base.Lists.{Each}
+use Rattle.go_rules.specs.go_model.declared.constants.value.Untyped.{Untyped}
+use Rattle.go_rules.specs.go_model.declared.constants.value.Untyped.TheVariants as untyped
+use Rattle.go_rules.specs.go_model.declared.constants.value.Basic.TheVariants as basic
+use Rattle.go_rules.specs.go_model.declared.constants.value.Value.{Value}
+use Rattle.go_rules.specs.go_model.declared.types.package.ConstTerm.{ConstTerm}
+use Rattle.go_rules.specs.go_model.declared.types.package.Entity.{Entity}
+use Rattle.go_rules.specs.go_model.declared.types.package.Entity.TheVariants as entity
+use Rattle.go_rules.specs.go_model.declared.types.term.Term.{Term, Term-F}
 use Rattle.go_rules.specs.Environments.{Env}
 use Rattle.go_rules.specs.Expressions.{HasEach, each_none, each_more}
 use Rattle.go_rules.specs.Nodes.{Node, expression, optional, type}
@@ -22,9 +22,9 @@ use Rattle.go_rules.proofs.LocalParts.{each_left, each_right, plains_in}
 use Rattle.go_rules.proofs.LocalRelations.{OperandIn, basic_in, typed_in, usable_local}
 use Rattle.go_rules.proofs.LocalTerms.{close_in, form_in}
 use Rattle.go_rules.proofs.LocalTypes.{form_same}
-use Rattle.go_syntax.specs.declared.expression.Expr.{Expr}
-use Rattle.go_syntax.specs.declared.name.Name.{Name}
-use Rattle.go_syntax.specs.declared.types.«Type».{«Type» as Typ}
+use Rattle.go_references.specs.go_syntax.declared.expression.Expr.{Expr}
+use Rattle.go_references.specs.go_syntax.declared.name.Name.{Name}
+use Rattle.go_references.specs.go_syntax.declared.types.«Type».{«Type» as Typ}
 use Rattle.go_typings.specs.DeclarationRules.{AreConstants, constants_none, constants_more, Gives, gives_constants, gives_typed_variables, gives_variables, gives_alias, gives_definition, gives_function, gives_method, TypeOfConstant, own_kind, given_type}
 use Rattle.go_typings.specs.DeclarationNodes.{nodes}
 use Rattle.go_typings.specs.Declarations.{Declaration, Form}

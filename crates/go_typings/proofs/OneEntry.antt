@@ -1,14 +1,14 @@
 -- A declaration is given one entry.
 use Rattle.std.proofs.Common.{◌≡◌, ℕ, ◌≤◌, Bool, true, false, List, [], ◌∷◌, Option, Some, map, length, refl, sym, ap, ◌∙◌, subst, arith}
 use Rattle.std.specs.Prelude.{replicate}
-use Rattle.go_model.specs.declared.constants.value.Untyped.TheVariants as untyped
-use Rattle.go_model.specs.declared.constants.value.Value.{Value}
-use Rattle.go_model.specs.declared.types.package.ConstTerm.{ConstTerm}
-use Rattle.go_model.specs.declared.types.package.ConstTerm.TheVariants as constant
-use Rattle.go_model.specs.declared.types.package.Entity.{Entity}
-use Rattle.go_model.specs.declared.types.package.Entity.TheVariants as entity
-use Rattle.go_model.specs.declared.types.term.Term.{Term, roll-Term}
-use Rattle.go_model.specs.types.Underlying.{under}
+use Rattle.go_rules.specs.go_model.declared.constants.value.Untyped.TheVariants as untyped
+use Rattle.go_rules.specs.go_model.declared.constants.value.Value.{Value}
+use Rattle.go_rules.specs.go_model.declared.types.package.ConstTerm.{ConstTerm}
+use Rattle.go_rules.specs.go_model.declared.types.package.ConstTerm.TheVariants as constant
+use Rattle.go_rules.specs.go_model.declared.types.package.Entity.{Entity}
+use Rattle.go_rules.specs.go_model.declared.types.package.Entity.TheVariants as entity
+use Rattle.go_rules.specs.go_model.declared.types.term.Term.{Term, roll-Term}
+use Rattle.go_rules.specs.go_model.types.Underlying.{under}
 use Rattle.go_rules.specs.Environments.{Env}
 use Rattle.go_rules.specs.Expressions.{Has, OfType}
 use Rattle.go_rules.specs.Operands.{default_type, loose, plain, tuple}
@@ -19,8 +19,8 @@ use Rattle.go_rules.specs.declared.operand.Shape.{Shape}
 use Rattle.go_rules.specs.declared.operand.Shape.TheVariants as shape
 use Rattle.go_rules.proofs.OneKind.{const_in, no_truth, term_in, typed, value_in}
 use Rattle.go_rules.proofs.OneOperand.{each_once, has_once, signature_once, type_once}
-use Rattle.go_syntax.specs.declared.expression.Expr.{Expr}
-use Rattle.go_syntax.specs.declared.types.«Type».{«Type» as Typ}
+use Rattle.go_references.specs.go_syntax.declared.expression.Expr.{Expr}
+use Rattle.go_references.specs.go_syntax.declared.types.«Type».{«Type» as Typ}
 use Rattle.go_typings.specs.DeclarationRules.{AreConstants, constants_none, constants_more, Gives, gives_constants, gives_typed_variables, gives_variables, gives_alias, gives_definition, gives_function, gives_method, TypeOfConstant, own_kind, given_type}
 use Rattle.go_typings.specs.Declarations.{Declaration, Form}
 use Rattle.go_typings.specs.Initializers.{GivesValueAndTruth, two_of_map, two_of_value, Initialize, by_each, by_call, by_two, TypeOfValue, own_type, default_of_constant, default_of_truth, TypesOfValues, types_none, types_more}

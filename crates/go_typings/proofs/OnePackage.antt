@@ -9,17 +9,17 @@ use Rattle.std.specs.declared.cmp.Ordering.TheVariants.{Less, Equal, Greater}
 use Rattle.std.specs.Cmp.Lexicographic.{slice_cmp}
 use Rattle.std.proofs.lemmas.Cmp.{nat_list_cmp_total}
 use Rattle.std.proofs.lemmas.Slice.Eq.{bytes_eq-Decides}
-use Rattle.go_base.specs.Keys.{first_with}
-use Rattle.go_base.specs.Lists.{Ascending, Before, Each, Has}
-use Rattle.go_model.specs.declared.types.names.Sel.{Sel}
-use Rattle.go_model.specs.declared.types.package.Defined.{Defined}
-use Rattle.go_model.specs.declared.types.package.MethodOf.{MethodOf}
-use Rattle.go_model.specs.declared.types.package.Object.{Object}
-use Rattle.go_model.specs.declared.types.package.Package.{Package}
-use Rattle.go_model.specs.types.MethodSets.{sel_order}
-use Rattle.go_model.specs.worlds.Worlds.{declared_sel, name_of, object_name}
+use Rattle.go_references.specs.go_base.Keys.{first_with}
+use Rattle.go_references.specs.go_base.Lists.{Ascending, Before, Each, Has}
+use Rattle.go_rules.specs.go_model.declared.types.names.Sel.{Sel}
+use Rattle.go_rules.specs.go_model.declared.types.package.Defined.{Defined}
+use Rattle.go_rules.specs.go_model.declared.types.package.MethodOf.{MethodOf}
+use Rattle.go_rules.specs.go_model.declared.types.package.Object.{Object}
+use Rattle.go_rules.specs.go_model.declared.types.package.Package.{Package}
+use Rattle.go_rules.specs.go_model.types.MethodSets.{sel_order}
+use Rattle.go_rules.specs.go_model.worlds.Worlds.{declared_sel, name_of, object_name}
 use Rattle.go_rules.specs.Scopes.{entity_of}
-use Rattle.go_base.proofs.Ordered.{first_key}
+use Rattle.go_references.proofs.go_base_proofs.Ordered.{first_key}
 use Rattle.go_rules.proofs.LocalTerms.{each_has}
 use Rattle.go_rules.proofs.OneKind.{no_truth}
 use Rattle.go_typings.specs.PackageEnvironments.{Entries, own_defined}

@@ -1,9 +1,9 @@
 -- A package is refused for one cause, and not where it is typed.
 use Rattle.std.proofs.Common.{◌≡◌, ℕ, ◌<◌, List, refl, sym, ap, ◌∙◌, ◌⊎◌, inl, inr, arith}
 use Rattle.std.specs.Prelude.{slice_get}
-use Rattle.go_model.specs.declared.types.package.Package.{Package}
+use Rattle.go_rules.specs.go_model.declared.types.package.Package.{Package}
 use Rattle.go_rules.proofs.OneKind.{no_truth}
-use Rattle.go_syntax.specs.declared.name.Place.{Place}
+use Rattle.go_references.specs.go_syntax.declared.name.Place.{Place}
 use Rattle.go_typings.specs.Declarations.{declarations}
 use Rattle.go_typings.specs.Redeclarations.{IsRedeclared, Site, sites}
 use Rattle.go_typings.specs.Refusals.{IsFirstMissing, missing_here, missing_later, IsRefused, Refusal, redeclared, missing_import, unsound, place_of}

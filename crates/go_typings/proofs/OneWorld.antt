@@ -1,7 +1,7 @@
 -- Packages in a list become one thing each: they have one world or one first refusal.
 use Rattle.std.proofs.Common.{◌≡◌, ℕ, suc, List, ◌∷◌, refl, sym, ap, ◌∙◌, subst}
-use Rattle.go_base.specs.Lists.{Passes}
-use Rattle.go_model.specs.worlds.Worlds.{Packages}
+use Rattle.go_references.specs.go_base.Lists.{Passes}
+use Rattle.go_rules.specs.go_model.worlds.Worlds.{Packages}
 use Rattle.go_rules.proofs.OneKind.{no_truth}
 use Rattle.go_typings.specs.PackageWorlds.{Become, become_none, become_more, Becomes, IsFirstRefused, IsRefusedAt, refused_here, refused_later, IsWorldOf, Outcome, typed, refused, blocked, is_refused, is_typed, over, with_outcome}
 use Rattle.go_typings.specs.Refusals.{Refusal}

@@ -2,14 +2,14 @@
 use Rattle.std.proofs.Common.{◌≡◌, ℕ, zero, suc, ◌<◌, Bool, List, [], ◌∷◌, Some, None, refl, sym, ◌∙◌, subst, inl, inr, arith}
 use Rattle.std.specs.Prelude.{slice_get}
 use Rattle.std.proofs.lemmas.Bool.Decides.{nat_tests}
-use Rattle.go_base.specs.Keys.{first_with}
-use Rattle.go_base.specs.Lists.{Each}
-use Rattle.go_model.specs.declared.constants.value.Kind.{Kind}
-use Rattle.go_model.specs.declared.constants.value.Value.{Value}
-use Rattle.go_model.specs.declared.types.package.ConstTerm.{ConstTerm}
-use Rattle.go_model.specs.declared.types.package.Entity.TheVariants as entity
-use Rattle.go_model.specs.declared.types.term.Term.{Term-F}
-use Rattle.go_model.specs.worlds.Worlds.{path_of}
+use Rattle.go_references.specs.go_base.Keys.{first_with}
+use Rattle.go_references.specs.go_base.Lists.{Each}
+use Rattle.go_rules.specs.go_model.declared.constants.value.Kind.{Kind}
+use Rattle.go_rules.specs.go_model.declared.constants.value.Value.{Value}
+use Rattle.go_rules.specs.go_model.declared.types.package.ConstTerm.{ConstTerm}
+use Rattle.go_rules.specs.go_model.declared.types.package.Entity.TheVariants as entity
+use Rattle.go_rules.specs.go_model.declared.types.term.Term.{Term-F}
+use Rattle.go_rules.specs.go_model.worlds.Worlds.{path_of}
 use Rattle.go_rules.specs.Environments.{Env}
 use Rattle.go_rules.specs.KeptConstants.{ConstantsKept, IsKept}
 use Rattle.go_rules.specs.Operands.{HasKind, kind_of_type, kind_of_untyped}

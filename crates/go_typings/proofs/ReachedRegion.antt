@@ -4,26 +4,26 @@ use Rattle.std.specs.Prelude.{if◌then◌else◌, slice_get, codes}
 use Rattle.std.specs.Option.{option_or}
 use Rattle.std.specs.Str.{bytes_eq}
 use Rattle.std.proofs.lemmas.Slice.Eq.{bytes_eq-Decides}
-use Rattle.go_base.specs.Gathered.{gather}
-use Rattle.go_base.specs.Keys.{first_with}
-use Rattle.go_base.specs.Lists.{Each, Has, Passes}
-use Rattle.go_model.specs.declared.types.names.TypeName.{TypeName}
-use Rattle.go_model.specs.declared.types.package.ConstTerm.TheVariants as constant
-use Rattle.go_model.specs.declared.types.package.Defined.{Defined}
-use Rattle.go_model.specs.declared.types.package.Entity.{Entity}
-use Rattle.go_model.specs.declared.types.package.Entity.TheVariants as entity
-use Rattle.go_model.specs.declared.types.package.MethodOf.{MethodOf}
-use Rattle.go_model.specs.declared.types.package.Object.{Object}
-use Rattle.go_model.specs.declared.types.package.Package.{Package}
-use Rattle.go_model.specs.declared.constants.value.Basic.TheVariants as basic
-use Rattle.go_model.specs.declared.types.term.Method.{out-Method, out-roll-Method}
-use Rattle.go_model.specs.declared.types.term.Signature.{Signature, roll-Signature, out-roll-Signature}
-use Rattle.go_model.specs.declared.types.term.Term.{Term-F, roll-Term}
-use Rattle.go_model.specs.types.Terms.{error_method, error_type, is_error}
-use Rattle.go_model.specs.types.TypeNames.{names, signature_names}
-use Rattle.go_model.specs.types.Underlying.{entry}
-use Rattle.go_model.specs.worlds.PackageTypes.{defined_names, object_names, of_entity, package_names}
-use Rattle.go_model.specs.worlds.Worlds.{defined_in, name_of, object_in, object_name, path_of, table_of}
+use Rattle.go_references.specs.go_base.Gathered.{gather}
+use Rattle.go_references.specs.go_base.Keys.{first_with}
+use Rattle.go_references.specs.go_base.Lists.{Each, Has, Passes}
+use Rattle.go_rules.specs.go_model.declared.types.names.TypeName.{TypeName}
+use Rattle.go_rules.specs.go_model.declared.types.package.ConstTerm.TheVariants as constant
+use Rattle.go_rules.specs.go_model.declared.types.package.Defined.{Defined}
+use Rattle.go_rules.specs.go_model.declared.types.package.Entity.{Entity}
+use Rattle.go_rules.specs.go_model.declared.types.package.Entity.TheVariants as entity
+use Rattle.go_rules.specs.go_model.declared.types.package.MethodOf.{MethodOf}
+use Rattle.go_rules.specs.go_model.declared.types.package.Object.{Object}
+use Rattle.go_rules.specs.go_model.declared.types.package.Package.{Package}
+use Rattle.go_rules.specs.go_model.declared.constants.value.Basic.TheVariants as basic
+use Rattle.go_rules.specs.go_model.declared.types.term.Method.{out-Method, out-roll-Method}
+use Rattle.go_rules.specs.go_model.declared.types.term.Signature.{Signature, roll-Signature, out-roll-Signature}
+use Rattle.go_rules.specs.go_model.declared.types.term.Term.{Term-F, roll-Term}
+use Rattle.go_rules.specs.go_model.types.Terms.{error_method, error_type, is_error}
+use Rattle.go_rules.specs.go_model.types.TypeNames.{names, signature_names}
+use Rattle.go_rules.specs.go_model.types.Underlying.{entry}
+use Rattle.go_rules.specs.go_model.worlds.PackageTypes.{defined_names, object_names, of_entity, package_names}
+use Rattle.go_rules.specs.go_model.worlds.Worlds.{defined_in, name_of, object_in, object_name, path_of, table_of}
 use Rattle.go_rules.specs.Regions.{EntityIn, IsClosed, Region, SeenIn, SignatureIn, TermIn, error_name}
 use Rattle.go_rules.specs.Scopes.{as_import, entity_of, of_universe}
 use Rattle.go_rules.specs.Universe.{predeclared}

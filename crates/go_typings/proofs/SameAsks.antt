@@ -1,9 +1,9 @@
 -- In a closed region and among more entries a declaration that refers to the region alone meets what it is asked.
 use Rattle.std.proofs.Common.{◌≡◌, ℕ, List, [], ◌∷◌, Option, None, Some, length, map, sym, ap, ◌∙◌, subst}
-use Rattle.go_base.specs.Lists.{Each}
-use Rattle.go_model.specs.declared.types.package.Defined.{Defined}
-use Rattle.go_model.specs.declared.types.term.Term.{Term, out-Term}
-use Rattle.go_model.specs.worlds.Worlds.{bars_methods}
+use Rattle.go_references.specs.go_base.Lists.{Each}
+use Rattle.go_rules.specs.go_model.declared.types.package.Defined.{Defined}
+use Rattle.go_rules.specs.go_model.declared.types.term.Term.{Term, out-Term}
+use Rattle.go_rules.specs.go_model.worlds.Worlds.{bars_methods}
 use Rattle.go_rules.specs.Asks.{Meets}
 use Rattle.go_rules.specs.Environments.{Env}
 use Rattle.go_rules.specs.Expressions.{OfType}
@@ -21,10 +21,10 @@ use Rattle.go_rules.proofs.LocalAsks.{meets_local}
 use Rattle.go_rules.proofs.LocalOperand.{type_local}
 use Rattle.go_rules.proofs.LocalParts.{each_left, each_right}
 use Rattle.go_rules.proofs.LocalResults.{each_usable}
-use Rattle.go_syntax.specs.declared.declaration.Func.{Func}
-use Rattle.go_syntax.specs.declared.expression.Expr.{Expr}
-use Rattle.go_syntax.specs.declared.types.ParameterDecl.{ParameterDecl}
-use Rattle.go_syntax.specs.declared.types.«Type».{«Type» as Typ}
+use Rattle.go_references.specs.go_syntax.declared.declaration.Func.{Func}
+use Rattle.go_references.specs.go_syntax.declared.expression.Expr.{Expr}
+use Rattle.go_references.specs.go_syntax.declared.types.ParameterDecl.{ParameterDecl}
+use Rattle.go_references.specs.go_syntax.declared.types.«Type».{«Type» as Typ}
 use Rattle.go_typings.specs.DeclarationAsks.{AreUsable, Asks, FormAsks, IsApart, IsMethod, ValuesFit}
 use Rattle.go_typings.specs.DeclarationNodes.{nodes}
 use Rattle.go_typings.specs.Declarations.{Form, constants, variables, alias, definition, function, method, declarations}

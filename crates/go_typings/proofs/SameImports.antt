@@ -1,12 +1,12 @@
 -- Under settings that are the same in all that a package reaches the same entries are had.
 use Rattle.std.proofs.Common.{◌≡◌, ℕ, zero, suc, ◌<◌, Bool, true, false, List, Some, None, refl, sym, ap, ◌∙◌, subst, inl, inr, arith}
 use Rattle.std.specs.Str.{bytes_eq}
-use Rattle.go_model.specs.declared.types.names.TypeName.{TypeName}
-use Rattle.go_model.specs.declared.types.package.Defined.{Defined}
-use Rattle.go_model.specs.declared.types.package.Entity.{Entity}
-use Rattle.go_model.specs.types.Terms.{error_type, is_error}
-use Rattle.go_model.specs.types.Underlying.{entry}
-use Rattle.go_model.specs.worlds.Worlds.{defined_in, object_in, table_of}
+use Rattle.go_rules.specs.go_model.declared.types.names.TypeName.{TypeName}
+use Rattle.go_rules.specs.go_model.declared.types.package.Defined.{Defined}
+use Rattle.go_rules.specs.go_model.declared.types.package.Entity.{Entity}
+use Rattle.go_rules.specs.go_model.types.Terms.{error_type, is_error}
+use Rattle.go_rules.specs.go_model.types.Underlying.{entry}
+use Rattle.go_rules.specs.go_model.worlds.Worlds.{defined_in, object_in, table_of}
 use Rattle.go_rules.specs.Environments.{Env}
 use Rattle.go_rules.specs.Growth.{Grown, Grows}
 use Rattle.go_rules.specs.Regions.{cut}

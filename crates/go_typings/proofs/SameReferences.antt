@@ -1,13 +1,13 @@
 -- In a closed region and among more entries a declaration that refers to the region alone names the same others, and finds the same methods.
 use Rattle.std.proofs.Common.{◌≡◌, ℕ, Bool, true, false, Option, inr, List, [], ◌∷◌, ◌++◌, map, refl, sym, ap, ◌∙◌, subst}
-use Rattle.go_base.specs.Lists.{Each}
-use Rattle.go_model.specs.declared.types.names.Sel.{Sel}
-use Rattle.go_model.specs.declared.types.names.TypeName.{TypeName}
-use Rattle.go_model.specs.declared.types.term.Signature.{Signature}
-use Rattle.go_model.specs.declared.types.term.Term.{Term, Term-F}
-use Rattle.go_model.specs.types.Selectors.{Ending, is_defined_pointer, method}
-use Rattle.go_model.specs.types.TypeNames.{names}
-use Rattle.go_model.specs.types.Underlying.{under}
+use Rattle.go_references.specs.go_base.Lists.{Each}
+use Rattle.go_rules.specs.go_model.declared.types.names.Sel.{Sel}
+use Rattle.go_rules.specs.go_model.declared.types.names.TypeName.{TypeName}
+use Rattle.go_rules.specs.go_model.declared.types.term.Signature.{Signature}
+use Rattle.go_rules.specs.go_model.declared.types.term.Term.{Term, Term-F}
+use Rattle.go_rules.specs.go_model.types.Selectors.{Ending, is_defined_pointer, method}
+use Rattle.go_rules.specs.go_model.types.TypeNames.{names}
+use Rattle.go_rules.specs.go_model.types.Underlying.{under}
 use Rattle.go_references.specs.declared.references.Reference.{Reference}
 use Rattle.std.specs.Prelude.{if◌then◌else◌}
 use Rattle.go_rules.specs.Environments.{Env, Found, HasMethod, is_exported}
@@ -25,11 +25,11 @@ use Rattle.go_rules.proofs.LocalRelations.{OperandIn, typed_in}
 use Rattle.go_rules.proofs.LocalResults.{imported_local}
 use Rattle.go_rules.proofs.LocalTerms.{close_in, each_has, form_in, passes_left, passes_right}
 use Rattle.go_rules.proofs.LocalTypes.{form_same, found_local, method_local}
-use Rattle.go_syntax.specs.declared.expression.Element.{Element}
-use Rattle.go_syntax.specs.declared.expression.Expr.{Expr, Expr-F, out-Expr}
-use Rattle.go_syntax.specs.declared.expression.Post.{Post}
-use Rattle.go_syntax.specs.declared.name.Name.{Name}
-use Rattle.go_syntax.specs.declared.types.«Type».{«Type» as Typ}
+use Rattle.go_references.specs.go_syntax.declared.expression.Element.{Element}
+use Rattle.go_references.specs.go_syntax.declared.expression.Expr.{Expr, Expr-F, out-Expr}
+use Rattle.go_references.specs.go_syntax.declared.expression.Post.{Post}
+use Rattle.go_references.specs.go_syntax.declared.name.Name.{Name}
+use Rattle.go_references.specs.go_syntax.declared.types.«Type».{«Type» as Typ}
 use Rattle.go_typings.specs.DeclarationNodes.{nodes}
 use Rattle.go_typings.specs.Declarations.{Form}
 use Rattle.go_typings.specs.References.{Finds, FindsMethod, FindsOf, finds_value, finds_expression, HasLiteral, literal, literal_array, literal_key, literal_value, HoldsValues, holds_item, holds_slice_item, holds_map_item, IsOmitted, omitted_itself, omitted_base, IsFieldKey, NamesDeclaration, Selects}

@@ -1,9 +1,9 @@
 -- Under settings that are the same in all that a package reaches it has the same typing and the same refusal.
 use Rattle.std.proofs.Common.{◌≡◌, ℕ, Bool, true, List, refl, sym, ◌∙◌}
 use Rattle.std.specs.Str.{bytes_eq}
-use Rattle.go_base.specs.Lists.{Each}
-use Rattle.go_model.specs.declared.types.package.Package.{Package}
-use Rattle.go_model.specs.worlds.Worlds.{table_of}
+use Rattle.go_references.specs.go_base.Lists.{Each}
+use Rattle.go_rules.specs.go_model.declared.types.package.Package.{Package}
+use Rattle.go_rules.specs.go_model.worlds.Worlds.{table_of}
 use Rattle.go_rules.specs.Environments.{Env}
 use Rattle.go_rules.specs.Regions.{IsClosed, RefersIn, Region, cut}
 use Rattle.go_typings.specs.Assignments.{At}

@@ -3,8 +3,8 @@ use Rattle.std.proofs.Common.{◌≡◌, ℕ, suc, ◌+◌, ◌<◌, Bool, true,
 use Rattle.std.specs.Prelude.{if◌then◌else◌, nat_lt}
 use Rattle.std.specs.Option.{option_or}
 use Rattle.std.proofs.lemmas.Bool.Decides.{nat_tests}
-use Rattle.go_base.specs.Lists.{Has}
-use Rattle.go_base.proofs.Members.{has_split}
+use Rattle.go_references.specs.go_base.Lists.{Has}
+use Rattle.go_references.proofs.go_base_proofs.Members.{has_split}
 use Rattle.go_rules.specs.Asks.{texts}
 use Rattle.go_rules.specs.Expressions.{is_blank}
 use Rattle.go_typings.specs.Assignments.{all_of}

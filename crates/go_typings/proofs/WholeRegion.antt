@@ -1,11 +1,11 @@
 -- All of an environment is a closed region: what holds in a region and among more entries holds among more entries.
 use Rattle.std.proofs.Common.{ℕ, true, List, [], ◌∷◌, refl}
-use Rattle.go_base.specs.Lists.{Each, Passes}
-use Rattle.go_model.specs.declared.types.names.TypeName.{TypeName}
-use Rattle.go_model.specs.declared.types.package.ConstTerm.TheVariants as constant
-use Rattle.go_model.specs.declared.types.package.Entity.{Entity}
-use Rattle.go_model.specs.declared.types.package.Entity.TheVariants as entity
-use Rattle.go_model.specs.types.TypeNames.{names, signature_names}
+use Rattle.go_references.specs.go_base.Lists.{Each, Passes}
+use Rattle.go_rules.specs.go_model.declared.types.names.TypeName.{TypeName}
+use Rattle.go_rules.specs.go_model.declared.types.package.ConstTerm.TheVariants as constant
+use Rattle.go_rules.specs.go_model.declared.types.package.Entity.{Entity}
+use Rattle.go_rules.specs.go_model.declared.types.package.Entity.TheVariants as entity
+use Rattle.go_rules.specs.go_model.types.TypeNames.{names, signature_names}
 use Rattle.go_references.specs.declared.references.Reference.{Reference}
 use Rattle.go_rules.specs.Environments.{Env}
 use Rattle.go_rules.specs.Growth.{Grows}

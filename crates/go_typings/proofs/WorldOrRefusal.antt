@@ -1,9 +1,9 @@
 -- Where packages come after those that they import, the first that isn't typed is refused.
 use Rattle.std.proofs.Common.{ℕ, suc, List, [], ◌∷◌, map, refl, ◌∙◌, subst, ◌⊎◌, inl, inr}
-use Rattle.go_base.specs.Keys.{placed}
-use Rattle.go_base.specs.Lists.{Has, Passes}
-use Rattle.go_model.specs.worlds.Worlds.{Packages, path_of}
-use Rattle.go_model.proofs.MoreWorlds.{key_placed, keys_kept}
+use Rattle.go_references.specs.go_base.Keys.{placed}
+use Rattle.go_references.specs.go_base.Lists.{Has, Passes}
+use Rattle.go_rules.specs.go_model.worlds.Worlds.{Packages, path_of}
+use Rattle.go_rules.proofs.go_model_proofs.MoreWorlds.{key_placed, keys_kept}
 use Rattle.go_typings.specs.PackageWorlds.{Become, become_none, become_more, ComeAfterImports, IsFirstRefused, IsRefusedAt, refused_here, refused_later, IsWorldOf, Outcome, typed, refused, blocked, is_typed, no_packages}
 use Rattle.go_typings.specs.Refusals.{Refusal}
 use Rattle.go_typings.specs.Sources.{PackageSource}

@@ -3,19 +3,19 @@
 -- "Program execution" and "Package initialization".
 use Rattle.std.specs.Prelude.{◌≡◌, ◌≢◌, ℕ, Bool, true, false, ◌&&◌, List, [], ◌∷◌, ◌++◌, length, Option, None, Some, codes}
 use Rattle.std.specs.Str.{bytes_eq}
-use Rattle.go_base.specs.Lists.{Each, Has}
-use Rattle.go_model.specs.declared.types.package.Defined.{Defined}
-use Rattle.go_model.specs.declared.types.term.Field.{Field, out-Field}
-use Rattle.go_model.specs.declared.types.term.Term.{Term, out-Term}
-use Rattle.go_model.specs.types.Terms.{Layer}
-use Rattle.go_model.specs.types.Underlying.{fields_of}
-use Rattle.go_model.specs.worlds.Worlds.{bars_methods}
-use Rattle.go_syntax.specs.declared.declaration.Func.{Func}
-use Rattle.go_syntax.specs.declared.expression.Expr.{Expr}
-use Rattle.go_syntax.specs.declared.name.Name.{Name}
-use Rattle.go_syntax.specs.declared.types.ParameterDecl.{ParameterDecl, out-ParameterDecl}
-use Rattle.go_syntax.specs.declared.types.Signature.{Signature as Sig, out-Signature as out-Sig}
-use Rattle.go_syntax.specs.declared.types.«Type».{«Type» as Typ}
+use Rattle.go_references.specs.go_base.Lists.{Each, Has}
+use Rattle.go_rules.specs.go_model.declared.types.package.Defined.{Defined}
+use Rattle.go_rules.specs.go_model.declared.types.term.Field.{Field, out-Field}
+use Rattle.go_rules.specs.go_model.declared.types.term.Term.{Term, out-Term}
+use Rattle.go_rules.specs.go_model.types.Terms.{Layer}
+use Rattle.go_rules.specs.go_model.types.Underlying.{fields_of}
+use Rattle.go_rules.specs.go_model.worlds.Worlds.{bars_methods}
+use Rattle.go_references.specs.go_syntax.declared.declaration.Func.{Func}
+use Rattle.go_references.specs.go_syntax.declared.expression.Expr.{Expr}
+use Rattle.go_references.specs.go_syntax.declared.name.Name.{Name}
+use Rattle.go_references.specs.go_syntax.declared.types.ParameterDecl.{ParameterDecl, out-ParameterDecl}
+use Rattle.go_references.specs.go_syntax.declared.types.Signature.{Signature as Sig, out-Signature as out-Sig}
+use Rattle.go_references.specs.go_syntax.declared.types.«Type».{«Type» as Typ}
 use Rattle.go_rules.specs.Asks.{AreDistinctNames, Meets, signature_names, texts}
 use Rattle.go_rules.specs.Environments.{Env}
 use Rattle.go_rules.specs.Expressions.{OfType, is_blank}

@@ -4,10 +4,10 @@ use Rattle.std.specs.Prelude.{◌||◌, List, [], ◌∷◌, ◌++◌, map, filt
 use Rattle.go_references.specs.References.{behind, const_references, exprs_refs, func_references, in_lengths, optional_type, outermost, parameter_refs, signature_refs, type_references, var_references}
 use Rattle.go_references.specs.declared.references.Reference.{Reference}
 use Rattle.go_rules.specs.Nodes.{Node, expression, optional, signature, type}
-use Rattle.go_syntax.specs.declared.declaration.Func.{Func}
-use Rattle.go_syntax.specs.declared.declaration.VarSpec.{VarSpec}
-use Rattle.go_syntax.specs.declared.types.ParameterDecl.{ParameterDecl, out-ParameterDecl}
-use Rattle.go_syntax.specs.declared.types.«Type».{«Type» as Typ}
+use Rattle.go_references.specs.go_syntax.declared.declaration.Func.{Func}
+use Rattle.go_references.specs.go_syntax.declared.declaration.VarSpec.{VarSpec}
+use Rattle.go_references.specs.go_syntax.declared.types.ParameterDecl.{ParameterDecl, out-ParameterDecl}
+use Rattle.go_references.specs.go_syntax.declared.types.«Type».{«Type» as Typ}
 use Rattle.go_typings.specs.Declarations.{Form, constants, variables, alias, definition, function, method}
 
 -- the types, values and signatures of a declaration

@@ -3,27 +3,27 @@
 -- "Function declarations", "Method declarations", "Underlying types"; that a client of the profile defines no type by the
 -- name of another package's struct or interface is own, as is that no constant is of a floating-point or complex type.
 use Rattle.std.specs.Prelude.{◌≡◌, ℕ, Bool, true, false, List, [], ◌∷◌, map, length, replicate, Option, None, Some, is_some}
-use Rattle.go_model.specs.constants.Classes.{class_of_basic, is_inexact}
-use Rattle.go_model.specs.declared.constants.value.Basic.{Basic}
-use Rattle.go_model.specs.declared.constants.value.Value.{Value}
-use Rattle.go_model.specs.declared.types.package.ConstTerm.{ConstTerm}
-use Rattle.go_model.specs.declared.types.package.ConstTerm.TheVariants as constant
-use Rattle.go_model.specs.declared.types.package.Entity.{Entity}
-use Rattle.go_model.specs.declared.types.package.Entity.TheVariants as entity
-use Rattle.go_model.specs.declared.types.term.Signature.{Signature}
-use Rattle.go_model.specs.declared.types.term.Term.{Term, Term-F, roll-Term}
-use Rattle.go_model.specs.types.Bounds.{IsWithinBounds}
-use Rattle.go_model.specs.types.Terms.{Layer}
-use Rattle.go_model.specs.types.Underlying.{under}
-use Rattle.go_syntax.specs.declared.declaration.ConstSpec.{ConstSpec}
-use Rattle.go_syntax.specs.declared.declaration.Func.{Func}
-use Rattle.go_syntax.specs.declared.declaration.TypeSpec.{TypeSpec}
-use Rattle.go_syntax.specs.declared.declaration.VarSpec.{VarSpec}
-use Rattle.go_syntax.specs.declared.expression.Expr.{Expr}
-use Rattle.go_syntax.specs.declared.name.QualifiedName.{QualifiedName}
-use Rattle.go_syntax.specs.declared.types.ParameterDecl.{ParameterDecl}
-use Rattle.go_syntax.specs.declared.types.Signature.{out-Signature as out-Sig}
-use Rattle.go_syntax.specs.declared.types.«Type».{«Type» as Typ}
+use Rattle.go_rules.specs.go_model.constants.Classes.{class_of_basic, is_inexact}
+use Rattle.go_rules.specs.go_model.declared.constants.value.Basic.{Basic}
+use Rattle.go_rules.specs.go_model.declared.constants.value.Value.{Value}
+use Rattle.go_rules.specs.go_model.declared.types.package.ConstTerm.{ConstTerm}
+use Rattle.go_rules.specs.go_model.declared.types.package.ConstTerm.TheVariants as constant
+use Rattle.go_rules.specs.go_model.declared.types.package.Entity.{Entity}
+use Rattle.go_rules.specs.go_model.declared.types.package.Entity.TheVariants as entity
+use Rattle.go_rules.specs.go_model.declared.types.term.Signature.{Signature}
+use Rattle.go_rules.specs.go_model.declared.types.term.Term.{Term, Term-F, roll-Term}
+use Rattle.go_rules.specs.go_model.types.Bounds.{IsWithinBounds}
+use Rattle.go_rules.specs.go_model.types.Terms.{Layer}
+use Rattle.go_rules.specs.go_model.types.Underlying.{under}
+use Rattle.go_references.specs.go_syntax.declared.declaration.ConstSpec.{ConstSpec}
+use Rattle.go_references.specs.go_syntax.declared.declaration.Func.{Func}
+use Rattle.go_references.specs.go_syntax.declared.declaration.TypeSpec.{TypeSpec}
+use Rattle.go_references.specs.go_syntax.declared.declaration.VarSpec.{VarSpec}
+use Rattle.go_references.specs.go_syntax.declared.expression.Expr.{Expr}
+use Rattle.go_references.specs.go_syntax.declared.name.QualifiedName.{QualifiedName}
+use Rattle.go_references.specs.go_syntax.declared.types.ParameterDecl.{ParameterDecl}
+use Rattle.go_references.specs.go_syntax.declared.types.Signature.{out-Signature as out-Sig}
+use Rattle.go_references.specs.go_syntax.declared.types.«Type».{«Type» as Typ}
 use Rattle.go_rules.specs.Environments.{Env}
 use Rattle.go_rules.specs.Expressions.{Has, OfSignature, OfType}
 use Rattle.go_rules.specs.Operands.{constant_of, function_of}

@@ -4,18 +4,18 @@
 use Rattle.std.specs.Prelude.{ℕ, suc, Bool, ◌||◌, if◌then◌else◌, List, [], ◌∷◌, ◌++◌, map, Option, None, Some, codes}
 use Rattle.std.specs.Option.{option_or}
 use Rattle.std.specs.Str.{bytes_eq}
-use Rattle.go_base.specs.Gathered.{gather}
+use Rattle.go_references.specs.go_base.Gathered.{gather}
 use Rattle.go_rules.specs.Asks.{texts}
 use Rattle.go_rules.specs.Expressions.{is_blank}
-use Rattle.go_syntax.specs.declared.declaration.ConstSpec.{ConstSpec}
-use Rattle.go_syntax.specs.declared.declaration.Decl.{Decl}
-use Rattle.go_syntax.specs.declared.declaration.Decl.TheVariants as decl
-use Rattle.go_syntax.specs.declared.declaration.Func.{Func}
-use Rattle.go_syntax.specs.declared.declaration.TypeSpec.{TypeSpec}
-use Rattle.go_syntax.specs.declared.declaration.VarSpec.{VarSpec}
-use Rattle.go_syntax.specs.declared.expression.Expr.{Expr}
-use Rattle.go_syntax.specs.declared.name.Name.{Name}
-use Rattle.go_syntax.specs.declared.types.ParameterDecl.{ParameterDecl}
+use Rattle.go_references.specs.go_syntax.declared.declaration.ConstSpec.{ConstSpec}
+use Rattle.go_references.specs.go_syntax.declared.declaration.Decl.{Decl}
+use Rattle.go_references.specs.go_syntax.declared.declaration.Decl.TheVariants as decl
+use Rattle.go_references.specs.go_syntax.declared.declaration.Func.{Func}
+use Rattle.go_references.specs.go_syntax.declared.declaration.TypeSpec.{TypeSpec}
+use Rattle.go_references.specs.go_syntax.declared.declaration.VarSpec.{VarSpec}
+use Rattle.go_references.specs.go_syntax.declared.expression.Expr.{Expr}
+use Rattle.go_references.specs.go_syntax.declared.name.Name.{Name}
+use Rattle.go_references.specs.go_syntax.declared.types.ParameterDecl.{ParameterDecl}
 use Rattle.go_typings.specs.Sources.{SourceFile, PackageSource}
 
 -- what is declared

@@ -2,15 +2,15 @@
 -- Public source: Go specification, "Variable declarations", "Assignment statements", "Index expressions", "Type assertions"
 -- and "Receive operator".
 use Rattle.std.specs.Prelude.{◌≡◌, ◌≤◌, ℕ, List, [], ◌∷◌, ◌++◌, map, length}
-use Rattle.go_base.specs.declared.operator.PrefixOperator.TheVariants as prefix
-use Rattle.go_model.specs.declared.constants.value.Untyped.{Untyped}
-use Rattle.go_model.specs.declared.constants.value.Untyped.TheVariants as untyped
-use Rattle.go_model.specs.declared.constants.value.Value.{Value}
-use Rattle.go_model.specs.declared.types.package.ConstTerm.TheVariants as constant
-use Rattle.go_model.specs.declared.types.term.Term.{Term}
-use Rattle.go_syntax.specs.declared.expression.Expr.{Expr, Expr-F, out-Expr}
-use Rattle.go_syntax.specs.declared.expression.Post.{Post, Post-F, out-Post}
-use Rattle.go_syntax.specs.declared.types.«Type».{«Type» as Typ}
+use Rattle.go_references.specs.go_base.declared.operator.PrefixOperator.TheVariants as prefix
+use Rattle.go_rules.specs.go_model.declared.constants.value.Untyped.{Untyped}
+use Rattle.go_rules.specs.go_model.declared.constants.value.Untyped.TheVariants as untyped
+use Rattle.go_rules.specs.go_model.declared.constants.value.Value.{Value}
+use Rattle.go_rules.specs.go_model.declared.types.package.ConstTerm.TheVariants as constant
+use Rattle.go_rules.specs.go_model.declared.types.term.Term.{Term}
+use Rattle.go_references.specs.go_syntax.declared.expression.Expr.{Expr, Expr-F, out-Expr}
+use Rattle.go_references.specs.go_syntax.declared.expression.Post.{Post, Post-F, out-Post}
+use Rattle.go_references.specs.go_syntax.declared.types.«Type».{«Type» as Typ}
 use Rattle.go_rules.specs.Environments.{Env}
 use Rattle.go_rules.specs.Expressions.{Has, HasEach}
 use Rattle.go_rules.specs.Operands.{IsTyped, constant_of, default_type, loose, plain, tuple, value_of}

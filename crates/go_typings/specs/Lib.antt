@@ -1,3 +1,8 @@
+pub use Rattle.go_references.specs.go_base as go_base
+pub use Rattle.go_rules.specs.go_model as go_model
+pub use Rattle.go_references.specs as go_references
+pub use Rattle.go_rules.specs as go_rules
+pub use Rattle.go_references.specs.go_syntax as go_syntax
 pub mod Sources
 pub mod Declarations
 pub mod Receivers

@@ -4,18 +4,18 @@
 use Rattle.std.specs.Prelude.{ℕ, if◌then◌else◌, List, [], ◌∷◌, Option, None, Some, slice_get}
 use Rattle.std.specs.Option.{option_or}
 use Rattle.std.specs.Str.{bytes_eq}
-use Rattle.go_base.specs.Gathered.{gather}
-use Rattle.go_base.specs.Keys.{first_with}
-use Rattle.go_model.specs.declared.types.names.Sel.{Sel}
-use Rattle.go_model.specs.declared.types.names.TypeName.{TypeName}
-use Rattle.go_model.specs.declared.types.package.Defined.{Defined}
-use Rattle.go_model.specs.declared.types.package.Entity.{Entity}
-use Rattle.go_model.specs.declared.types.package.Entity.TheVariants as entity
-use Rattle.go_model.specs.declared.types.package.MethodOf.{MethodOf}
-use Rattle.go_model.specs.declared.types.term.Signature.{Signature}
-use Rattle.go_model.specs.declared.types.term.Term.{Term, Term-F, roll-Term}
-use Rattle.go_model.specs.types.Tables.{Table}
-use Rattle.go_model.specs.worlds.Worlds.{object_in, path_of, table_of}
+use Rattle.go_references.specs.go_base.Gathered.{gather}
+use Rattle.go_references.specs.go_base.Keys.{first_with}
+use Rattle.go_rules.specs.go_model.declared.types.names.Sel.{Sel}
+use Rattle.go_rules.specs.go_model.declared.types.names.TypeName.{TypeName}
+use Rattle.go_rules.specs.go_model.declared.types.package.Defined.{Defined}
+use Rattle.go_rules.specs.go_model.declared.types.package.Entity.{Entity}
+use Rattle.go_rules.specs.go_model.declared.types.package.Entity.TheVariants as entity
+use Rattle.go_rules.specs.go_model.declared.types.package.MethodOf.{MethodOf}
+use Rattle.go_rules.specs.go_model.declared.types.term.Signature.{Signature}
+use Rattle.go_rules.specs.go_model.declared.types.term.Term.{Term, Term-F, roll-Term}
+use Rattle.go_rules.specs.go_model.types.Tables.{Table}
+use Rattle.go_rules.specs.go_model.worlds.Worlds.{object_in, path_of, table_of}
 use Rattle.go_rules.specs.Environments.{Env}
 use Rattle.go_rules.specs.Scopes.{as_import, entity_of, of_universe}
 use Rattle.go_rules.specs.Universe.{predeclared}

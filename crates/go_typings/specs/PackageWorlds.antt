@@ -4,9 +4,9 @@
 use Rattle.std.specs.Prelude.{◌≡◌, ℕ, suc, Bool, true, false, not, nat_eq, ◌&&◌, List, [], ◌∷◌, map, codes}
 use Rattle.std.specs.List.{list_all, slice_split}
 use Rattle.std.specs.Str.{bytes_eq}
-use Rattle.go_base.specs.Lists.{Has, Passes}
-use Rattle.go_model.specs.declared.types.package.Package.{Package}
-use Rattle.go_model.specs.worlds.Worlds.{Packages, path_of, with_package}
+use Rattle.go_references.specs.go_base.Lists.{Has, Passes}
+use Rattle.go_rules.specs.go_model.declared.types.package.Package.{Package}
+use Rattle.go_rules.specs.go_model.worlds.Worlds.{Packages, path_of, with_package}
 use Rattle.go_typings.specs.Refusals.{IsRefused, Refusal}
 use Rattle.go_typings.specs.Sources.{Import, PackageSource, Setting, imports_of}
 use Rattle.go_typings.specs.TypedPackages.{IsTypedAs}

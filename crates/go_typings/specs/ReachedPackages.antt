@@ -1,13 +1,13 @@
 -- The packages that a package reaches: through its imports that are found, and through the types of packages that it reaches.
 -- Own: that a typing depends on these alone.
 use Rattle.std.specs.Prelude.{◌≡◌, ℕ, Bool, true, ◌||◌, List, Some}
-use Rattle.go_base.specs.Keys.{first_with}
-use Rattle.go_base.specs.Lists.{Has, Passes}
-use Rattle.go_model.specs.declared.types.names.TypeName.{TypeName}
-use Rattle.go_model.specs.declared.types.package.Package.{Package}
-use Rattle.go_model.specs.types.Terms.{is_error}
-use Rattle.go_model.specs.worlds.PackageTypes.{package_names}
-use Rattle.go_model.specs.worlds.Worlds.{Packages, path_of}
+use Rattle.go_references.specs.go_base.Keys.{first_with}
+use Rattle.go_references.specs.go_base.Lists.{Has, Passes}
+use Rattle.go_rules.specs.go_model.declared.types.names.TypeName.{TypeName}
+use Rattle.go_rules.specs.go_model.declared.types.package.Package.{Package}
+use Rattle.go_rules.specs.go_model.types.Terms.{is_error}
+use Rattle.go_rules.specs.go_model.worlds.PackageTypes.{package_names}
+use Rattle.go_rules.specs.go_model.worlds.Worlds.{Packages, path_of}
 use Rattle.go_typings.specs.PackageEnvironments.{had_path}
 use Rattle.go_typings.specs.Sources.{Import, PackageSource, Setting, imports_of}
 

@@ -2,13 +2,13 @@
 -- Public source: Go specification, "Method declarations" and "Alias declarations".
 use Rattle.std.specs.Prelude.{ℕ, zero, suc, Bool, true, false, not, if◌then◌else◌, List, [], ◌∷◌, ◌++◌, filter, length, Option, None, Some}
 use Rattle.std.specs.Str.{bytes_eq}
-use Rattle.go_model.specs.declared.types.names.Sel.{Sel}
+use Rattle.go_rules.specs.go_model.declared.types.names.Sel.{Sel}
 use Rattle.go_rules.specs.Environments.{is_exported}
 use Rattle.go_rules.specs.Expressions.{is_blank}
-use Rattle.go_syntax.specs.declared.name.Name.{Name}
-use Rattle.go_syntax.specs.declared.name.QualifiedName.{QualifiedName}
-use Rattle.go_syntax.specs.declared.types.ParameterDecl.{ParameterDecl, out-ParameterDecl}
-use Rattle.go_syntax.specs.declared.types.«Type».{«Type» as Typ, «Type-F» as Typ-F, «fold-Type» as fold-Type}
+use Rattle.go_references.specs.go_syntax.declared.name.Name.{Name}
+use Rattle.go_references.specs.go_syntax.declared.name.QualifiedName.{QualifiedName}
+use Rattle.go_references.specs.go_syntax.declared.types.ParameterDecl.{ParameterDecl, out-ParameterDecl}
+use Rattle.go_references.specs.go_syntax.declared.types.«Type».{«Type» as Typ, «Type-F» as Typ-F, «fold-Type» as fold-Type}
 use Rattle.go_typings.specs.Declarations.{Form, alias, definition, method, Declaration, Declared, declared, declarations}
 use Rattle.go_typings.specs.Sources.{PackageSource}
 

@@ -2,9 +2,9 @@
 -- Public source: Go specification, "Declarations and scope", "Uniqueness of identifiers", "Import declarations",
 -- "Method declarations" and "Blank identifier". That a used import alone counts is own.
 use Rattle.std.specs.Prelude.{◌≡◌, ◌≢◌, ◌<◌, ℕ, suc, false, if◌then◌else◌, List, [], ◌∷◌, ◌++◌, Option, None, Some, slice_get}
-use Rattle.go_base.specs.Gathered.{gather}
-use Rattle.go_syntax.specs.declared.name.Name.{Name}
-use Rattle.go_syntax.specs.declared.name.Place.{Place}
+use Rattle.go_references.specs.go_base.Gathered.{gather}
+use Rattle.go_references.specs.go_syntax.declared.name.Name.{Name}
+use Rattle.go_references.specs.go_syntax.declared.name.Place.{Place}
 use Rattle.go_rules.specs.Expressions.{is_blank}
 use Rattle.go_typings.specs.Declarations.{Form, method, Declaration, file_declarations, is_init, names_of}
 use Rattle.go_typings.specs.Receivers.{receiver_name}

@@ -2,21 +2,21 @@
 -- Public source: Go specification, "Declarations and scope", "Composite literals", "Selectors", "Method expressions",
 -- "Array types" and "Struct types". That a type refers to its methods, and what counts, is own.
 use Rattle.std.specs.Prelude.{◌≡◌, ◌<◌, ℕ, Bool, true, false, List, ◌∷◌, ◌++◌, Some}
-use Rattle.go_base.specs.Lists.{Has}
-use Rattle.go_model.specs.declared.types.names.Sel.{Sel}
-use Rattle.go_model.specs.declared.types.names.TypeName.{TypeName}
-use Rattle.go_model.specs.declared.types.term.Field.{Field}
-use Rattle.go_model.specs.declared.types.term.Signature.{Signature}
-use Rattle.go_model.specs.declared.types.term.Term.{Term, Term-F}
-use Rattle.go_model.specs.types.Selectors.{is_defined_pointer, method as found_method}
-use Rattle.go_model.specs.types.Underlying.{under}
+use Rattle.go_references.specs.go_base.Lists.{Has}
+use Rattle.go_rules.specs.go_model.declared.types.names.Sel.{Sel}
+use Rattle.go_rules.specs.go_model.declared.types.names.TypeName.{TypeName}
+use Rattle.go_rules.specs.go_model.declared.types.term.Field.{Field}
+use Rattle.go_rules.specs.go_model.declared.types.term.Signature.{Signature}
+use Rattle.go_rules.specs.go_model.declared.types.term.Term.{Term, Term-F}
+use Rattle.go_rules.specs.go_model.types.Selectors.{is_defined_pointer, method as found_method}
+use Rattle.go_rules.specs.go_model.types.Underlying.{under}
 use Rattle.go_references.specs.declared.references.Reference.{Reference}
-use Rattle.go_syntax.specs.declared.expression.Element.{Element, out-Element}
-use Rattle.go_syntax.specs.declared.expression.ElementValue.{ElementValue, ElementValue-F, out-ElementValue}
-use Rattle.go_syntax.specs.declared.expression.Expr.{Expr, Expr-F, out-Expr}
-use Rattle.go_syntax.specs.declared.expression.Post.{Post, Post-F, out-Post}
-use Rattle.go_syntax.specs.declared.name.Name.{Name}
-use Rattle.go_syntax.specs.declared.types.«Type».{«Type» as Typ}
+use Rattle.go_references.specs.go_syntax.declared.expression.Element.{Element, out-Element}
+use Rattle.go_references.specs.go_syntax.declared.expression.ElementValue.{ElementValue, ElementValue-F, out-ElementValue}
+use Rattle.go_references.specs.go_syntax.declared.expression.Expr.{Expr, Expr-F, out-Expr}
+use Rattle.go_references.specs.go_syntax.declared.expression.Post.{Post, Post-F, out-Post}
+use Rattle.go_references.specs.go_syntax.declared.name.Name.{Name}
+use Rattle.go_references.specs.go_syntax.declared.types.«Type».{«Type» as Typ}
 use Rattle.go_rules.specs.Environments.{Env, Found, selector_of}
 use Rattle.go_rules.specs.Expressions.{HasFieldKey, HasForm, OfType, array_of, chain}
 use Rattle.go_rules.specs.Nodes.{Node, Stands, expression}

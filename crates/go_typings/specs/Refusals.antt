@@ -1,8 +1,8 @@
 -- Why a package has no typing, and where: the first cause in an order of kinds, and its first place.
 -- Public source: Go specification, "Declarations and scope" and "Import declarations". The order is own.
 use Rattle.std.specs.Prelude.{◌≡◌, ℕ, suc, true, false, List, [], ◌∷◌, ◌++◌, map}
-use Rattle.go_syntax.specs.declared.name.Name.{Name}
-use Rattle.go_syntax.specs.declared.name.Place.{Place}
+use Rattle.go_references.specs.go_syntax.declared.name.Name.{Name}
+use Rattle.go_references.specs.go_syntax.declared.name.Place.{Place}
 use Rattle.go_typings.specs.Assignments.{At}
 use Rattle.go_typings.specs.Declarations.{Form, method, Declaration, declarations, names_of}
 use Rattle.go_typings.specs.Redeclarations.{IsRedeclared}

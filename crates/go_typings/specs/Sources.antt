@@ -3,9 +3,9 @@
 -- Public source: Go specification, "Source file organization" and "Import declarations". That an import need not be found
 -- is own.
 use Rattle.std.specs.Prelude.{◌≡◌, ℕ, Bool, true, List, [], Option, None, Some, slice_get}
-use Rattle.go_base.specs.Lists.{Has}
-use Rattle.go_model.specs.worlds.Worlds.{Packages}
-use Rattle.go_syntax.specs.declared.declaration.Decl.{Decl}
+use Rattle.go_references.specs.go_base.Lists.{Has}
+use Rattle.go_rules.specs.go_model.worlds.Worlds.{Packages}
+use Rattle.go_references.specs.go_syntax.declared.declaration.Decl.{Decl}
 
 -- an import that a file uses: its name in the file, the path, whether a package is found there, typed or not, and the byte offset of
 -- the path's first quote

@@ -2,20 +2,20 @@
 -- Public source: Go specification, "Packages", "Exported identifiers" and "Method sets".
 use Rattle.std.specs.Prelude.{◌≡◌, ◌↔◌, ℕ, List, map, Option, None, Some}
 use Rattle.std.specs.List.Sorted.{IsStrictlySortedBy}
-use Rattle.go_base.specs.Keys.{first_with}
-use Rattle.go_base.specs.Lists.{Ascending, Has}
-use Rattle.go_model.specs.declared.types.package.Defined.{Defined}
-use Rattle.go_model.specs.declared.types.package.MethodOf.{MethodOf}
-use Rattle.go_model.specs.declared.types.package.Package.{Package}
-use Rattle.go_model.specs.types.MethodSets.{sel_order}
-use Rattle.go_model.specs.worlds.Worlds.{declared_sel, name_of, object_name}
+use Rattle.go_references.specs.go_base.Keys.{first_with}
+use Rattle.go_references.specs.go_base.Lists.{Ascending, Has}
+use Rattle.go_rules.specs.go_model.declared.types.package.Defined.{Defined}
+use Rattle.go_rules.specs.go_model.declared.types.package.MethodOf.{MethodOf}
+use Rattle.go_rules.specs.go_model.declared.types.package.Package.{Package}
+use Rattle.go_rules.specs.go_model.types.MethodSets.{sel_order}
+use Rattle.go_rules.specs.go_model.worlds.Worlds.{declared_sel, name_of, object_name}
 use Rattle.go_rules.specs.Scopes.{entity_of}
 use Rattle.go_typings.specs.PackageEnvironments.{Entries, own_defined, own_entity}
 use Rattle.go_typings.specs.Redeclarations.{IsRedeclared}
 use Rattle.go_typings.specs.Refusals.{IsMissing}
 use Rattle.go_typings.specs.Sources.{PackageSource, Setting}
 use Rattle.go_typings.specs.Typings.{IsTyping}
-use Rattle.go_syntax.specs.declared.name.Place.{Place}
+use Rattle.go_references.specs.go_syntax.declared.name.Place.{Place}
 
 -- the one defined type is the other with its methods in order
 pub record IsOrdered (d had : Defined) : Type 0 where

@@ -1,8 +1,8 @@
 //! Laws of the definitions.
 ghost use Rattle.std.specs.Prelude.{◌≡◌, ◌<◌, ◌||◌, ◌⊎◌, ℕ, Bool, true, List, [], None, Some, length};
-ghost use Rattle.go_base.specs.Keys.{first_with};
-ghost use Rattle.go_model.specs.declared.types.package.Package.{Package};
-ghost use Rattle.go_model.specs.worlds.Worlds.{Packages, path_of};
+ghost use Rattle.go_references.specs.go_base.Keys.{first_with};
+ghost use Rattle.go_rules.specs.go_model.declared.types.package.Package.{Package};
+ghost use Rattle.go_rules.specs.go_model.worlds.Worlds.{Packages, path_of};
 ghost use Rattle.go_typings.specs.Assignments.{At, Below, joined};
 ghost use Rattle.go_typings.specs.ConstantKinds.{EntriesKept, ImportsKept, ReachedKept};
 ghost use Rattle.go_typings.specs.Declarations.{declarations};

@@ -8,7 +8,7 @@ use Rattle.go_model.proofs.MoreWorlds.{first_placed}
 use Rattle.go_model.specs.declared.types.package.Package.{Package}
 use Rattle.go_model.specs.types.Terms.{client_path}
 use Rattle.go_model.specs.worlds.Worlds.{IsWorld, Packages, path_of}
-use Rattle.go_typed_packages.proofs.JoinedWorlds.{offered_joins}
+use Rattle.go_std_worlds.proofs.go_typed_packages_proofs.JoinedWorlds.{offered_joins}
 use Rattle.go_exposed.specs.OfferedWorlds.{Become, Becomes, become_more, become_none}
 use Rattle.go_typings.specs.PackageWorlds.{Outcome, blocked, is_public, no_packages, over, refused, typed, with_outcome}
 use Rattle.go_typings.specs.Sources.{PackageSource}

@@ -11,7 +11,7 @@ use Rattle.go_model.specs.types.Terms.{is_error}
 use Rattle.go_model.specs.worlds.PackageTypes.{package_names}
 use Rattle.go_model.specs.worlds.Worlds.{Packages, path_of, with_package}
 use Rattle.go_rules.proofs.OneKind.{no_truth}
-use Rattle.go_typed_packages.proofs.Lists.{own_placed}
+use Rattle.go_std_worlds.proofs.go_typed_packages_proofs.Lists.{own_placed}
 use Rattle.go_typings.proofs.Cells.{either, maybe, none_some}
 use Rattle.go_typings.proofs.HeldImports.{path_found, path_missing}
 use Rattle.go_typings.proofs.ReachedRegion.{or_second, region, weaker}
@@ -22,7 +22,7 @@ use Rattle.go_exposed.specs.OfferedPackages.{IsOfferedAs}
 use Rattle.go_exposed.specs.OfferedWorlds.{Become, become_none, become_more}
 use Rattle.go_exposed.proofs.SameImports.{offered_same}
 use Rattle.go_std_worlds.proofs.MoreLists.{found_after, found_still, has_key, key_finds, mapped}
-use Rattle.go_taken_packages.proofs.TypedNames.{typed_names}
+use Rattle.go_std_worlds.proofs.go_taken_packages_proofs.TypedNames.{typed_names}
 use Rattle.go_std_worlds.specs.StdSources.{HaveOwnPaths, HavePaths, source_path}
 
 -- ---- the packages of a world

@@ -3,7 +3,7 @@ use Rattle.std.proofs.Common.{◌≡◌, ◌⊎◌, ℕ, ◌<◌, Bool, Option, 
 use Rattle.std.proofs.lemmas.List.{map_push, nil_from_length}
 use Rattle.go_base.specs.Lists.{Has}
 use Rattle.go_base.specs.Growing.{Grows}
-use Rattle.go_syntax.specs.declared.declaration.File.{File}
+use Rattle.go_imports.specs.go_syntax.declared.declaration.File.{File}
 use Rattle.go_imports.specs.Gives.{Gives, none, next, optional}
 use Rattle.go_imports.specs.UndeclaredUses.{undeclared}
 use Rattle.go_imports.specs.UsedImports.{IsDeclaredIn, IsQualifierIn}

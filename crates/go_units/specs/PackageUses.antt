@@ -4,9 +4,9 @@
 use Rattle.std.specs.Prelude.{◌≡◌, ◌⊎◌, ℕ, Bool, Option, Some, None, List, [], ◌∷◌}
 use Rattle.go_base.specs.Lists.{Has}
 use Rattle.go_base.specs.Growing.{Grows}
-use Rattle.go_syntax.specs.declared.declaration.File.{File}
-use Rattle.go_syntax.specs.declared.declaration.ImportSpec.{ImportSpec}
-use Rattle.go_syntax.specs.declared.name.Name.{Name}
+use Rattle.go_imports.specs.go_syntax.declared.declaration.File.{File}
+use Rattle.go_imports.specs.go_syntax.declared.declaration.ImportSpec.{ImportSpec}
+use Rattle.go_imports.specs.go_syntax.declared.name.Name.{Name}
 use Rattle.go_imports.specs.Gives.{Gives}
 use Rattle.go_imports.specs.InternalUses.{IsFirstInternalImport}
 use Rattle.go_imports.specs.PackageFiles.{HasC}

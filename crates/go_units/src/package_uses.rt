@@ -9,11 +9,11 @@ use crate::undeclared_uses::undeclared_uses;
 use go_base::list::List;
 use go_base::memory::NoMemory;
 use go_base::text::Text;
+use go_imports::go_syntax::declaration::{File, ImportSpec};
+use go_imports::go_syntax::name::Name;
 use go_imports::outline::Outline;
 use go_imports::package_files::{SourceFile, imports_c};
 use go_imports::used_imports::{Import, NamedImport, qualifiers, used_imports};
-use go_syntax::declaration::{File, ImportSpec};
-use go_syntax::name::Name;
 use std::alloc::Global;
 use std::collections::BTreeSet;
 

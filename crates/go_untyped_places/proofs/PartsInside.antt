@@ -11,7 +11,7 @@ use Rattle.go_statement_rules.specs.Statements.{KindLayer}
 use Rattle.go_syntax.specs.declared.statement.LiteralBlock.{LiteralBlock}
 use Rattle.go_syntax.specs.declared.statement.Stmt.{Stmt}
 use Rattle.go_syntax.specs.declared.statement.StmtKind.{StmtKind-F}
-use Rattle.go_typings.specs.Declarations.{Form}
+use Rattle.go_statement_rules.specs.go_typings.Declarations.{Form}
 use Rattle.go_untyped_places.specs.LiteralRuns.{IsLiteralRun}
 use Rattle.go_untyped_places.specs.Parts.{InHeader, InSpecs, IsLone, IsPart}
 

@@ -2,7 +2,7 @@
 -- Public source: Go specification, "Statements", "Blocks" and "Function literals"; that what stands behind a header waits for it is own.
 use Rattle.std.specs.Prelude.{◌≡◌, ◌⊎◌, ◌≤◌, List, [], ◌∷◌, ◌++◌, map, take, length, Option, Some}
 use Rattle.go_base.specs.Lists.{Has as In}
-use Rattle.go_model.specs.declared.types.term.Term.{Term}
+use Rattle.go_rules.specs.go_model.declared.types.term.Term.{Term}
 use Rattle.go_rules.specs.Environments.{Env}
 use Rattle.go_rules.specs.Nodes.{Node, expression}
 use Rattle.go_rules.specs.Operands.{plain}
@@ -21,8 +21,8 @@ use Rattle.go_syntax.specs.declared.statement.SelectCase.{SelectCase, out-Select
 use Rattle.go_syntax.specs.declared.statement.Stmt.{Stmt}
 use Rattle.go_syntax.specs.declared.statement.StmtKind.{StmtKind-F}
 use Rattle.go_syntax.specs.declared.statement.TypeCase.{TypeCase, out-TypeCase}
-use Rattle.go_typings.specs.DeclarationNodes.{nodes}
-use Rattle.go_typings.specs.Declarations.{Form, constants_from, no_spec, variables}
+use Rattle.go_statement_rules.specs.go_typings.DeclarationNodes.{nodes}
+use Rattle.go_statement_rules.specs.go_typings.Declarations.{Form, constants_from, no_spec, variables}
 use Rattle.go_untyped_places.specs.LiteralRuns.{IsLiteralRun}
 
 module _ (E : Env) (blocks : List LiteralBlock) (r : Enclosing) where

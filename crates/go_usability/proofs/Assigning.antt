@@ -13,7 +13,7 @@ use Rattle.go_model.specs.types.Terms.{Layer}
 use Rattle.go_model.specs.types.Underlying.{entry, under, under_entry, under_layer}
 use Rattle.go_rules.specs.Environments.{Env, Entered, EnteredLayer}
 use Rattle.go_rules.specs.Usability.{Implements, Assignable, assign_identical, assign_underlying, assign_interface, assign_channel}
-use Rattle.go_selectors.specs.Answers.{Decides}
+use Rattle.go_types.specs.go_selectors.Answers.{Decides}
 use Rattle.go_usability.proofs.Finds.{in_set}
 use Rattle.go_usability.specs.inner.Alternatives.{is_interface, SameUnnamed, AssignsBeneath}
 

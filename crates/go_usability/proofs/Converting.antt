@@ -12,7 +12,7 @@ use Rattle.go_model.specs.types.Terms.{Layer, pointer_to}
 use Rattle.go_model.specs.types.Underlying.{under, under_layer}
 use Rattle.go_rules.specs.Environments.{Env, Entered, EnteredLayer}
 use Rattle.go_rules.specs.Usability.{Assignable, assign_identical, assign_underlying, assign_channel, BasesEntered, Convertible, convert_assignable, convert_underlying, convert_pointer, convert_basic}
-use Rattle.go_selectors.specs.Answers.{Decides}
+use Rattle.go_types.specs.go_selectors.Answers.{Decides}
 use Rattle.go_usability.proofs.Assigning.{is_name, an_interface, form_enters, assigns_table}
 use Rattle.go_usability.proofs.Untagged.{out_pointer, pointers_same, pointers_untagged, same_or_unnamed, under_pointer, unnamed_converts}
 use Rattle.go_usability.specs.inner.Alternatives.{is_interface, are_pointers, ConvertsBeneath}

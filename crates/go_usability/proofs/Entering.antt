@@ -11,8 +11,8 @@ use Rattle.go_model.specs.types.Terms.{Layer}
 use Rattle.go_model.specs.types.Underlying.{under}
 use Rattle.go_rules.specs.Environments.{Env, Entered}
 use Rattle.go_rules.specs.Usability.{LeadsTo, leads_here, leads_array, leads_struct, Compares}
-use Rattle.go_selectors.proofs.Lists.{has-back, has-split, item_has}
-use Rattle.go_selectors.specs.Answers.{Decides}
+use Rattle.go_types.proofs.go_selectors_proofs.Lists.{has-back, has-split, item_has}
+use Rattle.go_types.specs.go_selectors.Answers.{Decides}
 use Rattle.go_types.proofs.Walks.{pushed_as, pushed_has}
 use Rattle.go_types.specs.Parts.{Known, Pushes, PushesFields}
 use Rattle.go_usability.specs.inner.Parts.{OfParts, PushesParts, EnteredBelow}

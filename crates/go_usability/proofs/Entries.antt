@@ -10,7 +10,7 @@ use Rattle.go_model.specs.types.Tables.{entry_of}
 use Rattle.go_model.specs.types.Terms.{is_error, error_type}
 use Rattle.go_model.specs.types.Underlying.{entry}
 use Rattle.go_rules.specs.Environments.{Env, EnteredLayer, ToldLayer, is_among}
-use Rattle.go_selectors.specs.Answers.{Decides}
+use Rattle.go_types.specs.go_selectors.Answers.{Decides}
 
 module _ (E : Env) (n : TypeName) where
   -- `error` has its entry

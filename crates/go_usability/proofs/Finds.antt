@@ -18,8 +18,8 @@ use Rattle.go_model.specs.types.Terms.{Layer}
 use Rattle.go_model.specs.types.Underlying.{under}
 use Rattle.go_rules.specs.Environments.{Env, Found, HasMethod, ToldTo}
 use Rattle.go_rules.specs.Usability.{Implements}
-use Rattle.go_selectors.proofs.UniqueFind.{compared, one_some, no_many, same_ending, signature_once}
-use Rattle.go_selectors.specs.Answers.{Decides}
+use Rattle.go_types.proofs.go_selectors_proofs.UniqueFind.{compared, one_some, no_many, same_ending, signature_once}
+use Rattle.go_types.specs.go_selectors.Answers.{Decides}
 use Rattle.go_usability.specs.Answers.{FindsIn, Gives}
 use Rattle.go_usability.specs.inner.Methods.{HoldsEach, called_in}
 use Rattle.go_usability.specs.inner.Levels.{ToldFrom, depth_of}

@@ -8,7 +8,7 @@ use Rattle.go_model.specs.types.Selectors.{Spot, base_of, is_pointer, step, step
 use Rattle.go_model.specs.types.Tables.{Table}
 use Rattle.go_model.specs.types.Underlying.{under, fields_of}
 use Rattle.go_rules.specs.Environments.{Env, Told, ToldTo}
-use Rattle.go_selectors.proofs.Lists.{gather_of, gather_has}
+use Rattle.go_types.proofs.go_selectors_proofs.Lists.{gather_of, gather_has}
 use Rattle.go_usability.specs.inner.Levels.{embedded, further, level, ToldDown}
 
 -- a step of a spot is one of its type

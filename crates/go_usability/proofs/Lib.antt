@@ -1,3 +1,4 @@
+pub use Rattle.go_types.proofs.go_selectors_proofs as go_selectors_proofs
 pub mod Assigning
 pub mod Converting
 pub mod Entering

@@ -22,7 +22,7 @@ use Rattle.go_rules.specs.declared.operand.Mode.{Mode}
 use Rattle.go_rules.specs.declared.operand.Operand.{Operand}
 use Rattle.go_rules.specs.declared.operand.Shape.TheVariants as shape
 use Rattle.go_rules.specs.declared.operand.Shape.{Shape}
-use Rattle.go_selectors.specs.Answers.{Decides}
+use Rattle.go_types.specs.go_selectors.Answers.{Decides}
 use Rattle.go_usability.specs.inner.Stands.{Stand, of_type, of_constant, truth, no_pointer, nothing, value_stand, fixed_stand, loose_stand, empty_stand, stand_at, stand_of, basic_in, ConstantFits, truth_fits, Uses}
 
 -- ---- how operands stand

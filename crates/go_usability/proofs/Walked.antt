@@ -12,8 +12,8 @@ use Rattle.go_model.specs.types.Tables.{Table}
 use Rattle.go_model.specs.types.Terms.{Layer}
 use Rattle.go_model.specs.types.Underlying.{under, fields_of}
 use Rattle.go_rules.specs.Environments.{Env, Begins, Told}
-use Rattle.go_selectors.proofs.Lists.{gather-append, gather_of, gather_has, has-back, has-left, has-right, has-split, item_has, taken_next}
-use Rattle.go_selectors.specs.Answers.{Decides}
+use Rattle.go_types.proofs.go_selectors_proofs.Lists.{gather-append, gather_of, gather_has, has-back, has-left, has-right, has-split, item_has, taken_next}
+use Rattle.go_types.specs.go_selectors.Answers.{Decides}
 use Rattle.go_types.proofs.Walks.{pushed_none, pushed_more, pushed_as, pushed_has}
 use Rattle.go_types.specs.Parts.{Known, Pushed, Pushes}
 use Rattle.go_usability.proofs.Levels.{down_to, to_down}

@@ -8,9 +8,9 @@ use Rattle.go_model.specs.declared.types.term.Term.{Term}
 use Rattle.go_model.specs.types.MethodSets.{InSet, Reaches}
 use Rattle.go_model.specs.types.Selectors.{start}
 use Rattle.go_rules.specs.Environments.{Env, Begins, HasMethod}
-use Rattle.go_selectors.proofs.Lists.{gather_of, has-back}
-use Rattle.go_selectors.specs.Answers.{Decides}
-use Rattle.go_selectors.specs.Candidates.{AreCandidates, Candidates, HoldMethodSet}
+use Rattle.go_types.proofs.go_selectors_proofs.Lists.{gather_of, has-back}
+use Rattle.go_types.specs.go_selectors.Answers.{Decides}
+use Rattle.go_types.specs.go_selectors.Candidates.{AreCandidates, Candidates, HoldMethodSet}
 use Rattle.go_types.proofs.Walks.{pushed_has}
 use Rattle.go_types.specs.Parts.{Known, Pushes}
 use Rattle.go_usability.proofs.Entering.{take_append, take_all}

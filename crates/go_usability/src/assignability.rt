@@ -5,7 +5,7 @@ ghost use Rattle.go_model.specs.types.Imports.{is_named};
 ghost use Rattle.go_model.specs.types.Underlying.{under};
 ghost use Rattle.go_rules.specs.Scopes.{env_of};
 ghost use Rattle.go_rules.specs.Usability.{Assignable};
-ghost use Rattle.go_selectors.specs.Answers.{Decides};
+ghost use Rattle.go_types.specs.go_selectors.Answers.{Decides};
 ghost use Rattle.go_usability.specs.inner.Alternatives.{is_interface, SameUnnamed, AssignsBeneath};
 
 use crate::context::Context;
@@ -13,7 +13,7 @@ use crate::implementing::implements;
 use crate::table;
 use go_base::memory::NoMemory;
 use go_model::types::term::Term;
-use go_selectors::identity::identical;
+use go_types::go_selectors::identity::identical;
 use std::alloc::Global;
 
 fn is_named(term: &Term) -> bool

@@ -2,7 +2,7 @@
 ghost use Rattle.std.specs.Prelude.{IfOk, OnOk};
 ghost use Rattle.go_rules.specs.Scopes.{env_of};
 ghost use Rattle.go_rules.specs.Usability.{Compares};
-ghost use Rattle.go_selectors.specs.Answers.{Decides};
+ghost use Rattle.go_types.specs.go_selectors.Answers.{Decides};
 ghost use Rattle.go_usability.specs.inner.Parts.{EnteredBelow, PushesParts};
 
 use crate::context::Context;

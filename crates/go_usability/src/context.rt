@@ -5,14 +5,14 @@ ghost use Rattle.go_model.specs.types.Terms.{is_error, error_type};
 ghost use Rattle.go_model.specs.types.Underlying.{under};
 ghost use Rattle.go_rules.specs.Environments.{Begins, Entered, EnteredLayer, Told, ToldLayer};
 ghost use Rattle.go_rules.specs.Scopes.{env_of};
-ghost use Rattle.go_selectors.specs.Answers.{Decides};
+ghost use Rattle.go_types.specs.go_selectors.Answers.{Decides};
 
 use go_model::types::names::{Sel, TypeName};
 use go_model::types::package::Defined;
 use go_model::types::table::TypeTable;
 use go_model::types::term::Term;
 use go_rules::env::Env;
-use go_selectors::lookup::Lookup;
+use go_types::go_selectors::lookup::Lookup;
 
 /// An environment, and its table with the predeclared `error` before it.
 #[derive(Drop)]

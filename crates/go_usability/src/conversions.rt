@@ -4,7 +4,7 @@ ghost use Rattle.go_model.specs.declared.types.term.Term.{out-Term};
 ghost use Rattle.go_model.specs.types.Conversions.{Convertible as TableConverts};
 ghost use Rattle.go_rules.specs.Scopes.{env_of};
 ghost use Rattle.go_rules.specs.Usability.{Assignable, BasesEntered, Convertible};
-ghost use Rattle.go_selectors.specs.Answers.{Decides};
+ghost use Rattle.go_types.specs.go_selectors.Answers.{Decides};
 ghost use Rattle.go_usability.specs.inner.Alternatives.{are_pointers, ConvertsBeneath};
 
 use crate::assignability::{assignable, is_interface};

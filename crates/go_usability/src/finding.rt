@@ -2,7 +2,7 @@
 ghost use Rattle.std.specs.Prelude.{◌≡◌, IfOk};
 ghost use Rattle.go_rules.specs.Environments.{HasMethod};
 ghost use Rattle.go_rules.specs.Scopes.{env_of};
-ghost use Rattle.go_selectors.specs.Candidates.{signature_of};
+ghost use Rattle.go_types.specs.go_selectors.Candidates.{signature_of};
 ghost use Rattle.go_usability.specs.Answers.{Gives, FindsIn};
 ghost use Rattle.go_usability.specs.inner.Levels.{depth_of};
 ghost use Rattle.go_usability.specs.inner.Methods.{called_in};

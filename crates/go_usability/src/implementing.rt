@@ -2,7 +2,7 @@
 ghost use Rattle.std.specs.Prelude.{IfOk};
 ghost use Rattle.go_rules.specs.Scopes.{env_of};
 ghost use Rattle.go_rules.specs.Usability.{Implements};
-ghost use Rattle.go_selectors.specs.Answers.{Decides};
+ghost use Rattle.go_types.specs.go_selectors.Answers.{Decides};
 ghost use Rattle.go_usability.specs.inner.Methods.{Holds, HoldsEach, IsCalled};
 
 use crate::context::Context;
@@ -12,7 +12,7 @@ use crate::told::told_for;
 use go_base::memory::NoMemory;
 use go_model::types::found::Found;
 use go_model::types::term::{Method, Term};
-use go_selectors::identity::same_signature;
+use go_types::go_selectors::identity::same_signature;
 use go_types::implementing::are_candidates;
 use std::alloc::Global;
 

@@ -2,6 +2,9 @@
 //! the entries of the names that it reads.
 #![tactic(auto)]
 
+pub use go_const;
+pub use go_types::go_selectors;
+
 pub mod assignability;
 pub mod comparison;
 pub mod context;

@@ -14,7 +14,7 @@ use go_model::constants::value::Untyped;
 use go_model::types::package::ConstTerm;
 use go_model::types::term::Term;
 use go_rules::operand::Operand;
-use go_selectors::identity::identical;
+use go_types::go_selectors::identity::identical;
 use std::alloc::Global;
 
 // The untyped kind of values of two kinds that stand together.

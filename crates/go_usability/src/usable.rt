@@ -3,7 +3,7 @@ ghost use Rattle.std.specs.Prelude.{◌≡◌, IfOk};
 ghost use Rattle.go_model.specs.declared.types.term.Term.{out-Term};
 ghost use Rattle.go_rules.specs.Scopes.{env_of};
 ghost use Rattle.go_rules.specs.Usability.{DefaultHolds, UsableAs, holds_nil};
-ghost use Rattle.go_selectors.specs.Answers.{Decides};
+ghost use Rattle.go_types.specs.go_selectors.Answers.{Decides};
 ghost use Rattle.go_usability.specs.inner.Stands.{ConstantFits, Uses, stood, truth_fits};
 
 use crate::assignability::assignable;

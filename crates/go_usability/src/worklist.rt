@@ -1,7 +1,7 @@
 //! Types that are looked at one after another, each name once.
 ghost use Rattle.std.specs.Prelude.{◌≡◌, ◌≤◌, [], length, drop, IfOk, OnOk};
 ghost use Rattle.go_base.specs.Gathered.{gather};
-ghost use Rattle.go_selectors.specs.Search.{Adds};
+ghost use Rattle.go_types.specs.go_selectors.Search.{Adds};
 ghost use Rattle.go_types.specs.Parts.{SeesTerm, Pushes, PushesFields, PartAt};
 ghost use Rattle.go_model.specs.types.Selectors.{base_of};
 ghost use Rattle.go_usability.specs.inner.Levels.{embedded, PushesAll};
@@ -9,7 +9,7 @@ ghost use Rattle.go_usability.specs.inner.Levels.{embedded, PushesAll};
 use go_base::memory::NoMemory;
 use go_model::types::borrowed::BorrowedTerm;
 use go_model::types::term::{Field, Term};
-use go_selectors::name::Name;
+use go_types::go_selectors::name::Name;
 use indexmap::IndexSet;
 use std::alloc::Global;
 

@@ -5,10 +5,10 @@ use Rattle.go_base.specs.declared.memory.NoMemory.{NoMemory as Starved}
 use Rattle.go_rules.specs.Environments.{Env}
 use Rattle.go_rules.specs.Scopes.{Scopes as Known, env_of}
 use Rattle.go_selectors.specs.Answers.{Decides}
-use Rattle.go_type_terms.specs.Answers.{Tells}
-use Rattle.go_type_terms.specs.declared.error.ExprError.{ExprError}
-use Rattle.go_type_terms.specs.declared.error.ExprError.TheVariants.{NoMemory, Untyped}
-use Rattle.go_usability.specs.Answers.{Gives}
+use Rattle.go_expr.specs.go_type_terms.Answers.{Tells}
+use Rattle.go_expr.specs.go_type_terms.declared.error.ExprError.{ExprError}
+use Rattle.go_expr.specs.go_type_terms.declared.error.ExprError.TheVariants.{NoMemory, Untyped}
+use Rattle.go_expr.specs.go_usability.Answers.{Gives}
 use Rattle.go_walks.specs.Told.{found_by, holds_by}
 
 held : (P : Type 0) (a : Result (Unit {0}) ExprError) → Tells {A = Unit {0}} (λ u. P) a → IfOk (holds_by a) (λ b. Decides b P)

@@ -2,8 +2,8 @@
 -- Own: words of the contracts.
 use Rattle.std.specs.Prelude.{Bool, true, false, Option, None, Some, Result, Ok, Err}
 use Rattle.go_base.specs.declared.memory.NoMemory.{NoMemory as Starved}
-use Rattle.go_type_terms.specs.declared.error.ExprError.{ExprError}
-use Rattle.go_type_terms.specs.declared.error.ExprError.TheVariants.{NoMemory, Untyped}
+use Rattle.go_expr.specs.go_type_terms.declared.error.ExprError.{ExprError}
+use Rattle.go_expr.specs.go_type_terms.declared.error.ExprError.TheVariants.{NoMemory, Untyped}
 
 -- no memory was left
 abbrev pub starved : Starved

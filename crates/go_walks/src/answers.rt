@@ -3,7 +3,7 @@ ghost use Rattle.std.specs.Prelude.{◌≡◌};
 ghost use Rattle.go_walks.specs.Told.{found_by, holds_by};
 
 use go_base::memory::NoMemory;
-use go_type_terms::error::ExprError;
+use go_expr::go_type_terms::error::ExprError;
 
 /// Whether something is typed.
 pub fn holds(answer: Result<(), ExprError>) -> Result<bool, NoMemory>

@@ -10,7 +10,7 @@ ghost use Rattle.go_statement_rules.specs.Scopes.{Scopes, opened};
 ghost use Rattle.go_statement_rules.specs.Statements.{IsTypedFunction};
 ghost use Rattle.go_syntax.specs.declared.statement.LiteralBlock as b;
 ghost use Rattle.go_syntax.specs.declared.types.Signature.{out-Signature};
-ghost use Rattle.go_usability.specs.Answers.{Gives};
+ghost use Rattle.go_expr.specs.go_usability.Answers.{Gives};
 ghost use Rattle.go_walks.specs.Below.{RunsBelow, blocks_of, enclosing_of};
 ghost use Rattle.go_walks.specs.Entering.{Enters, IsTypedIn};
 
@@ -20,6 +20,7 @@ use crate::inner::Inner;
 use crate::walk::Walk;
 use go_base::list::List;
 use go_base::memory::NoMemory;
+use go_expr::go_usability::context::Context;
 use go_expr::typing::signature_of;
 use go_judged::judged::Judged;
 use go_literal_blocks::blocks::Blocks;
@@ -29,7 +30,6 @@ use go_model::types::term::Signature as Signed;
 use go_rules::env::Env;
 use go_syntax::statement::Stmt;
 use go_syntax::types::Signature;
-use go_usability::context::Context;
 
 // The signature of a function literal, where it has one.
 fn signature_here(

@@ -3,7 +3,7 @@ ghost use Rattle.std.specs.Prelude.{◌≡◌, IfOk};
 ghost use Rattle.go_base.specs.Lists.{Each};
 ghost use Rattle.go_judged.specs.Judging.{Among, Judges};
 ghost use Rattle.go_local_scopes.specs.States.{IsAt};
-ghost use Rattle.go_nodes.specs.Trees.{nodes_in};
+ghost use Rattle.go_literal_blocks.specs.go_nodes.Trees.{nodes_in};
 ghost use Rattle.go_rules.specs.Environments.{Env as Around};
 ghost use Rattle.go_statement_rules.specs.Scopes.{Scopes};
 ghost use Rattle.go_untyped_places.specs.LiteralRuns.{IsLiteralRun};
@@ -15,8 +15,8 @@ use crate::inner::Inner;
 use crate::walk::Walk;
 use go_base::memory::NoMemory;
 use go_judged::judged::Judged;
+use go_literal_blocks::go_nodes::trees::Trees;
 use go_literal_blocks::literals::{Literal, literals_in};
-use go_nodes::trees::Trees;
 use go_rules::env::Env;
 
 impl<'a, F: Fn(&mut Env<'_>, &Frame<'_>, usize, Inner<'_>) -> Result<Option<u32>, NoMemory>> Walk<

@@ -13,10 +13,10 @@ use Rattle.go_exposed.specs.SkippedWorlds.{AreSkipped, Skip, skip_more, skip_non
 use Rattle.go_exposed.specs.declared.skipped.Skipped.{Skipped}
 use Rattle.go_model.specs.worlds.Worlds.{Packages, path_of}
 use Rattle.go_sources.specs.UnitSources.{source_of}
-use Rattle.go_taken_packages.proofs.OverAll.{has_place}
-use Rattle.go_taken_packages.proofs.TakenOver.{left_out, offered, typed_in}
-use Rattle.go_taken_packages.specs.TakenPaths.{AreTaken}
-use Rattle.go_taken_packages.specs.ToldPackages.{is_among}
+use Rattle.go_taken_units.proofs.go_taken_packages_proofs.OverAll.{has_place}
+use Rattle.go_taken_units.proofs.go_taken_packages_proofs.TakenOver.{left_out, offered, typed_in}
+use Rattle.go_taken_units.specs.go_taken_packages.TakenPaths.{AreTaken}
+use Rattle.go_taken_units.specs.go_taken_packages.ToldPackages.{is_among}
 use Rattle.go_taken_units.specs.TakenUnits.{TakesOver}
 use Rattle.go_typings.proofs.Cells.{none_some}
 use Rattle.go_typings.specs.Sources.{PackageSource}

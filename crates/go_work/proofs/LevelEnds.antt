@@ -10,10 +10,10 @@ use Rattle.go_typings.specs.PackageWorlds.{Outcome, no_packages, refused, typed}
 use Rattle.go_typings.specs.Refusals.{Refusal}
 use Rattle.go_typings.specs.Sources.{PackageSource}
 use Rattle.go_units.specs.declared.unit.«Unit».{«Unit» as PackageUnit}
-use Rattle.go_level_laws.specs.ByLevels.{Outcomes, world_of}
-use Rattle.go_level_laws.proofs.NextOutcomes.{all_below, none_become}
-use Rattle.go_level_laws.proofs.Orders.{refused_by_levels, skips_of_levels, world_of_levels}
-use Rattle.go_level_laws.proofs.UnitLevels.{unit_at}
+use Rattle.go_levels.specs.go_level_laws.ByLevels.{Outcomes, world_of}
+use Rattle.go_levels.proofs.go_level_laws_proofs.NextOutcomes.{all_below, none_become}
+use Rattle.go_levels.proofs.go_level_laws_proofs.Orders.{refused_by_levels, skips_of_levels, world_of_levels}
+use Rattle.go_levels.proofs.go_level_laws_proofs.UnitLevels.{unit_at}
 use Rattle.go_work.specs.Answers.{IsRefusedFirst, sources}
 use Rattle.go_work.specs.KeptUnits.{AreKept}
 use Rattle.go_work.specs.declared.checked.SkippedUnit.{SkippedUnit}

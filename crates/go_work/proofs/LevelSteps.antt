@@ -24,12 +24,12 @@ use Rattle.go_typings.proofs.Cells.{either, none_some, some_once}
 use Rattle.go_typings.specs.PackageWorlds.{AreTyped, Outcome, no_packages, over, refused, typed, with_outcome}
 use Rattle.go_typings.specs.Refusals.{Refusal}
 use Rattle.go_units.specs.declared.unit.«Unit».{«Unit» as PackageUnit}
-use Rattle.go_level_laws.specs.ByLevels.{AreSkippedByLevels, BecomeByLevels, Outcomes, with_one, world_below, world_of}
-use Rattle.go_level_laws.proofs.AddedOrders.{paths_known}
-use Rattle.go_level_laws.proofs.KnownWorlds.{added}
-use Rattle.go_level_laws.proofs.LowerWorlds.{outcome_path}
-use Rattle.go_level_laws.proofs.NextOutcomes.{all_below, below_kept, is_same, next_become, next_skipped, one_at, one_else, one_or_before, same_is}
-use Rattle.go_level_laws.proofs.UnitLevels.{written_at}
+use Rattle.go_levels.specs.go_level_laws.ByLevels.{AreSkippedByLevels, BecomeByLevels, Outcomes, with_one, world_below, world_of}
+use Rattle.go_levels.proofs.go_level_laws_proofs.AddedOrders.{paths_known}
+use Rattle.go_levels.proofs.go_level_laws_proofs.KnownWorlds.{added}
+use Rattle.go_levels.proofs.go_level_laws_proofs.LowerWorlds.{outcome_path}
+use Rattle.go_levels.proofs.go_level_laws_proofs.NextOutcomes.{all_below, below_kept, is_same, next_become, next_skipped, one_at, one_else, one_or_before, same_is}
+use Rattle.go_levels.proofs.go_level_laws_proofs.UnitLevels.{written_at}
 use Rattle.go_work.specs.declared.plan.Plan.{Plan}
 use Rattle.go_work.specs.declared.progress.Progress.{Progress}
 use Rattle.go_work.specs.declared.rows.Row.{Row}

@@ -8,20 +8,20 @@ use Rattle.go_model.specs.declared.types.package.Package.{Package}
 use Rattle.go_model.specs.types.Terms.{client_path}
 use Rattle.go_model.specs.worlds.Worlds.{IsWorld, Packages, path_of, with_package}
 use Rattle.go_sources.specs.UnitSources.{source_of}
-use Rattle.go_std_worlds.proofs.MoreLists.{has_key}
-use Rattle.go_std_worlds.specs.StdSources.{source_path}
-use Rattle.go_typed_packages.proofs.JoinedWorlds.{offered_joins}
+use Rattle.go_levels.proofs.go_std_worlds_proofs.MoreLists.{has_key}
+use Rattle.go_levels.specs.go_std_worlds.StdSources.{source_path}
+use Rattle.go_levels.proofs.go_typed_packages_proofs.JoinedWorlds.{offered_joins}
 use Rattle.go_typings.proofs.Cells.{either, maybe, none_some}
 use Rattle.go_typings.specs.PackageWorlds.{AreTyped, Outcome, over, typed}
 use Rattle.go_typings.specs.Sources.{PackageSource}
 use Rattle.go_units.specs.declared.unit.«Unit».{«Unit» as PackageUnit}
-use Rattle.go_level_laws.specs.ByLevels.{with_one, world_below, world_of}
-use Rattle.go_level_laws.specs.Levels.{NeedsOther}
-use Rattle.go_level_laws.proofs.AddedOrders.{absent, held, paths_known}
-use Rattle.go_level_laws.proofs.KnownWorlds.{found_in}
-use Rattle.go_level_laws.proofs.LowerWorlds.{becomes_there, below, below_closed, lower_needs}
-use Rattle.go_level_laws.proofs.NextOutcomes.{is_same, one_else}
-use Rattle.go_level_laws.proofs.UnitLevels.{written_at}
+use Rattle.go_levels.specs.go_level_laws.ByLevels.{with_one, world_below, world_of}
+use Rattle.go_levels.specs.go_level_laws.Levels.{NeedsOther}
+use Rattle.go_levels.proofs.go_level_laws_proofs.AddedOrders.{absent, held, paths_known}
+use Rattle.go_levels.proofs.go_level_laws_proofs.KnownWorlds.{found_in}
+use Rattle.go_levels.proofs.go_level_laws_proofs.LowerWorlds.{becomes_there, below, below_closed, lower_needs}
+use Rattle.go_levels.proofs.go_level_laws_proofs.NextOutcomes.{is_same, one_else}
+use Rattle.go_levels.proofs.go_level_laws_proofs.UnitLevels.{written_at}
 use Rattle.go_work.specs.declared.plan.Plan.{Plan}
 use Rattle.go_work.specs.declared.progress.Progress.{Progress}
 use Rattle.go_work.specs.inner.Progresses.{IsPlan, IsReached, IsWithin, level_in, sources_in, units_of}

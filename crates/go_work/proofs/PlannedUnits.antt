@@ -4,13 +4,13 @@ use mathlib.Core.Logic.{∥∥₁_elim}
 use Rattle.go_base.specs.Lists.{Has}
 use Rattle.go_levels.specs.UnitLevels.{AreUnitLevels}
 use Rattle.go_sources.specs.UnitSources.{source_of}
-use Rattle.go_std_worlds.proofs.OwnPaths.{own_paths}
-use Rattle.go_std_worlds.specs.StdSources.{HavePaths, source_path}
+use Rattle.go_levels.proofs.go_std_worlds_proofs.OwnPaths.{own_paths}
+use Rattle.go_levels.specs.go_std_worlds.StdSources.{HavePaths, source_path}
 use Rattle.go_typings.specs.Sources.{Import, PackageSource, imports_of}
 use Rattle.go_units.specs.declared.unit.«Unit».{«Unit» as PackageUnit}
 use Rattle.go_units.specs.declared.unit_list.Units.{Units}
-use Rattle.go_level_laws.proofs.KnownWorlds.{at_path}
-use Rattle.go_level_laws.proofs.UnitLevels.{needed_before, needs_path, units_rise, written_at}
+use Rattle.go_levels.proofs.go_level_laws_proofs.KnownWorlds.{at_path}
+use Rattle.go_levels.proofs.go_level_laws_proofs.UnitLevels.{needed_before, needs_path, units_rise, written_at}
 use Rattle.go_work.specs.Answers.{sources}
 use Rattle.go_work.specs.Paths.{AreOfPackages}
 use Rattle.go_work.specs.inner.Progresses.{ArePlanned}

@@ -8,8 +8,8 @@ use Rattle.go_imports.proofs.Members.{has_back}
 use Rattle.go_model.specs.worlds.Worlds.{path_of, with_package}
 use Rattle.go_outside.proofs.Lists.{once_last}
 use Rattle.go_sources.specs.UnitSources.{source_of}
-use Rattle.go_taken_packages.proofs.KeptPaths.{key_finds}
-use Rattle.go_taken_packages.specs.InOrder.{HavePathsOfTheirOwn, source_path}
+use Rattle.go_taken_units.proofs.go_taken_packages_proofs.KeptPaths.{key_finds}
+use Rattle.go_taken_units.specs.go_taken_packages.InOrder.{HavePathsOfTheirOwn, source_path}
 use Rattle.go_typings.proofs.Cells.{none_some}
 use Rattle.go_typings.specs.PackageWorlds.{AreTyped, is_public, no_packages}
 use Rattle.go_typings.specs.Sources.{PackageSource}

@@ -4,7 +4,7 @@ use Rattle.std.specs.Prelude.{◌≡◌, ◌⊎◌, ℕ, List, map}
 use Rattle.go_exposed.specs.OfferedWorlds.{IsWorldOf}
 use Rattle.go_exposed.specs.SkippedValues.{all_skipped}
 use Rattle.go_exposed.specs.SkippedWorlds.{AreSkipped}
-use Rattle.go_taken_packages.specs.InOrder.{HavePathsOfTheirOwn}
+use Rattle.go_taken_units.specs.go_taken_packages.InOrder.{HavePathsOfTheirOwn}
 use Rattle.go_work.specs.Answers.{sources}
 use Rattle.go_work.specs.declared.typed.TypedUnits.{TypedUnits}
 

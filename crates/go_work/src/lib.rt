@@ -1,6 +1,8 @@
 //! Types the packages of a tree, one after another or level by level.
 #![tactic(auto)]
 
+pub use go_check;
+
 mod by_levels;
 pub mod checked;
 mod copied;

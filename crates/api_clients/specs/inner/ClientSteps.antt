@@ -8,8 +8,8 @@ use Rattle.api_worlds.specs.PlatformWorlds.{sources_of}
 use Rattle.api_worlds.specs.declared.error.PlatformError.{PlatformError}
 use Rattle.api_worlds.specs.declared.error.PlatformError.TheVariants as error
 use Rattle.go_client_typings.specs.declared.vetted.Vetted.{Vetted}
-use Rattle.go_client_units.specs.declared.units.ClientUnit.{ClientUnit}
-use Rattle.go_client_units.specs.declared.units.ClientUnits.{ClientUnits}
+use Rattle.go_client_unit_laws.specs.go_client_units.declared.units.ClientUnit.{ClientUnit}
+use Rattle.go_client_unit_laws.specs.go_client_units.declared.units.ClientUnits.{ClientUnits}
 use Rattle.go_clients.specs.Vetting.{IsVettedAs}
 use Rattle.go_exposed.specs.OfferedWorlds.{IsFirstRefused, IsWorldOf}
 use Rattle.go_file_choices.specs.AlikePlatforms.{AreAlike, files_of}

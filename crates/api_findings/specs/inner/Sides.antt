@@ -14,7 +14,7 @@ use Rattle.go_model.specs.declared.files.platform.Platform.{Platform}
 use Rattle.go_model.specs.declared.files.tree.Tree.{Tree}
 use Rattle.go_model.specs.files.Trees.{IsTree}
 use Rattle.go_model.specs.worlds.Worlds.{Packages}
-use Rattle.go_work.specs.TypedUnits.{AreTypedUnits}
+use Rattle.api_worlds.specs.go_work.TypedUnits.{AreTypedUnits}
 
 module _ (barred : List (List ℕ)) (tree std_tree : Tree) where
   -- a module's tree over the standard library's, whose path is barred

@@ -26,8 +26,8 @@ use Rattle.api_words.specs.declared.option_name.Mode.TheVariants as mode
 use Rattle.api_words.specs.declared.request.AskedVersion.{AskedVersion}
 use Rattle.api_words.specs.declared.request.MadeTrees.{MadeTrees}
 use Rattle.api_words.specs.declared.request.Request.{Request}
-use Rattle.api_worlds.specs.declared.error.PlatformError.{PlatformError}
-use Rattle.api_worlds.specs.declared.error.PlatformError.TheVariants as platform
+use Rattle.api_findings.specs.api_worlds.declared.error.PlatformError.{PlatformError}
+use Rattle.api_findings.specs.api_worlds.declared.error.PlatformError.TheVariants as platform
 use Rattle.go_model.specs.declared.files.platform.Platform.{Platform}
 use Rattle.go_model.specs.declared.files.tree.Tree.{Tree}
 use Rattle.go_model.specs.files.Trees.{IsTree}

@@ -6,7 +6,7 @@ use Rattle.api_judge.specs.declared.verdict.Verdict.{Verdict}
 use Rattle.api_lines.specs.declared.line.Line.{Line}
 use Rattle.api_texts.specs.declared.left_out.LeftOut.{LeftOut}
 use Rattle.api_words.specs.declared.request.Request.{Request}
-use Rattle.go_clients.specs.ProfileClients.{IsProfileTyped}
+use Rattle.api_clients.specs.go_clients.ProfileClients.{IsProfileTyped}
 use Rattle.go_model.specs.declared.files.platform.Platform.{Platform}
 use Rattle.go_model.specs.declared.files.tree.Tree.{Tree}
 use Rattle.go_model.specs.files.Platforms.{bits_of}

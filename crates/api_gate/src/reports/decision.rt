@@ -1,9 +1,9 @@
 //! What a run is to write, before a byte of it is written.
 use crate::reports::advice::AdviceFault;
 use crate::status::Status;
+use api_findings::api_worlds::error::PlatformError;
 use api_inputs::inputs::InputError;
 use api_texts::fixed::{memory_line, read_line, words_line};
-use api_worlds::error::PlatformError;
 use go_base::text::Text;
 
 /// What a run is to write.

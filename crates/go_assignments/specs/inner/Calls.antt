@@ -1,6 +1,6 @@
 -- Calls that stand alone, by what is called.
 use Rattle.std.specs.Prelude.{◌≡◌, ◌⊎◌, Bool, true, false, List, [], ◌∷◌, ◌++◌}
-use Rattle.go_expr.specs.Chains.{NamesImported}
+use Rattle.go_asks.specs.go_expr.Chains.{NamesImported}
 use Rattle.go_rules.specs.Environments.{Env}
 use Rattle.go_rules.specs.Expressions.{Has, HasPosts}
 use Rattle.go_rules.specs.Nodes.{PostLayer}

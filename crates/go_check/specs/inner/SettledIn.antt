@@ -1,7 +1,7 @@
 -- Entries that are had of a package, with the scopes that have them, and which declarations are lost.
 use Rattle.std.specs.Prelude.{◌≡◌, Bool, List, length, Option}
-use Rattle.go_entries.specs.HadEntries.{entries_at}
-use Rattle.go_entries.specs.declared.entry.Entry.{Entry as Had}
+use Rattle.go_packages.specs.go_entries.HadEntries.{entries_at}
+use Rattle.go_packages.specs.go_entries.declared.entry.Entry.{Entry as Had}
 use Rattle.go_graphs.specs.Flags.{is_flagged}
 use Rattle.go_package_scopes.specs.PackageScopes.{IsScopeOf}
 use Rattle.go_rules.specs.Scopes.{Scopes}

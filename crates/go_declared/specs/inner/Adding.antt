@@ -4,7 +4,7 @@ use Rattle.std.specs.Prelude.{ℕ, suc, ◌||◌, if◌then◌else◌, List, [],
 use Rattle.go_rules.specs.Expressions.{is_blank}
 use Rattle.go_rules.specs.Names.{Named}
 use Rattle.go_syntax.specs.declared.name.Name.{Name}
-use Rattle.go_typings.specs.Declarations.{Declaration, is_init, names_of}
+use Rattle.go_declarations.specs.go_typings.Declarations.{Declaration, is_init, names_of}
 use Rattle.go_declared.specs.declared.names.NamePlace.{NamePlace}
 
 -- the name is at the place too, unless it is left out

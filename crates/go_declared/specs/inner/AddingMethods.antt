@@ -2,8 +2,8 @@
 -- Own: words of the contracts inside this crate.
 use Rattle.std.specs.Prelude.{ℕ, suc, List, [], ◌∷◌, ◌++◌, Option, None, Some}
 use Rattle.go_rules.specs.Names.{Named, items_at, with_value}
-use Rattle.go_typings.specs.Declarations.{Declaration, Form, method}
-use Rattle.go_typings.specs.Receivers.{base, is_pointer_form, receiver_form}
+use Rattle.go_declarations.specs.go_typings.Declarations.{Declaration, Form, method}
+use Rattle.go_declarations.specs.go_typings.Receivers.{base, is_pointer_form, receiver_form}
 use Rattle.go_declared.specs.declared.methods.MethodRow.{MethodRow}
 
 abbrev pub with_row : Named (List MethodRow) → List ℕ → MethodRow → Named (List MethodRow)

@@ -2,9 +2,9 @@
 use Rattle.std.specs.Prelude.{◌≡◌, ◌⊎◌, ℕ, Option, Some, None, List}
 use Rattle.go_base.specs.Lists.{Has}
 use Rattle.go_base.specs.Growing.{Grows}
-use Rattle.go_syntax.specs.declared.declaration.ConstSpec.{ConstSpec}
-use Rattle.go_syntax.specs.declared.declaration.TypeSpec.{TypeSpec}
-use Rattle.go_syntax.specs.declared.declaration.VarSpec.{VarSpec}
+use Rattle.go_references.specs.go_syntax.declared.declaration.ConstSpec.{ConstSpec}
+use Rattle.go_references.specs.go_syntax.declared.declaration.TypeSpec.{TypeSpec}
+use Rattle.go_references.specs.go_syntax.declared.declaration.VarSpec.{VarSpec}
 use Rattle.go_references.specs.declared.references.Reference.{Reference}
 use Rattle.go_imports.specs.UsedImports.{IsConstName, IsVarName, IsTypeName, IsQualifier, IsScopeName, IsAssumed, IsScopeNameIn, IsAssumedIn, AreUsed, named_as}
 use Rattle.go_imports.specs.declared.used_imports.Import.{Import}

@@ -7,9 +7,9 @@ use Rattle.go_exposed.specs.SkippedValues.{all_skipped}
 use Rattle.go_exposed.specs.SkippedWorlds.{IsSkipped}
 use Rattle.go_model.specs.worlds.Worlds.{Packages, with_package}
 use Rattle.go_sources.specs.UnitSources.{source_of}
-use Rattle.go_taken_packages.specs.InOrder.{HavePathsOfTheirOwn}
-use Rattle.go_taken_packages.specs.TakenPaths.{AreTaken}
-use Rattle.go_taken_packages.specs.ToldPackages.{is_among}
+use Rattle.go_taken_units.specs.go_taken_packages.InOrder.{HavePathsOfTheirOwn}
+use Rattle.go_taken_units.specs.go_taken_packages.TakenPaths.{AreTaken}
+use Rattle.go_taken_units.specs.go_taken_packages.ToldPackages.{is_among}
 use Rattle.go_typings.specs.PackageWorlds.{is_public, no_packages, over}
 use Rattle.go_typings.specs.Sources.{PackageSource, Setting}
 use Rattle.go_units.specs.declared.unit.«Unit».{«Unit» as PackageUnit}

@@ -7,13 +7,13 @@ use Rattle.go_check.specs.declared.error.CheckError.{CheckError}
 use Rattle.go_model.specs.declared.types.package.Package.{Package}
 use Rattle.go_model.specs.worlds.Worlds.{Packages, with_package}
 use Rattle.go_sources.specs.UnitSources.{source_of}
-use Rattle.go_std_worlds.specs.StdSources.{source_path}
+use Rattle.go_levels.specs.go_std_worlds.StdSources.{source_path}
 use Rattle.go_typings.specs.PackageWorlds.{Outcome, is_public, over, refused, typed}
 use Rattle.go_typings.specs.Refusals.{Refusal}
 use Rattle.go_typings.specs.Sources.{Import, PackageSource, imports_of}
 use Rattle.go_units.specs.declared.unit.«Unit».{«Unit» as PackageUnit}
-use Rattle.go_level_laws.specs.ByLevels.{AreSkippedByLevels, BecomeByLevels, Outcomes, world_below, world_of}
-use Rattle.go_level_laws.specs.Levels.{ComeInOrder, Rises}
+use Rattle.go_levels.specs.go_level_laws.ByLevels.{AreSkippedByLevels, BecomeByLevels, Outcomes, world_below, world_of}
+use Rattle.go_levels.specs.go_level_laws.Levels.{ComeInOrder, Rises}
 use Rattle.go_work.specs.Answers.{sources}
 use Rattle.go_work.specs.Paths.{AreOfPackages}
 use Rattle.go_work.specs.declared.plan.Plan.{Plan}

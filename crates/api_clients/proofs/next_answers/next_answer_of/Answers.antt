@@ -2,8 +2,8 @@ use Rattle.std.proofs.Common.{Option, subst, sym}
 use Rattle.std.specs.Prelude.{IfSome}
 use Rattle.api_clients.proofs.OnePlatform.{borrowed, told_typed}
 use Rattle.go_clients.specs.Vetting.{IsClientPath}
-use Rattle.go_work.specs.TypedUnits.{AreTypedUnits}
-use Rattle.go_work.specs.declared.typed.TypedUnits.{TypedUnits}
+use Rattle.api_worlds.specs.go_work.TypedUnits.{AreTypedUnits}
+use Rattle.api_worlds.specs.go_work.declared.typed.TypedUnits.{TypedUnits}
 use Rattle.api_clients.proofs.next_answers.next_answer_of.Goals as goal
 
 pub typed-requires-clause-second : goal.typed-requires-clause-second

@@ -5,9 +5,9 @@ use Rattle.api_findings.proofs.LeftOutPlatforms.{alone_left_out}
 use Rattle.api_findings.specs.declared.listed.Listed.{Listed}
 use Rattle.api_findings.specs.inner.Found.{left_out_alone}
 use Rattle.api_lines.specs.Lines.{IsListing}
-use Rattle.go_work.specs.declared.typed.TypedUnits.{TypedUnits}
+use Rattle.api_worlds.specs.go_work.declared.typed.TypedUnits.{TypedUnits}
 use Rattle.std.specs.Prelude.{IfSome}
-use Rattle.go_work.specs.TypedUnits.{AreTypedUnits}
+use Rattle.api_worlds.specs.go_work.TypedUnits.{AreTypedUnits}
 use Rattle.api_findings.proofs.next_found.features_next.Goals as goal
 
 pub returns-in-Err-clause-answer : goal.returns-in-Err-clause-answer

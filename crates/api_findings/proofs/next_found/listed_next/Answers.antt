@@ -1,7 +1,7 @@
 use Rattle.std.proofs.Common.{sym, subst, ap}
 use Rattle.api_findings.proofs.ListedSides.{listed_of}
-use Rattle.go_work.specs.TypedUnits.{AreTypedUnits}
-use Rattle.go_work.specs.declared.typed.TypedUnits.{TypedUnits}
+use Rattle.api_worlds.specs.go_work.TypedUnits.{AreTypedUnits}
+use Rattle.api_worlds.specs.go_work.declared.typed.TypedUnits.{TypedUnits}
 use Rattle.api_findings.proofs.next_found.listed_next.Goals as goal
 
 pub returns-in-Ok-features-clause-answer : goal.returns-in-Ok-features-clause-answer

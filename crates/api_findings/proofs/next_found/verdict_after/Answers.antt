@@ -3,8 +3,8 @@ use Rattle.std.specs.Prelude.{IfSome}
 use Rattle.api_findings.proofs.FoundOn.{new_error}
 use Rattle.api_findings.specs.declared.listed.Listed.{Listed}
 use Rattle.api_findings.specs.inner.Sides.{IsListedOn}
-use Rattle.go_work.specs.TypedUnits.{AreTypedUnits}
-use Rattle.go_work.specs.declared.typed.TypedUnits.{TypedUnits}
+use Rattle.api_worlds.specs.go_work.TypedUnits.{AreTypedUnits}
+use Rattle.api_worlds.specs.go_work.declared.typed.TypedUnits.{TypedUnits}
 use Rattle.api_findings.proofs.next_found.verdict_after.Goals as goal
 
 pub returns-in-Err-clause-answer : goal.returns-in-Err-clause-answer

@@ -1,8 +1,8 @@
 use Rattle.std.proofs.Common.{Option, sym, subst}
 use Rattle.std.specs.Prelude.{IfSome}
 use Rattle.api_findings.proofs.FoundOn.{both_count, old_count, old_error}
-use Rattle.go_work.specs.TypedUnits.{AreTypedUnits}
-use Rattle.go_work.specs.declared.typed.TypedUnits.{TypedUnits}
+use Rattle.api_worlds.specs.go_work.TypedUnits.{AreTypedUnits}
+use Rattle.api_worlds.specs.go_work.declared.typed.TypedUnits.{TypedUnits}
 use Rattle.api_findings.proofs.next_found.verdict_next.Goals as goal
 
 pub returns-in-Err-clause-answer : goal.returns-in-Err-clause-answer

@@ -4,7 +4,7 @@ use Rattle.api_kept_clients.specs.ServedClients.{for_client}
 use Rattle.api_kept_clients.proofs.ClientSettings.{settings_kept}
 use Rattle.api_kept_clients.proofs.UnitWorlds.{are_compatible}
 use Rattle.api_kept_clients.proofs.laws.clients_of_units.Goals as goal
-use Rattle.api_kept_relations.specs.StdTypes.{is_open_sel, shared_std}
+use Rattle.api_std_types.specs.api_kept_relations.StdTypes.{is_open_sel, shared_std}
 
 pub returns : goal.returns
 returns c bits us vs bs xs old new before after pairs u blocks s t g h k m client shown =

@@ -3,7 +3,7 @@ use Rattle.go_client_packages.proofs.ClientsKept.{client_kept}
 use Rattle.api_kept_clients.specs.ServedClients.{for_client}
 use Rattle.api_kept_clients.proofs.ClientSettings.{AreCompatible, settings_kept}
 use Rattle.api_kept_clients.proofs.laws.compatible_clients.Goals as goal
-use Rattle.api_kept_relations.specs.StdTypes.{is_open_sel, shared_std}
+use Rattle.api_std_types.specs.api_kept_relations.StdTypes.{is_open_sel, shared_std}
 
 pub returns : goal.returns
 returns c old new before after pairs bits u blocks h k i j z y v w x a client shown =

@@ -1,7 +1,7 @@
 use Rattle.std.proofs.Common.{subst}
 use Rattle.go_model.specs.types.Terms.{Layer}
 use Rattle.go_model.specs.types.Underlying.{under}
-use Rattle.go_operators.proofs.Answers.{decided_false, decided_true}
+use Rattle.go_expr.proofs.go_operators_proofs.Answers.{decided_false, decided_true}
 use Rattle.go_rules.specs.Asks.{MayStandUnder}
 use Rattle.go_rules.specs.Environments.{Entered}
 use Rattle.go_selectors.specs.Answers.{Decides}

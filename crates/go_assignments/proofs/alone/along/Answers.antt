@@ -1,4 +1,4 @@
-use Rattle.go_expr.specs.Chains.{Makes}
+use Rattle.go_asks.specs.go_expr.Chains.{Makes}
 use Rattle.go_rules.specs.Expressions.{HasPosts}
 use Rattle.go_type_terms.specs.Answers.{env_in}
 use Rattle.go_type_terms.proofs.Handed.{told_told}

@@ -1,5 +1,5 @@
 use Rattle.std.proofs.Common.{◌-◌, drop, length, sym, take}
-use Rattle.go_expr.specs.Chains.{NamesImported}
+use Rattle.go_asks.specs.go_expr.Chains.{NamesImported}
 use Rattle.go_rules.specs.Expressions.{HasPosts}
 use Rattle.go_type_terms.specs.Answers.{env_in}
 use Rattle.go_type_terms.proofs.Handed.{told_told}

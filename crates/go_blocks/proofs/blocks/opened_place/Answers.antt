@@ -7,7 +7,7 @@ use Rattle.go_local_scopes.proofs.Standing.{closed_same, kept_opened, opened_som
 use Rattle.go_local_scopes.specs.States.{IsAt}
 use Rattle.go_rules.specs.Environments.{Env}
 use Rattle.go_statement_rules.specs.Scopes.{Scopes, opened}
-use Rattle.go_walks.specs.Below.{blocks_of, enclosing_of}
+use Rattle.go_switch_statements.specs.go_walks.Below.{blocks_of, enclosing_of}
 use Rattle.go_blocks.proofs.blocks.opened_place.Goals as goal
 
 pub place_in-place-requires : goal.place_in-place-requires

@@ -2,7 +2,7 @@ use Rattle.std.specs.Prelude.{IfOk}
 use Rattle.go_blocks.proofs.Framed.{in_frame, iota_back, told_there}
 use Rattle.go_blocks.specs.Answers.{FindsBlock}
 use Rattle.go_local_scopes.specs.States.{around}
-use Rattle.go_walks.specs.Below.{blocks_of, enclosing_of}
+use Rattle.go_switch_statements.specs.go_walks.Below.{blocks_of, enclosing_of}
 use Rattle.go_blocks.proofs.blocks.untyped_place.Goals as goal
 
 pub returns-clause-same : goal.returns-clause-same

@@ -5,7 +5,7 @@ use Rattle.go_model.specs.declared.types.term.Term.{Term}
 use Rattle.go_operators.proofs.Answers.{found_none, found_some}
 use Rattle.go_rules.specs.Scopes.{env_of}
 use Rattle.go_statement_rules.specs.Functions.{OfReceiver}
-use Rattle.go_walks.specs.Below.{blocks_of}
+use Rattle.go_switch_statements.specs.go_walks.Below.{blocks_of}
 use Rattle.go_blocks.proofs.bodies.body_here.Goals as goal
 
 pub returns-in-None-clause-judged : goal.returns-in-None-clause-judged

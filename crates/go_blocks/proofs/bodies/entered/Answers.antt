@@ -5,8 +5,8 @@ use Rattle.go_judged.specs.Judging.{Judges}
 use Rattle.go_local_scopes.proofs.Standing.{kept_at, kept_on, kept_opened, reaches_at}
 use Rattle.go_model.specs.declared.types.term.Signature.{out-Signature}
 use Rattle.go_statement_rules.specs.Scopes.{Declares, opened}
-use Rattle.go_walks.proofs.Entered.{inner_finds}
-use Rattle.go_walks.specs.Below.{blocks_of}
+use Rattle.go_switch_statements.proofs.go_walks_proofs.Entered.{inner_finds}
+use Rattle.go_switch_statements.specs.go_walks.Below.{blocks_of}
 use Rattle.go_blocks.proofs.bodies.entered.Goals as goal
 
 pub returns-then-not-declared-clause-judged : goal.returns-then-not-declared-clause-judged

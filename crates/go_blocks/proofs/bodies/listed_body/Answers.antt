@@ -13,7 +13,7 @@ use Rattle.go_statement_rules.specs.Bodies.{IsTypedBody}
 use Rattle.go_statement_rules.specs.Functions.{EntersBody, IsBlockAt, OfReceiver}
 use Rattle.go_statement_rules.specs.Scopes.{Scopes, opened}
 use Rattle.go_syntax.specs.declared.types.Signature.{out-Signature}
-use Rattle.go_walks.specs.Below.{blocks_of}
+use Rattle.go_switch_statements.specs.go_walks.Below.{blocks_of}
 use Rattle.go_blocks.proofs.bodies.listed_body.Goals as goal
 
 pub returns-in-None-clause-judged : goal.returns-in-None-clause-judged

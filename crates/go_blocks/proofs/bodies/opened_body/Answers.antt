@@ -2,7 +2,7 @@ use Rattle.go_blocks.specs.Bodies.{EntersWith, IsTypedWith}
 use Rattle.go_judged.specs.Judging.{Judges}
 use Rattle.go_local_scopes.proofs.Standing.{closed_same, kept_opened, opened_some, opened_told}
 use Rattle.go_statement_rules.specs.Scopes.{opened}
-use Rattle.go_walks.specs.Below.{blocks_of}
+use Rattle.go_switch_statements.specs.go_walks.Below.{blocks_of}
 use Rattle.go_blocks.proofs.bodies.opened_body.Goals as goal
 
 pub entered-judged-requires : goal.entered-judged-requires

@@ -1,6 +1,6 @@
 use Rattle.go_rules.specs.Expressions.{OfSignature}
 use Rattle.go_syntax.specs.declared.types.Signature.{out-Signature}
-use Rattle.go_walks.proofs.Told.{asked_found}
+use Rattle.go_switch_statements.proofs.go_walks_proofs.Told.{asked_found}
 use Rattle.go_blocks.proofs.bodies.signature_here.Goals as goal
 
 pub returns : goal.returns

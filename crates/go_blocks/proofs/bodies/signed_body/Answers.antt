@@ -6,7 +6,7 @@ use Rattle.go_operators.proofs.Answers.{found_none, found_some}
 use Rattle.go_rules.specs.Expressions.{OfSignature}
 use Rattle.go_rules.specs.Scopes.{env_of}
 use Rattle.go_syntax.specs.declared.types.Signature.{out-Signature}
-use Rattle.go_walks.specs.Below.{blocks_of}
+use Rattle.go_switch_statements.specs.go_walks.Below.{blocks_of}
 use Rattle.go_blocks.proofs.bodies.signed_body.Goals as goal
 
 pub returns-in-None-clause-judged : goal.returns-in-None-clause-judged

@@ -10,7 +10,7 @@ use Rattle.go_rules.specs.Environments.{Env}
 use Rattle.go_statement_rules.specs.Bodies.{IsTypedBody}
 use Rattle.go_statement_rules.specs.Functions.{EntersBody}
 use Rattle.go_statement_rules.specs.Scopes.{Scopes}
-use Rattle.go_walks.specs.Below.{blocks_of}
+use Rattle.go_switch_statements.specs.go_walks.Below.{blocks_of}
 use Rattle.go_blocks.proofs.bodies.written_body.Goals as goal
 
 pub returns-clause-same : goal.returns-clause-same

@@ -5,8 +5,8 @@ use Rattle.go_judged.specs.Judging.{Judges}
 use Rattle.go_local_scopes.specs.States.{around}
 use Rattle.go_nodes.specs.Trees.{nodes_in}
 use Rattle.go_untyped_places.specs.LiteralRuns.{IsLiteralRun}
-use Rattle.go_walks.specs.Below.{blocks_of, enclosing_of}
-use Rattle.go_walks.specs.Literals.{LiteralsTyped}
+use Rattle.go_switch_statements.specs.go_walks.Below.{blocks_of, enclosing_of}
+use Rattle.go_switch_statements.specs.go_walks.Literals.{LiteralsTyped}
 use Rattle.go_blocks.proofs.literals.type_literals.Goals as goal
 
 pub returns-clause-same : goal.returns-clause-same

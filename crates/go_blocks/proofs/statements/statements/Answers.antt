@@ -2,7 +2,7 @@ use Rattle.go_blocks.proofs.Placed.{StatementsOn, statements_begin, statements_d
 use Rattle.go_local_scopes.proofs.Standing.{kept_at, kept_none, kept_on, kept_opened}
 use Rattle.go_statement_rules.specs.Functions.{run}
 use Rattle.go_statement_rules.specs.Places.{IsUntypedPlace}
-use Rattle.go_walks.specs.Below.{blocks_of, enclosing_of}
+use Rattle.go_switch_statements.specs.go_walks.Below.{blocks_of, enclosing_of}
 use Rattle.std.proofs.Common.{subst, sym}
 use Rattle.go_blocks.proofs.statements.statements.Goals as goal
 

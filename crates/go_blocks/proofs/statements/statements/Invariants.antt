@@ -3,7 +3,7 @@ use Rattle.go_blocks.proofs.Placed.{StatementsOn}
 use Rattle.go_local_scopes.specs.States.{IsAt, Kept}
 use Rattle.go_rules.specs.Environments.{Env}
 use Rattle.go_statement_rules.specs.Scopes.{Scopes}
-use Rattle.go_walks.specs.Below.{blocks_of, enclosing_of}
+use Rattle.go_switch_statements.specs.go_walks.Below.{blocks_of, enclosing_of}
 use Rattle.go_blocks.proofs.statements.statements.Given as goal
 
 abbrev pub invariant-loop-one : goal.invariant-loop-one

@@ -4,7 +4,7 @@ use Rattle.go_bodies.specs.Reads.{FindsBody}
 use Rattle.go_bodies.proofs.Handing.{finds_not}
 use Rattle.go_bodies.proofs.Outcomes.{more_tokens, no_body, whole_body}
 use Rattle.go_bodies.proofs.bodies.body.Goals as goal
-use Rattle.go_stmt_descent.specs.Statements.{statements}
+use Rattle.go_stmts.specs.go_stmt_descent.Statements.{statements}
 use Rattle.go_syntax.specs.declared.statement.ParsedBody.{ParsedBody}
 use Rattle.go_syntax.specs.declared.token.Token.{Token}
 use Rattle.go_syntax.specs.grammar.Terminals.{Terminal, terminals}

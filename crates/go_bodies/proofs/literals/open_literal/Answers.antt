@@ -4,7 +4,7 @@ use Rattle.go_bodies.proofs.Handing.{opens_not}
 use Rattle.go_bodies.proofs.Outcomes.{no_block, opens_a_block}
 use Rattle.go_bodies.proofs.literals.open_literal.Goals as goal
 use Rattle.go_function_literals.specs.declared.place.LiteralPlace.{LiteralPlace}
-use Rattle.go_stmt_descent.specs.Statements.{statements}
+use Rattle.go_stmts.specs.go_stmt_descent.Statements.{statements}
 use Rattle.go_syntax.specs.declared.token.Token.{Token}
 use Rattle.go_syntax.specs.grammar.Terminals.{Terminal, terminals}
 

@@ -1,7 +1,7 @@
 use Rattle.go_rules.specs.Scopes.{env_of}
 use Rattle.go_calls.specs.Builtins.{Appends}
 use Rattle.std.proofs.Common.{◌∷◌}
-use Rattle.go_operators.proofs.Answers.{same_answer}
+use Rattle.go_elements.proofs.go_operators_proofs.Answers.{same_answer}
 use Rattle.go_calls.proofs.Appending.{append_no_type, append_no_slice, append_gives}
 use Rattle.go_calls.proofs.append.append_to.Goals as goal
 

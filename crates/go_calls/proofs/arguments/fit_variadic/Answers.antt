@@ -1,5 +1,5 @@
 use Rattle.go_rules.specs.Scopes.{env_of}
-use Rattle.go_operators.proofs.Answers.{decided_true, decided_false}
+use Rattle.go_elements.proofs.go_operators_proofs.Answers.{decided_true, decided_false}
 use Rattle.go_calls.specs.inner.Arguments.{UsableEach}
 use Rattle.go_calls.proofs.Calling.{variadic_few, variadic_no_fixed, variadic_decides}
 use Rattle.go_calls.proofs.arguments.fit_variadic.Goals as goal

@@ -1,6 +1,6 @@
 use Rattle.go_rules.specs.Scopes.{env_of}
 use Rattle.go_calls.specs.Builtins.{Deletes}
-use Rattle.go_operators.proofs.Answers.{same_answer}
+use Rattle.go_elements.proofs.go_operators_proofs.Answers.{same_answer}
 use Rattle.go_calls.proofs.Building.{delete_no_type, delete_no_map, delete_gives}
 use Rattle.go_calls.proofs.builtins.delete.Goals as goal
 

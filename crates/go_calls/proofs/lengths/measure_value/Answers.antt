@@ -1,7 +1,7 @@
 use Rattle.go_rules.specs.Scopes.{env_of}
 use Rattle.std.proofs.Common.{sym}
 use Rattle.go_calls.specs.inner.Lengths.{MeasuresValue}
-use Rattle.go_operators.proofs.Answers.{same_answer}
+use Rattle.go_elements.proofs.go_operators_proofs.Answers.{same_answer}
 use Rattle.go_calls.proofs.Measuring.{value_of_constant, value_gives}
 use Rattle.go_calls.proofs.lengths.measure_value.Goals as goal
 

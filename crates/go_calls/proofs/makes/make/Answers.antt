@@ -1,7 +1,7 @@
 use Rattle.std.proofs.Common.{refl}
 use Rattle.go_rules.specs.Scopes.{env_of}
 use Rattle.go_calls.specs.Builtins.{MakesOf}
-use Rattle.go_operators.proofs.Answers.{same_answer}
+use Rattle.go_elements.proofs.go_operators_proofs.Answers.{same_answer}
 use Rattle.go_calls.proofs.Making.{make_no_type, make_not_taken, make_like}
 use Rattle.go_calls.proofs.makes.make.Goals as goal
 

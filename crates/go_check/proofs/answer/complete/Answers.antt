@@ -1,6 +1,6 @@
 use Rattle.std.proofs.Common.{List, subst, sym}
 use Rattle.go_check.proofs.NothingLeftOut.{nothing_left_out}
-use Rattle.go_entries.specs.HadEntries.{entries_at}
+use Rattle.go_packages.specs.go_entries.HadEntries.{entries_at}
 use Rattle.go_exposed.specs.SkippedValues.{all_skipped}
 use Rattle.go_exposed.specs.SkippedWorlds.{IsSkipped}
 use Rattle.go_exposed.specs.declared.skipped.Skipped.{Skipped}

@@ -1,6 +1,6 @@
 use Rattle.std.proofs.Common.{◌≡◌, subst, sym}
 use Rattle.go_check.proofs.LeftEntries.{left_entries}
-use Rattle.go_entries.specs.HadEntries.{entries_at}
+use Rattle.go_packages.specs.go_entries.HadEntries.{entries_at}
 use Rattle.go_exposed.specs.KeptDeclarations.{entries_of, not_lost}
 use Rattle.go_exposed.specs.OfferedPackages.{IsPackageOf}
 use Rattle.go_graphs.specs.Flags.{is_flagged}

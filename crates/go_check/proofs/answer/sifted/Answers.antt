@@ -4,7 +4,7 @@ use Rattle.go_check.proofs.MovedScopes.{moved_scope}
 use Rattle.go_check.proofs.WrongOnes.{may_leave_out, wrong_counts, wrong_lost}
 use Rattle.go_declarations.specs.Listings.{declaration_of}
 use Rattle.go_declarations.specs.declared.listing.Declaration.{Declaration}
-use Rattle.go_entries.specs.HadEntries.{entries_at}
+use Rattle.go_packages.specs.go_entries.HadEntries.{entries_at}
 use Rattle.go_exposed.specs.ExposedDeclarations.{IsExposed}
 use Rattle.go_exposed.specs.ToldBeyond.{IsToldBeyond}
 use Rattle.go_graphs.specs.Flags.{AreFlagsOf, is_flagged}

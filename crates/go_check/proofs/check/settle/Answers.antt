@@ -3,7 +3,7 @@ use Rattle.go_check.proofs.ListedDeclarations.{listed_length}
 use Rattle.go_check.proofs.MovedScopes.{moved_scope}
 use Rattle.go_check.proofs.SameSettings.{all_given, kept_given, same_setting}
 use Rattle.go_check.specs.Answers.{setting}
-use Rattle.go_entries.specs.HadEntries.{entries_at}
+use Rattle.go_packages.specs.go_entries.HadEntries.{entries_at}
 use Rattle.go_package_entries.specs.PackageStates.{had_in, scopes_in}
 use Rattle.go_package_entries.specs.Settings.{setting_of}
 use Rattle.go_sources.specs.UnitSources.{source_of}

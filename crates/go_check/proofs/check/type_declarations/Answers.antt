@@ -1,6 +1,6 @@
 use Rattle.std.proofs.Common.{Bool, List, ap, length, subst, sym, ◌∙◌}
 use Rattle.go_check.specs.Answers.{setting}
-use Rattle.go_entries.specs.HadEntries.{entries_at}
+use Rattle.go_packages.specs.go_entries.HadEntries.{entries_at}
 use Rattle.go_graphs.specs.Flags.{is_flagged}
 use Rattle.go_soundness.specs.Settled.{AreSifted}
 use Rattle.go_sources.specs.UnitSources.{source_of}

@@ -1,6 +1,6 @@
 use Rattle.std.proofs.Common.{◌≡◌, ℕ, None, length}
 use Rattle.std.specs.Prelude.{◌&&◌, if◌then◌else◌, nat_lt}
-use Rattle.go_entries.specs.HadEntries.{entries_at}
+use Rattle.go_packages.specs.go_entries.HadEntries.{entries_at}
 use Rattle.go_graphs.specs.Flags.{is_flagged}
 use Rattle.go_check.proofs.kept.leave_only.Given as goal
 

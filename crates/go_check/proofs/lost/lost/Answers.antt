@@ -1,7 +1,7 @@
 use Rattle.std.proofs.Common.{◌≡◌, ℕ, Bool, true, List, length, sym, ◌∙◌, subst}
 use Rattle.go_met.proofs.MetFlags.{moved_on}
 use Rattle.go_graphs.specs.Flags.{AreFlagsOf}
-use Rattle.go_entries.specs.HadEntries.{entries_at}
+use Rattle.go_packages.specs.go_entries.HadEntries.{entries_at}
 use Rattle.go_sifting.specs.Graphs.{Stands}
 use Rattle.go_soundness.specs.LostDeclarations.{MeetsAsks}
 use Rattle.go_soundness.specs.Settled.{is_had}

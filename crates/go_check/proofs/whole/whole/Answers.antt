@@ -2,7 +2,7 @@ use Rattle.std.proofs.Common.{◌≡◌, ◌<◌, subst, sym}
 use Rattle.go_declarations.specs.Listings.{declaration_of}
 use Rattle.go_declarations.specs.declared.listing.Declaration.{Declaration}
 use Rattle.go_graphs.specs.Flags.{is_flagged}
-use Rattle.go_entries.specs.HadEntries.{entries_at}
+use Rattle.go_packages.specs.go_entries.HadEntries.{entries_at}
 use Rattle.go_exposed.proofs.WholePackages.{none_missing}
 use Rattle.go_sources.specs.UnitSources.{source_of}
 use Rattle.go_typings.proofs.FoundImports.{are_found}

@@ -1,4 +1,4 @@
-use Rattle.go_entries.proofs.Zipped.{zipped_begins, zipped_first, zipped_next, zipped_whole}
+use Rattle.go_assignments.proofs.go_entries_proofs.Zipped.{zipped_begins, zipped_first, zipped_next, zipped_whole}
 use Rattle.go_statement_rules.specs.Clauses.{Lists, ListsAll}
 use Rattle.go_type_terms.specs.Answers.{env_in}
 use Rattle.go_type_terms.proofs.Handed.{told_told}

@@ -1,5 +1,5 @@
 use Rattle.std.proofs.Common.{drop}
-use Rattle.go_entries.proofs.Zipped.{Zipped}
+use Rattle.go_assignments.proofs.go_entries_proofs.Zipped.{Zipped}
 use Rattle.go_statement_rules.specs.Clauses.{Lists}
 use Rattle.go_type_terms.specs.Answers.{env_in}
 use Rattle.go_clauses.proofs.guards.all_listed.Given as goal

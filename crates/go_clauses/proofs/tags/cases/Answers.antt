@@ -1,4 +1,4 @@
-use Rattle.go_asks.proofs.Both.{first_fails, second_decides}
+use Rattle.go_assignments.proofs.go_asks_proofs.Both.{first_fails, second_decides}
 use Rattle.go_base.specs.Lists.{Each}
 use Rattle.go_statement_rules.specs.Clauses.{IsCase}
 use Rattle.go_type_terms.specs.Answers.{env_in}

@@ -1,4 +1,4 @@
-use Rattle.go_asks.proofs.EmbeddedTypes.{none_told}
+use Rattle.go_assignments.proofs.go_asks_proofs.EmbeddedTypes.{none_told}
 use Rattle.go_rules.specs.Expressions.{Has}
 use Rattle.go_type_terms.specs.Answers.{env_in}
 use Rattle.go_assignments.proofs.Decided.{decided_as}

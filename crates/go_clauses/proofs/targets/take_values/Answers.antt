@@ -1,5 +1,5 @@
 use Rattle.std.proofs.Common.{◌∙◌, List, map, subst}
-use Rattle.go_asks.proofs.Both.{first_fails, second_decides}
+use Rattle.go_assignments.proofs.go_asks_proofs.Both.{first_fails, second_decides}
 use Rattle.go_rules.specs.Operands.{plain}
 use Rattle.go_rules.specs.declared.operand.Operand.{Operand}
 use Rattle.go_selectors.specs.Answers.{Decides}

@@ -2,7 +2,7 @@ use Rattle.std.proofs.Common.{ℕ, List, [], Ok, Err, get_or, subst}
 use Rattle.go_client_files.specs.ClientFiles.{ReadsClient}
 use Rattle.go_client_units.proofs.JoinedClients.{read_alike, read_answered, read_few, refused_answered}
 use Rattle.go_client_units.specs.inner.Walks.{AreWalked, Refuses}
-use Rattle.go_reading.specs.inner.Heads.{IsHeadedReading}
+use Rattle.go_client_files.specs.go_reading.inner.Heads.{IsHeadedReading}
 use Rattle.go_units.specs.declared.folder.Folder.{Folder}
 use Rattle.go_client_units.proofs.units.client_units.Goals as goal
 

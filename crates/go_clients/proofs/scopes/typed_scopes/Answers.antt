@@ -1,9 +1,9 @@
 use Rattle.go_check.proofs.SameSettings.{all_given, kept_given, same_setting}
 use Rattle.go_client_typings.specs.Clients.{setting}
 use Rattle.go_clients.proofs.FoundBodies.{keeps_typing}
-use Rattle.go_entries.specs.HadEntries.{entries_at}
-use Rattle.go_package_entries.specs.PackageStates.{had_in, scopes_in}
-use Rattle.go_package_entries.specs.Settings.{setting_of}
+use Rattle.go_blocks.specs.go_entries.HadEntries.{entries_at}
+use Rattle.go_check.specs.go_package_entries.PackageStates.{had_in, scopes_in}
+use Rattle.go_check.specs.go_package_entries.Settings.{setting_of}
 use Rattle.go_sources.specs.UnitSources.{source_of}
 use Rattle.go_clients.proofs.scopes.typed_scopes.Goals as goal
 

@@ -4,7 +4,7 @@ use Rattle.go_asks.proofs.EmbeddedTypes.{none_told}
 use Rattle.go_rules.specs.Usability.{UsableAs}
 use Rattle.go_rules.specs.declared.operand.Operand.{Operand}
 use Rattle.go_selectors.specs.Answers.{Decides}
-use Rattle.go_operators.proofs.Answers.{decided_false, decided_true}
+use Rattle.go_asks.proofs.go_operators_proofs.Answers.{decided_false, decided_true}
 use Rattle.go_type_terms.specs.Answers.{env_in}
 use Rattle.go_declaration_asks.proofs.UsableValues.{usable_empty, usable_given, usable_none}
 use Rattle.go_declaration_asks.specs.inner.Values.{GivesValues}

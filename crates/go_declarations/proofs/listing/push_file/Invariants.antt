@@ -1,5 +1,5 @@
 use Rattle.std.proofs.Common.{◌≡◌, ◌++◌, drop, map}
-use Rattle.go_base.specs.Gathered.{gather}
+use Rattle.go_typings.specs.go_base.Gathered.{gather}
 use Rattle.go_declarations.specs.Listings.{declarations_of}
 use Rattle.go_typings.specs.Declarations.{forms, in_file}
 use Rattle.go_declarations.proofs.listing.push_file.Given as goal

@@ -1,4 +1,4 @@
-use Rattle.go_operators.proofs.Answers.{decided_true}
+use Rattle.go_expr.proofs.go_operators_proofs.Answers.{decided_true}
 use Rattle.go_rules.specs.Usability.{UsableAs}
 use Rattle.go_type_terms.specs.Answers.{env_in}
 use Rattle.go_type_terms.proofs.NamedTypes.{same_tells}

@@ -1,8 +1,8 @@
 use Rattle.std.proofs.Common.{ℕ, List, sym, subst}
-use Rattle.go_elements.proofs.Posts.{post_selects, selects_post}
-use Rattle.go_elements.specs.Selections.{Selects}
-use Rattle.go_operators.proofs.Answers.{found_none, found_some}
-use Rattle.go_type_terms.specs.Answers.{env_in}
+use Rattle.go_calls.proofs.go_elements_proofs.Posts.{post_selects, selects_post}
+use Rattle.go_calls.specs.go_elements.Selections.{Selects}
+use Rattle.go_calls.proofs.go_operators_proofs.Answers.{found_none, found_some}
+use Rattle.go_literals.specs.go_type_terms.Answers.{env_in}
 use Rattle.go_expr.proofs.post.selected.Goals as goal
 
 pub returns-in-Some : goal.returns-in-Some

@@ -1,6 +1,6 @@
 use Rattle.go_rules.specs.Expressions.{DenotesImported}
-use Rattle.go_type_terms.specs.Answers.{env_in}
-use Rattle.go_type_terms.proofs.Handed.{told_told}
+use Rattle.go_literals.specs.go_type_terms.Answers.{env_in}
+use Rattle.go_literals.proofs.go_type_terms_proofs.Handed.{told_told}
 use Rattle.go_expr.specs.Imports.{ImportedWithin}
 use Rattle.go_expr.proofs.primary.imported_within.Goals as goal
 

@@ -1,4 +1,4 @@
-use Rattle.go_type_terms.specs.Answers.{env_in}
+use Rattle.go_literals.specs.go_type_terms.Answers.{env_in}
 use Rattle.go_expr.proofs.ChainSteps.{imported_named, imported_none}
 use Rattle.go_expr.proofs.typing.type_imported.Goals as goal
 

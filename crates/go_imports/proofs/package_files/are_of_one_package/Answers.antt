@@ -2,7 +2,7 @@ use Rattle.std.proofs.Common.{◌<◌, length, get_or, ap, sym, ◌∙◌, arith
 use Rattle.std.proofs.lemmas.Bool.Decides.{nat_tests}
 use Rattle.go_imports.proofs.Members.{has_at}
 use Rattle.go_imports.proofs.Files.{one_package, not_one}
-use Rattle.go_syntax.specs.declared.declaration.File.{File}
+use Rattle.go_references.specs.go_syntax.declared.declaration.File.{File}
 use Rattle.go_imports.proofs.package_files.are_of_one_package.Goals as goal
 
 pub returns : goal.returns

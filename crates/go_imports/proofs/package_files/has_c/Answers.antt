@@ -1,6 +1,6 @@
 use Rattle.std.proofs.Common.{sym, arith}
 use mathlib.Core.Bool.{true≢false}
-use Rattle.go_syntax.specs.declared.declaration.ImportSpec.{ImportSpec}
+use Rattle.go_references.specs.go_syntax.declared.declaration.ImportSpec.{ImportSpec}
 use Rattle.go_imports.specs.PackageFiles.{IsC}
 use Rattle.go_imports.proofs.Files.{each_more, each_whole, has_item}
 use Rattle.go_imports.proofs.package_files.has_c.Goals as goal

@@ -1,5 +1,5 @@
 use Rattle.std.proofs.Common.{List, subst}
-use Rattle.go_syntax.specs.declared.declaration.ImportSpec.{ImportSpec}
+use Rattle.go_references.specs.go_syntax.declared.declaration.ImportSpec.{ImportSpec}
 use Rattle.go_imports.specs.PackageFiles.{HasC}
 use Rattle.go_imports.specs.Answers.{Decides}
 use Rattle.go_imports.proofs.package_files.imports_c.Goals as goal

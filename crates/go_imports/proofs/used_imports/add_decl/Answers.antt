@@ -2,8 +2,8 @@ use Rattle.std.proofs.Common.{List, subst, sym}
 use Rattle.std.specs.Result.{OnOk}
 use Rattle.go_base.specs.Growing.{Grows}
 use Rattle.go_base.specs.Lists.{Has}
-use Rattle.go_syntax.specs.declared.declaration.Decl.{Decl}
-use Rattle.go_syntax.specs.declared.declaration.TypeSpec.{TypeSpec}
+use Rattle.go_references.specs.go_syntax.declared.declaration.Decl.{Decl}
+use Rattle.go_references.specs.go_syntax.declared.declaration.TypeSpec.{TypeSpec}
 use Rattle.go_imports.specs.UsedImports.{IsDeclaredBy}
 use Rattle.go_imports.specs.inner.Uses.{IsTypeNameIn}
 use Rattle.go_imports.proofs.used_imports.add_decl.Goals as goal

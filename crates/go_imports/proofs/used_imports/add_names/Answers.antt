@@ -1,6 +1,6 @@
 use Rattle.std.proofs.Common.{◌≡◌, ℕ, List}
 use Rattle.go_base.specs.Lists.{Has}
-use Rattle.go_syntax.specs.declared.name.Name.{Name}
+use Rattle.go_references.specs.go_syntax.declared.name.Name.{Name}
 use Rattle.go_imports.proofs.GrowingSets.{grows_next_where}
 use Rattle.go_imports.proofs.used_imports.add_names.Goals as goal
 

@@ -1,7 +1,7 @@
 use Rattle.std.proofs.Common.{List, subst}
 use Rattle.go_base.specs.Growing.{Grows}
 use Rattle.go_base.specs.Lists.{Has}
-use Rattle.go_syntax.specs.declared.name.Name.{Name}
+use Rattle.go_references.specs.go_syntax.declared.name.Name.{Name}
 use Rattle.go_imports.specs.UsedImports.{IsNameIn, IsVarName}
 use Rattle.go_imports.proofs.GrowingSets.{grows_next_where}
 use Rattle.go_imports.proofs.used_imports.add_vars.Goals as goal

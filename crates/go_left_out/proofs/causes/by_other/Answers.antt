@@ -1,5 +1,5 @@
 use Rattle.std.proofs.Common.{arith, sym, ◌∙◌, ap}
-use Rattle.go_beyond.proofs.DecidedFlags.{borrowed_at}
+use Rattle.go_import_uses.proofs.go_beyond_proofs.DecidedFlags.{borrowed_at}
 use Rattle.go_declarations.specs.Forms.{form_of}
 use Rattle.go_declarations.specs.Listings.{declaration_of}
 use Rattle.go_declarations.specs.declared.listing.Declaration.{Declaration as Borrowed}

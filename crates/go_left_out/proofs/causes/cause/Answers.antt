@@ -9,7 +9,7 @@ use Rattle.go_left_out.proofs.ToldCauses.{inexact_cause, missing_cause, number_c
 use Rattle.go_left_out.specs.inner.Causes.{IsBy}
 use Rattle.go_reach.specs.LeastOthers.{IsLeastOther}
 use Rattle.go_typings.specs.Declarations.{Declaration, declarations}
-use Rattle.go_beyond.proofs.DecidedFlags.{listed_length}
+use Rattle.go_import_uses.proofs.go_beyond_proofs.DecidedFlags.{listed_length}
 use Rattle.go_left_out.proofs.causes.cause.Goals as goal
 
 pub returns-then-is_number : goal.returns-then-is_number

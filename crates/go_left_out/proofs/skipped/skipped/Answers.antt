@@ -1,5 +1,5 @@
 use Rattle.std.proofs.Common.{◌<◌, ◌≤◌, ◌+◌, List, ℕ, ap, arith, length, sym, subst, inl, inr}
-use Rattle.go_beyond.proofs.DecidedFlags.{listed_length}
+use Rattle.go_import_uses.proofs.go_beyond_proofs.DecidedFlags.{listed_length}
 use Rattle.go_declarations.specs.Listings.{declarations_of}
 use Rattle.go_exposed.specs.SkippedValues.{cause_of}
 use Rattle.go_exposed.specs.declared.skipped.Skipped.{Skipped}

@@ -1,5 +1,5 @@
 use Rattle.std.proofs.Common.{◌∙◌, ap}
-use Rattle.go_beyond.proofs.DecidedFlags.{borrowed_at}
+use Rattle.go_import_uses.proofs.go_beyond_proofs.DecidedFlags.{borrowed_at}
 use Rattle.go_declarations.specs.Listings.{declaration_of}
 use Rattle.go_rules.specs.Asks.{texts}
 use Rattle.go_left_out.proofs.skipped.skipped_at.Goals as goal

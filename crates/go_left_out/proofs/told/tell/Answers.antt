@@ -1,12 +1,12 @@
 use Rattle.std.proofs.Common.{Bool, List, ℕ, length, subst, sym, ap, ◌∙◌}
-use Rattle.go_beyond.proofs.DecidedFlags.{listed_length}
-use Rattle.go_beyond.specs.Numbers.{HasNumberAt}
+use Rattle.go_import_uses.proofs.go_beyond_proofs.DecidedFlags.{listed_length}
+use Rattle.go_import_uses.specs.go_beyond.Numbers.{HasNumberAt}
 use Rattle.go_declarations.specs.Listings.{declarations_of}
 use Rattle.go_exposed.specs.Causes.{IsToldInexact}
 use Rattle.go_exposed.specs.ToldBeyond.{IsToldBeyond}
 use Rattle.go_graphs.specs.Flags.{AreFlagsOf}
 use Rattle.go_import_uses.specs.Selecting.{SelectsMissingAt}
-use Rattle.go_sources.specs.UnitSources.{source_of}
+use Rattle.go_import_uses.specs.go_sources.UnitSources.{source_of}
 use Rattle.go_typings.specs.Declarations.{Declaration, declarations}
 use Rattle.go_left_out.proofs.told.tell.Goals as goal
 

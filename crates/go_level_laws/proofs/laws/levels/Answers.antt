@@ -1,4 +1,4 @@
-use Rattle.go_std_worlds.proofs.OwnPaths.{own_paths}
+use Rattle.go_unit_worlds.proofs.go_std_worlds_proofs.OwnPaths.{own_paths}
 use Rattle.go_level_laws.proofs.SomeLevels.{some_levels}
 use Rattle.go_level_laws.proofs.UnitLevels.{one_level, units_rise}
 use Rattle.go_level_laws.proofs.laws.levels.Goals as goal

@@ -2,8 +2,8 @@ use Rattle.std.proofs.Common.{◌≡◌, ◌∷◌, [], ◌++◌, ◌+◌, ◌�
 use Rattle.go_base.specs.Lists.{Has}
 use Rattle.go_rules.specs.Names.{Named, with_value}
 use Rattle.go_sources.specs.UnitSources.{source_of}
-use Rattle.go_std_worlds.proofs.OwnPaths.{own_paths}
-use Rattle.go_std_worlds.specs.StdSources.{HaveOwnPaths}
+use Rattle.go_level_laws.proofs.go_std_worlds_proofs.OwnPaths.{own_paths}
+use Rattle.go_level_laws.specs.go_std_worlds.StdSources.{HaveOwnPaths}
 use Rattle.go_units.specs.declared.unit.«Unit».{«Unit» as PackageUnit}
 use Rattle.go_levels.specs.UnitLevels.{IsLeastOver}
 use Rattle.go_levels.proofs.LevelLists.{get_at}

@@ -1,4 +1,4 @@
-use Rattle.go_type_terms.specs.Answers.{env_in}
+use Rattle.go_operations.specs.go_type_terms.Answers.{env_in}
 use Rattle.go_literals.proofs.KeyedFields.{takes_at, takes_next}
 use Rattle.go_literals.proofs.fields.takes.Goals as goal
 

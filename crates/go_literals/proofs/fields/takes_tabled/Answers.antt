@@ -1,4 +1,4 @@
-use Rattle.go_type_terms.specs.Answers.{env_in}
+use Rattle.go_operations.specs.go_type_terms.Answers.{env_in}
 use Rattle.go_literals.proofs.FieldTables.{tabled_none, tabled_some}
 use Rattle.go_literals.proofs.fields.takes_tabled.Goals as goal
 

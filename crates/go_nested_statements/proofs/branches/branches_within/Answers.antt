@@ -4,7 +4,7 @@ use Rattle.go_local_scopes.proofs.Standing.{kept_at, kept_on, kept_opened, kept_
 use Rattle.go_nested_statements.proofs.Branched.{if_failed, if_followed}
 use Rattle.go_statement_rules.specs.Scopes.{opened}
 use Rattle.go_syntax.specs.declared.statement.StmtKind.{StmtKind-F}
-use Rattle.go_walks.specs.Below.{blocks_of, enclosing_of}
+use Rattle.go_flat_statements.specs.go_walks.Below.{blocks_of, enclosing_of}
 use Rattle.std.proofs.Common.{ap, ◌∙◌}
 use Rattle.go_nested_statements.proofs.branches.branches_within.Goals as goal
 

@@ -7,8 +7,8 @@ use Rattle.go_nodes.specs.Trees.{nodes_in}
 use Rattle.go_rules.specs.Nodes.{expression}
 use Rattle.go_statement_rules.specs.Statements.{IsCondition, tag_nodes}
 use Rattle.go_untyped_places.specs.LiteralRuns.{IsLiteralRun}
-use Rattle.go_walks.proofs.Gathered.{literals_as}
-use Rattle.go_walks.specs.Below.{blocks_of, enclosing_of}
+use Rattle.go_flat_statements.proofs.go_walks_proofs.Gathered.{literals_as}
+use Rattle.go_flat_statements.specs.go_walks.Below.{blocks_of, enclosing_of}
 use Rattle.std.proofs.Common.{◌∷◌, [], Some}
 use Rattle.go_nested_statements.proofs.conditions.condition_here.Goals as goal
 

@@ -9,7 +9,7 @@ use Rattle.go_statement_rules.specs.Scopes.{Scopes}
 use Rattle.go_statement_rules.specs.Statements.{IsCondition, tag_nodes}
 use Rattle.go_syntax.specs.declared.expression.Expr.{Expr}
 use Rattle.go_untyped_places.specs.LiteralRuns.{IsLiteralRun}
-use Rattle.go_walks.specs.Below.{blocks_of, enclosing_of}
+use Rattle.go_flat_statements.specs.go_walks.Below.{blocks_of, enclosing_of}
 use Rattle.std.proofs.Common.{None, Option, subst, sym}
 use Rattle.std.specs.Prelude.{true, IfOk}
 use denote.Ref.{Bor}

@@ -8,7 +8,7 @@ use Rattle.go_rules.specs.Scopes.{Scopes as Known}
 use Rattle.go_statement_rules.specs.Contexts.{Decides}
 use Rattle.go_statement_rules.specs.Scopes.{opened}
 use Rattle.go_statement_rules.specs.Statements.{tag_nodes}
-use Rattle.go_walks.specs.Below.{blocks_of, enclosing_of}
+use Rattle.go_flat_statements.specs.go_walks.Below.{blocks_of, enclosing_of}
 use Rattle.std.proofs.Common.{ap}
 use Rattle.go_nested_statements.proofs.headers.decided.Goals as goal
 

@@ -1,7 +1,7 @@
 use Rattle.go_flat_statements.specs.Judging.{JudgesKind}
 use Rattle.go_local_scopes.proofs.Standing.{closed_same, kept_opened, opened_some, opened_told}
 use Rattle.go_syntax.specs.declared.statement.StmtKind.{StmtKind-F}
-use Rattle.go_walks.specs.Below.{blocks_of, enclosing_of}
+use Rattle.go_flat_statements.specs.go_walks.Below.{blocks_of, enclosing_of}
 use Rattle.go_nested_statements.proofs.loops.counted.Goals as goal
 
 pub counted_within-judged-requires-clause-opened : goal.counted_within-judged-requires-clause-opened

@@ -10,7 +10,7 @@ use Rattle.go_statement_rules.specs.Scopes.{opened}
 use Rattle.go_statement_rules.specs.Statements.{tag_nodes}
 use Rattle.go_syntax.specs.declared.expression.Expr.{Expr}
 use Rattle.go_syntax.specs.declared.statement.StmtKind.{StmtKind-F}
-use Rattle.go_walks.specs.Below.{blocks_of, enclosing_of}
+use Rattle.go_flat_statements.specs.go_walks.Below.{blocks_of, enclosing_of}
 use Rattle.std.proofs.Common.{Option, ap, subst, ◌∙◌}
 use Rattle.go_nested_statements.proofs.loops.counted_within.Goals as goal
 

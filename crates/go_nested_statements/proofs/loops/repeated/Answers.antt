@@ -8,7 +8,7 @@ use Rattle.go_statement_rules.specs.Statements.{IsCondition, tag_nodes}
 use Rattle.go_syntax.specs.declared.expression.Expr.{Expr}
 use Rattle.go_syntax.specs.declared.statement.StmtKind.{StmtKind-F}
 use Rattle.go_untyped_places.specs.LiteralRuns.{IsLiteralRun}
-use Rattle.go_walks.specs.Below.{blocks_of, enclosing_of}
+use Rattle.go_flat_statements.specs.go_walks.Below.{blocks_of, enclosing_of}
 use Rattle.std.proofs.Common.{Option, subst, ◌∙◌}
 use Rattle.go_nested_statements.proofs.loops.repeated.Goals as goal
 

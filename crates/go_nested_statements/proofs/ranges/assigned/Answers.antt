@@ -7,8 +7,8 @@ use Rattle.go_nested_statements.specs.Ranging.{AssignsRange}
 use Rattle.go_nodes.specs.Trees.{nodes_in}
 use Rattle.go_rules.specs.Nodes.{expression}
 use Rattle.go_syntax.specs.declared.statement.StmtKind.{StmtKind-F}
-use Rattle.go_walks.proofs.Gathered.{literals_as}
-use Rattle.go_walks.specs.Below.{blocks_of, enclosing_of}
+use Rattle.go_flat_statements.proofs.go_walks_proofs.Gathered.{literals_as}
+use Rattle.go_flat_statements.specs.go_walks.Below.{blocks_of, enclosing_of}
 use Rattle.std.proofs.Common.{◌∷◌, ◌∙◌, ap, map, sym}
 use Rattle.go_nested_statements.proofs.ranges.assigned.Goals as goal
 

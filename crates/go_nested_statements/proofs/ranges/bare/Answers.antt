@@ -8,8 +8,8 @@ use Rattle.go_nested_statements.proofs.Ranged.{bare_failed, bare_followed, bare_
 use Rattle.go_nodes.specs.Trees.{nodes_in}
 use Rattle.go_rules.specs.Nodes.{expression}
 use Rattle.go_syntax.specs.declared.statement.StmtKind.{StmtKind-F}
-use Rattle.go_walks.proofs.Gathered.{literals_as}
-use Rattle.go_walks.specs.Below.{blocks_of, enclosing_of}
+use Rattle.go_flat_statements.proofs.go_walks_proofs.Gathered.{literals_as}
+use Rattle.go_flat_statements.specs.go_walks.Below.{blocks_of, enclosing_of}
 use Rattle.std.proofs.Common.{◌∷◌, ◌∙◌, [], ap, sym}
 use Rattle.std.specs.Prelude.{List}
 use Rattle.go_nested_statements.proofs.ranges.bare.Goals as goal

@@ -13,8 +13,8 @@ use Rattle.go_rules.specs.Scopes.{env_of}
 use Rattle.go_selectors.specs.Answers.{Decides}
 use Rattle.go_statement_rules.specs.Scopes.{opened}
 use Rattle.go_syntax.specs.declared.statement.StmtKind.{StmtKind-F}
-use Rattle.go_walks.proofs.Gathered.{literals_as}
-use Rattle.go_walks.specs.Below.{blocks_of, enclosing_of}
+use Rattle.go_flat_statements.proofs.go_walks_proofs.Gathered.{literals_as}
+use Rattle.go_flat_statements.specs.go_walks.Below.{blocks_of, enclosing_of}
 use Rattle.std.proofs.Common.{◌∷◌, ◌∙◌, ◌≤◌, [], List, ap, false, length, subst, sym}
 use Rattle.go_nested_statements.proofs.ranges.defined.Goals as goal
 

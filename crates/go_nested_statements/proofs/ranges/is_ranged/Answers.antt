@@ -1,4 +1,4 @@
-use Rattle.go_assignments.proofs.Decided.{gives_decides}
+use Rattle.go_clauses.proofs.go_assignments_proofs.Decided.{gives_decides}
 use Rattle.go_clauses.specs.Clauses.{RangesOver}
 use Rattle.go_rules.specs.Scopes.{env_of}
 use Rattle.go_nested_statements.proofs.ranges.is_ranged.Goals as goal

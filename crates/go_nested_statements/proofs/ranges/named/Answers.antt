@@ -2,7 +2,7 @@ use Rattle.go_judged.specs.Judging.{Judges}
 use Rattle.go_local_scopes.proofs.Standing.{closed_same, kept_opened, opened_some, opened_told}
 use Rattle.go_nested_statements.specs.Ranging.{IsTypedNamed, NamedRun}
 use Rattle.go_statement_rules.specs.Scopes.{opened}
-use Rattle.go_walks.specs.Below.{blocks_of, enclosing_of}
+use Rattle.go_flat_statements.specs.go_walks.Below.{blocks_of, enclosing_of}
 use Rattle.go_nested_statements.proofs.ranges.named.Goals as goal
 
 pub named_within-judged-requires-clause-opened : goal.named_within-judged-requires-clause-opened

@@ -9,7 +9,7 @@ use Rattle.go_rules.specs.Environments.{Env}
 use Rattle.go_statement_rules.specs.Functions.{run}
 use Rattle.go_statement_rules.specs.Scopes.{Scopes, opened}
 use Rattle.go_statement_rules.specs.Statements.{IsTypedBlock}
-use Rattle.go_walks.specs.Below.{blocks_of, enclosing_of}
+use Rattle.go_flat_statements.specs.go_walks.Below.{blocks_of, enclosing_of}
 use Rattle.std.proofs.Common.{◌≡◌, false}
 use Rattle.std.proofs.lemmas.Result.{IfOk-weaker}
 use Rattle.go_nested_statements.proofs.ranges.named_within.Goals as goal

@@ -1,5 +1,5 @@
 use Rattle.go_clauses.specs.Clauses.{TakesValues}
-use Rattle.go_walks.proofs.Told.{asked_so}
+use Rattle.go_flat_statements.proofs.go_walks_proofs.Told.{asked_so}
 use Rattle.go_nested_statements.proofs.ranges.takes_values.Goals as goal
 
 pub returns : goal.returns

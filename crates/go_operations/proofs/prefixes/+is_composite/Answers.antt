@@ -2,7 +2,7 @@ use Rattle.std.proofs.Common.{ap, ◌∙◌}
 use Rattle.go_rules.specs.Expressions.{composite, composite_array}
 use Rattle.go_syntax.specs.declared.expression.Expr.{out-Expr}
 use Rattle.go_syntax.specs.declared.expression.Expr.TheVariants.{outs-Composite, outs-CompositeArray, outs-Paren}
-use Rattle.go_selectors.specs.Answers.{Decides}
+use Rattle.go_operators.specs.go_selectors.Answers.{Decides}
 use Rattle.go_operations.proofs.Prefixed.{paren_is}
 use Rattle.go_operations.proofs.prefixes.+is_composite.Goals as goal
 

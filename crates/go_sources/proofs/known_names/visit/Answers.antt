@@ -1,5 +1,5 @@
 use Rattle.std.proofs.Common.{ap, ◌∙◌, sym}
-use Rattle.go_rules.specs.Expressions.{is_blank}
+use Rattle.go_typings.specs.go_rules.Expressions.{is_blank}
 use Rattle.go_sources.specs.inner.KnownNames.{keys_of, role_of}
 use Rattle.go_sources.proofs.Barring.{barred_steps, free_steps}
 use Rattle.go_sources.proofs.known_names.visit.Goals as goal

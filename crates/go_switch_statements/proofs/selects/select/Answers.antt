@@ -1,5 +1,5 @@
 use Rattle.go_base.specs.Lists.{Each}
-use Rattle.go_flat_statements.specs.Judging.{JudgesKind}
+use Rattle.go_nested_statements.specs.go_flat_statements.Judging.{JudgesKind}
 use Rattle.go_judged.specs.Judging.{Among, Judges}
 use Rattle.go_judged.specs.declared.judged.Judged.{Judged}
 use Rattle.go_local_scopes.specs.States.{IsAt}

@@ -1,4 +1,4 @@
-use Rattle.go_clauses.specs.Clauses.{AreCasesOf}
+use Rattle.go_type_switches.specs.go_clauses.Clauses.{AreCasesOf}
 use Rattle.go_walks.proofs.Told.{asked_so}
 use Rattle.go_switch_statements.proofs.switches.are_cases.Goals as goal
 

@@ -1,4 +1,4 @@
-use Rattle.go_flat_statements.proofs.FlatKinds.{kind_same}
+use Rattle.go_nested_statements.proofs.go_flat_statements_proofs.FlatKinds.{kind_same}
 use Rattle.go_judged.specs.Judging.{both}
 use Rattle.go_local_scopes.proofs.Standing.{kept_at, kept_same}
 use Rattle.go_statement_rules.specs.Scopes.{opened}

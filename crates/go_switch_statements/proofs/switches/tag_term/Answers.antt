@@ -1,4 +1,4 @@
-use Rattle.go_clauses.specs.Clauses.{IsTagOf}
+use Rattle.go_type_switches.specs.go_clauses.Clauses.{IsTagOf}
 use Rattle.go_walks.proofs.Told.{asked_found}
 use Rattle.go_switch_statements.proofs.switches.tag_term.Goals as goal
 

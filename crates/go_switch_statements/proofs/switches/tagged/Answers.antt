@@ -1,4 +1,4 @@
-use Rattle.go_clauses.specs.Clauses.{IsTagOf}
+use Rattle.go_type_switches.specs.go_clauses.Clauses.{IsTagOf}
 use Rattle.go_judged.proofs.Joining.{judged_same}
 use Rattle.go_judged.specs.Judging.{both, with_test}
 use Rattle.go_local_scopes.proofs.Standing.{back_at, holds_at, same_at}

@@ -1,4 +1,4 @@
-use Rattle.go_clauses.specs.Clauses.{IsGuardOf}
+use Rattle.go_type_switches.specs.go_clauses.Clauses.{IsGuardOf}
 use Rattle.go_judged.proofs.Joining.{judged_same, judged_test}
 use Rattle.go_judged.specs.Judging.{both, with_test}
 use Rattle.go_judged.specs.declared.judged.Judged.{Judged}

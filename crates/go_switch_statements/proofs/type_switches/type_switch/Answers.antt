@@ -1,4 +1,4 @@
-use Rattle.go_flat_statements.specs.Judging.{JudgesKind}
+use Rattle.go_nested_statements.specs.go_flat_statements.Judging.{JudgesKind}
 use Rattle.go_local_scopes.proofs.Standing.{closed_same, kept_opened, opened_some, opened_told}
 use Rattle.go_syntax.specs.declared.statement.StmtKind.{StmtKind-F}
 use Rattle.go_walks.specs.Below.{blocks_of, enclosing_of}

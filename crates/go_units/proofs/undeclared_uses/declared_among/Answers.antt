@@ -1,8 +1,8 @@
 use Rattle.std.proofs.Common.{List, ap, subst, ◌∙◌}
 use Rattle.go_base.specs.Growing.{Grows}
 use Rattle.go_base.specs.Lists.{Has}
-use Rattle.go_syntax.specs.declared.declaration.Decl.{Decl}
-use Rattle.go_syntax.specs.declared.declaration.File.{File}
+use Rattle.go_imports.specs.go_syntax.declared.declaration.Decl.{Decl}
+use Rattle.go_imports.specs.go_syntax.declared.declaration.File.{File}
 use Rattle.go_imports.specs.UsedImports.{IsDeclaredIn}
 use Rattle.go_imports.proofs.GrowingSets.{grows_next_where}
 use Rattle.go_units.specs.declared.package_uses.PackageFile.{PackageFile}

@@ -1,6 +1,6 @@
 use Rattle.std.proofs.Common.{◌≡◌, ◌∙◌, List, ℕ, sym, ap}
 use Rattle.go_imports.proofs.Files.{has_item}
-use Rattle.go_syntax.specs.declared.declaration.File.{File}
+use Rattle.go_imports.specs.go_syntax.declared.declaration.File.{File}
 use Rattle.go_units.specs.declared.package_uses.PackageFile.{PackageFile}
 use Rattle.go_units.specs.inner.UnitMaking.{PackageFilesAreNamed}
 use Rattle.go_units.proofs.Results.{if_ok_as}

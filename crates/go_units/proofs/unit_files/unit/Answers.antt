@@ -1,6 +1,6 @@
 use Rattle.std.proofs.Common.{◌≡◌, ◌∙◌, List, length, sym, ap, subst, arith, rules}
 use Rattle.go_base.specs.Lists.{Has}
-use Rattle.go_syntax.specs.declared.declaration.File.{File}
+use Rattle.go_imports.specs.go_syntax.declared.declaration.File.{File}
 use Rattle.go_units.specs.UnitFacts.{needed_by}
 use Rattle.go_units.specs.UnitsOfModules.{GivesUnitFile}
 use Rattle.go_units.specs.declared.package_uses.PackageFile.{PackageFile}

@@ -1,7 +1,7 @@
 use Rattle.std.proofs.Common.{Bool, subst}
 use Rattle.go_model.specs.types.Assignability.{Assignable}
 use Rattle.go_rules.specs.Scopes.{env_of}
-use Rattle.go_selectors.specs.Answers.{Decides}
+use Rattle.go_types.specs.go_selectors.Answers.{Decides}
 use Rattle.go_usability.proofs.table.assignable.Goals as goal
 
 pub returns : goal.returns

@@ -1,6 +1,6 @@
 use Rattle.std.proofs.Common.{subst}
 use Rattle.go_rules.specs.Scopes.{env_of}
-use Rattle.go_selectors.specs.Candidates.{HoldMethodSet}
+use Rattle.go_types.specs.go_selectors.Candidates.{HoldMethodSet}
 use Rattle.go_usability.proofs.table.candidates.Goals as goal
 
 pub returns : goal.returns

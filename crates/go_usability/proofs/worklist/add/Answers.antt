@@ -1,5 +1,5 @@
-use Rattle.go_selectors.specs.Names.{same_name, same_name_is}
-use Rattle.go_selectors.proofs.Keys.{adds-insert}
+use Rattle.go_types.specs.go_selectors.Names.{same_name, same_name_is}
+use Rattle.go_types.proofs.go_selectors_proofs.Keys.{adds-insert}
 use Rattle.go_usability.proofs.worklist.add.Goals as goal
 
 pub returns : goal.returns

@@ -2,8 +2,8 @@ use Rattle.std.proofs.Common.{List, [], map, sym, subst}
 use Rattle.go_rules.specs.Expressions.{HasEach}
 use Rattle.go_rules.specs.Nodes.{expression}
 use Rattle.go_rules.specs.declared.operand.Operand.{Operand}
-use Rattle.go_type_terms.specs.Answers.{env_in}
-use Rattle.go_type_terms.proofs.Handed.{same_types}
+use Rattle.go_literals.specs.go_type_terms.Answers.{env_in}
+use Rattle.go_literals.proofs.go_type_terms_proofs.Handed.{same_types}
 use Rattle.go_expr.specs.Arguments.{HasEachAfter}
 use Rattle.go_expr.proofs.Arguing.{in_each, to_each}
 use Rattle.go_expr.proofs.exprs.Exprs.arguments.Goals as goal

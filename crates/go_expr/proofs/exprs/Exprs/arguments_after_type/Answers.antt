@@ -1,10 +1,10 @@
 use Rattle.std.proofs.Common.{◌∷◌, [], ◌++◌, map, Bool, ap, ◌∙◌, sym, subst}
 use Rattle.go_rules.specs.Expressions.{HasEach}
 use Rattle.go_rules.specs.Nodes.{expression, type as type_node}
-use Rattle.go_type_terms.specs.Answers.{env_in}
-use Rattle.go_type_terms.specs.Loudness.{AreLoud}
-use Rattle.go_type_terms.proofs.Handed.{handed}
-use Rattle.go_type_terms.proofs.LoudTrees.{join_loud}
+use Rattle.go_literals.specs.go_type_terms.Answers.{env_in}
+use Rattle.go_literals.specs.go_type_terms.Loudness.{AreLoud}
+use Rattle.go_literals.proofs.go_type_terms_proofs.Handed.{handed}
+use Rattle.go_literals.proofs.go_type_terms_proofs.LoudTrees.{join_loud}
 use Rattle.go_expr.specs.Arguments.{HasEachAfter, receive_type}
 use Rattle.go_expr.proofs.Arguing.{in_each_after, to_each_after}
 use Rattle.go_expr.proofs.exprs.Exprs.arguments_after_type.Goals as goal

@@ -1,14 +1,14 @@
 use Rattle.std.proofs.Common.{◌∷◌, [], subst}
-use Rattle.go_elements.proofs.Posts.{asserts_post, post_asserts}
-use Rattle.go_elements.specs.Assertions.{Asserts}
+use Rattle.go_calls.proofs.go_elements_proofs.Posts.{asserts_post, post_asserts}
+use Rattle.go_calls.specs.go_elements.Assertions.{Asserts}
 use Rattle.go_model.specs.declared.types.term.Term.{Term}
-use Rattle.go_operators.proofs.Answers.{found_none, found_some}
+use Rattle.go_calls.proofs.go_operators_proofs.Answers.{found_none, found_some}
 use Rattle.go_rules.specs.Expressions.{HasPost, OfType}
 use Rattle.go_rules.specs.Nodes.{type as type_node}
 use Rattle.go_rules.proofs.OneOperand.{type_once}
 use Rattle.go_syntax.specs.declared.expression.Post.{Post-F}
-use Rattle.go_type_terms.specs.Answers.{env_in}
-use Rattle.go_type_terms.proofs.Handed.{handed}
+use Rattle.go_literals.specs.go_type_terms.Answers.{env_in}
+use Rattle.go_literals.proofs.go_type_terms_proofs.Handed.{handed}
 use Rattle.go_expr.proofs.exprs.Exprs.asserted.Goals as goal
 
 pub returns-in_err-term : goal.returns-in_err-term

@@ -5,8 +5,8 @@ use Rattle.go_rules.specs.Expressions.{call_receive_type, HasEach, HasPost}
 use Rattle.go_rules.specs.Nodes.{expression, type as type_node}
 use Rattle.go_rules.specs.declared.operand.Operand.{Operand}
 use Rattle.go_syntax.specs.declared.expression.Post.{Post-F}
-use Rattle.go_type_terms.specs.Answers.{env_in}
-use Rattle.go_type_terms.proofs.Handed.{handed, handed_told}
+use Rattle.go_literals.specs.go_type_terms.Answers.{env_in}
+use Rattle.go_literals.proofs.go_type_terms_proofs.Handed.{handed, handed_told}
 use Rattle.go_expr.specs.Arguments.{receive_type}
 use Rattle.go_expr.proofs.Parts.{told_type}
 use Rattle.go_expr.proofs.exprs.Exprs.call_with_type.Goals as goal

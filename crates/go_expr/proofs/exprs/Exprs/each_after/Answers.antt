@@ -2,8 +2,8 @@ use Rattle.std.proofs.Common.{◌∷◌, [], ◌+◌, drop, map, Bool, sym, subs
 use Rattle.go_expr.specs.Arguments.{HasEachAfter}
 use Rattle.go_rules.specs.Expressions.{Has}
 use Rattle.go_rules.specs.Nodes.{expression}
-use Rattle.go_type_terms.specs.Answers.{env_in}
-use Rattle.go_type_terms.proofs.Handed.{handed}
+use Rattle.go_literals.specs.go_type_terms.Answers.{env_in}
+use Rattle.go_literals.proofs.go_type_terms_proofs.Handed.{handed}
 use Rattle.go_expr.proofs.Arguing.{Arguing, arguing_first, arguing_next, arguing_whole}
 use Rattle.go_expr.proofs.exprs.Exprs.each_after.Goals as goal
 

@@ -1,5 +1,5 @@
 use Rattle.std.proofs.Common.{drop}
-use Rattle.go_type_terms.specs.Answers.{env_in}
+use Rattle.go_literals.specs.go_type_terms.Answers.{env_in}
 use Rattle.go_expr.proofs.Arguing.{Arguing}
 use Rattle.go_expr.proofs.exprs.Exprs.each_after.Given as goal
 

@@ -1,5 +1,5 @@
 use Rattle.go_rules.specs.Expressions.{has_operand}
-use Rattle.go_type_terms.specs.Answers.{env_in}
+use Rattle.go_literals.specs.go_type_terms.Answers.{env_in}
 use Rattle.go_expr.proofs.ByForm.{whole_out}
 use Rattle.go_expr.proofs.exprs.Exprs.expr.Goals as goal
 

@@ -1,10 +1,10 @@
 use Rattle.std.proofs.Common.{◌∷◌, [], ap, ◌∙◌, sym}
 use Rattle.go_rules.specs.Expressions.{Denotes, HasForm}
 use Rattle.go_rules.specs.Nodes.{expression}
-use Rattle.go_type_terms.proofs.Handed.{handed_told}
+use Rattle.go_literals.proofs.go_type_terms_proofs.Handed.{handed_told}
 use Rattle.go_syntax.specs.declared.expression.Expr.{Expr-F, out-Expr}
 use Rattle.go_syntax.specs.declared.expression.Expr.TheVariants.{outs-And, outs-Literal, outs-Name, outs-Compare, outs-Composite, outs-CompositeArray, outs-FuncLit, outs-Or, outs-Paren, outs-ParenReceiveChan, outs-Prefix, outs-Primary, outs-Product, outs-Sum, outs-Type}
-use Rattle.go_type_terms.specs.Answers.{env_in}
+use Rattle.go_literals.specs.go_type_terms.Answers.{env_in}
 use Rattle.go_expr.proofs.ByForm.{and_form, compare_form, literal_none, name_none, name_some, or_form, paren_form, product_form, same_form, sum_form, whole_form}
 use Rattle.go_expr.proofs.exprs.Exprs.form.Goals as goal
 

@@ -1,15 +1,15 @@
 use Rattle.std.proofs.Common.{◌∷◌, [], ◌++◌, ◌||◌, Bool, sym, subst}
 use Rattle.go_base.specs.Keys.{item_of}
-use Rattle.go_elements.proofs.Posts.{post_full_slices}
-use Rattle.go_elements.specs.SliceExpressions.{HasWhere, SlicesFully}
-use Rattle.go_operators.proofs.Answers.{found_none, found_some}
+use Rattle.go_calls.proofs.go_elements_proofs.Posts.{post_full_slices}
+use Rattle.go_calls.specs.go_elements.SliceExpressions.{HasWhere, SlicesFully}
+use Rattle.go_calls.proofs.go_operators_proofs.Answers.{found_none, found_some}
 use Rattle.go_rules.specs.Expressions.{Has, HasPost}
 use Rattle.go_rules.specs.Nodes.{expression, optional}
 use Rattle.go_syntax.specs.declared.expression.Post.{Post-F}
-use Rattle.go_type_terms.specs.Answers.{env_in}
-use Rattle.go_type_terms.specs.Loudness.{AreLoud}
-use Rattle.go_type_terms.proofs.Handed.{handed}
-use Rattle.go_type_terms.proofs.LoudTrees.{join_loud}
+use Rattle.go_literals.specs.go_type_terms.Answers.{env_in}
+use Rattle.go_literals.specs.go_type_terms.Loudness.{AreLoud}
+use Rattle.go_literals.proofs.go_type_terms_proofs.Handed.{handed}
+use Rattle.go_literals.proofs.go_type_terms_proofs.LoudTrees.{join_loud}
 use Rattle.go_expr.proofs.Slicing.{borrowed, full_none, full_some}
 use Rattle.go_expr.proofs.exprs.Exprs.fully_sliced.Goals as goal
 

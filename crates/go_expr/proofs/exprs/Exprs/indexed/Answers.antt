@@ -1,14 +1,14 @@
 use Rattle.std.proofs.Common.{◌∷◌, [], subst}
-use Rattle.go_elements.proofs.Posts.{indexes_post, post_indexes}
-use Rattle.go_elements.specs.Indexes.{Indexes}
-use Rattle.go_operators.proofs.Answers.{found_none, found_some}
+use Rattle.go_calls.proofs.go_elements_proofs.Posts.{indexes_post, post_indexes}
+use Rattle.go_calls.specs.go_elements.Indexes.{Indexes}
+use Rattle.go_calls.proofs.go_operators_proofs.Answers.{found_none, found_some}
 use Rattle.go_rules.specs.Expressions.{Has, HasPost}
 use Rattle.go_rules.specs.Nodes.{expression}
 use Rattle.go_rules.specs.declared.operand.Operand.{Operand}
 use Rattle.go_rules.proofs.OneOperand.{has_once}
 use Rattle.go_syntax.specs.declared.expression.Post.{Post-F}
-use Rattle.go_type_terms.specs.Answers.{env_in}
-use Rattle.go_type_terms.proofs.Handed.{handed}
+use Rattle.go_literals.specs.go_type_terms.Answers.{env_in}
+use Rattle.go_literals.proofs.go_type_terms_proofs.Handed.{handed}
 use Rattle.go_expr.proofs.exprs.Exprs.indexed.Goals as goal
 
 pub returns-in_err-at : goal.returns-in_err-at

@@ -1,5 +1,5 @@
 use Rattle.std.proofs.Common.{ap, ◌∙◌, sym, Some}
-use Rattle.go_type_terms.specs.Answers.{env_in}
+use Rattle.go_literals.specs.go_type_terms.Answers.{env_in}
 use Rattle.go_expr.proofs.Slicing.{left_out, stands}
 use Rattle.go_expr.proofs.exprs.Exprs.optional_index.Goals as goal
 

@@ -1,7 +1,7 @@
 use Rattle.std.proofs.Common.{ap, ◌∙◌, sym}
 use Rattle.go_syntax.specs.declared.expression.Post.{Post-F, out-Post}
 use Rattle.go_syntax.specs.declared.expression.Post.TheVariants.{outs-Call, outs-CallReceiveChan, outs-FullSlice, outs-Index, outs-Slice, outs-TypeAssertion}
-use Rattle.go_type_terms.specs.Answers.{env_in}
+use Rattle.go_literals.specs.go_type_terms.Answers.{env_in}
 use Rattle.go_expr.proofs.Handing.{post_form}
 use Rattle.go_expr.proofs.exprs.Exprs.post.Goals as goal
 

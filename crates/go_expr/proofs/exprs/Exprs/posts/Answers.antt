@@ -1,5 +1,5 @@
 use Rattle.std.proofs.Common.{◌+◌, drop, Bool, sym, subst, arith}
-use Rattle.go_type_terms.specs.Answers.{env_in}
+use Rattle.go_literals.specs.go_type_terms.Answers.{env_in}
 use Rattle.go_expr.proofs.Running.{Going, posts_handed, posts_next, posts_whole}
 use Rattle.go_expr.proofs.exprs.Exprs.posts.Goals as goal
 

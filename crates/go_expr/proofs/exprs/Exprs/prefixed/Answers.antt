@@ -1,8 +1,8 @@
 use Rattle.std.proofs.Common.{◌∷◌, [], Bool, sym, subst}
 use Rattle.go_rules.specs.Nodes.{expression}
-use Rattle.go_type_terms.specs.Answers.{env_in}
-use Rattle.go_type_terms.specs.Loudness.{AreLoud}
-use Rattle.go_operations.proofs.LoudForms.{prefix_loud}
+use Rattle.go_literals.specs.go_type_terms.Answers.{env_in}
+use Rattle.go_literals.specs.go_type_terms.Loudness.{AreLoud}
+use Rattle.go_literals.proofs.go_operations_proofs.LoudForms.{prefix_loud}
 use Rattle.go_expr.proofs.exprs.Exprs.prefixed.Goals as goal
 
 pub returns : goal.returns

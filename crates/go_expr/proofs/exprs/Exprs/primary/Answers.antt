@@ -1,5 +1,5 @@
 use Rattle.std.proofs.Common.{◌-◌, drop, length, sym, take}
-use Rattle.go_type_terms.specs.Answers.{env_in}
+use Rattle.go_literals.specs.go_type_terms.Answers.{env_in}
 use Rattle.go_expr.proofs.PrimaryExprs.{alone_at, behind_first, qualified_at, unqualified_at}
 use Rattle.go_expr.proofs.exprs.Exprs.primary.Goals as goal
 

@@ -3,9 +3,9 @@ use Rattle.go_model.specs.declared.types.term.Direction.TheVariants as direction
 use Rattle.go_model.specs.types.Bounds.{IsWithinBounds}
 use Rattle.go_rules.specs.Expressions.{Has}
 use Rattle.go_rules.specs.Nodes.{type as type_node}
-use Rattle.go_type_terms.specs.Answers.{env_in}
-use Rattle.go_type_terms.specs.Results.{IsChannelOf}
-use Rattle.go_type_terms.proofs.Handed.{handed}
+use Rattle.go_literals.specs.go_type_terms.Answers.{env_in}
+use Rattle.go_literals.specs.go_type_terms.Results.{IsChannelOf}
+use Rattle.go_literals.proofs.go_type_terms_proofs.Handed.{handed}
 use Rattle.go_expr.specs.Arguments.{receive_type}
 use Rattle.go_expr.proofs.Arguing.{in_receive_type, receive_type_out, to_receive_type}
 use Rattle.go_expr.proofs.Bounding.{decides}

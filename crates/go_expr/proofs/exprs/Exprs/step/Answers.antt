@@ -1,4 +1,4 @@
-use Rattle.go_type_terms.specs.Answers.{env_in}
+use Rattle.go_literals.specs.go_type_terms.Answers.{env_in}
 use Rattle.go_expr.proofs.Running.{step_out}
 use Rattle.go_expr.proofs.exprs.Exprs.step.Goals as goal
 

@@ -1,4 +1,4 @@
-use Rattle.go_type_terms.specs.Answers.{env_in}
+use Rattle.go_literals.specs.go_type_terms.Answers.{env_in}
 use Rattle.go_expr.proofs.Handing.{unqualified_handed}
 use Rattle.go_expr.proofs.exprs.Exprs.unqualified.Goals as goal
 

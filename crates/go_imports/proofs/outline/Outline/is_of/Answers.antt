@@ -1,6 +1,6 @@
 use Rattle.std.proofs.Common.{◌∙◌, sym, ap, subst, ℕ, List}
 use Rattle.go_imports.specs.Outlines.{IsOutlineOf}
-use Rattle.go_syntax.specs.declared.declaration.File.{File}
+use Rattle.go_references.specs.go_syntax.declared.declaration.File.{File}
 use Rattle.go_imports.proofs.outline.Outline.is_of.Goals as goal
 
 pub returns : goal.returns

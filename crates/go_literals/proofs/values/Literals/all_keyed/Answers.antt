@@ -1,7 +1,7 @@
 use Rattle.std.proofs.Common.{[]}
 use Rattle.go_rules.specs.Nodes.{element_parts}
-use Rattle.go_type_terms.specs.Answers.{env_in}
-use Rattle.go_operators.proofs.Answers.{decided_false, decided_true}
+use Rattle.go_operations.specs.go_type_terms.Answers.{env_in}
+use Rattle.go_elements.proofs.go_operators_proofs.Answers.{decided_false, decided_true}
 use Rattle.go_literals.specs.Elements.{EachKeyed}
 use Rattle.go_literals.specs.Keys.{KeyedOnce}
 use Rattle.go_literals.specs.Structs.{AreKeyed}

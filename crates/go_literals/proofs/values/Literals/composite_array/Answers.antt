@@ -2,10 +2,10 @@ use Rattle.std.proofs.Common.{◌∷◌, [], Bool, None, sym, subst}
 use Rattle.go_rules.specs.Expressions.{HasForm, HasIndexed}
 use Rattle.go_rules.specs.Nodes.{element_parts, type as type_node}
 use Rattle.go_syntax.specs.declared.expression.Expr.{Expr-F}
-use Rattle.go_type_terms.specs.Answers.{env_in}
-use Rattle.go_type_terms.specs.Loudness.{AreLoud}
-use Rattle.go_type_terms.proofs.Handed.{handed}
-use Rattle.go_type_terms.proofs.LoudTrees.{join_loud}
+use Rattle.go_operations.specs.go_type_terms.Answers.{env_in}
+use Rattle.go_operations.specs.go_type_terms.Loudness.{AreLoud}
+use Rattle.go_operations.proofs.go_type_terms_proofs.Handed.{handed}
+use Rattle.go_operations.proofs.go_type_terms_proofs.LoudTrees.{join_loud}
 use Rattle.go_literals.proofs.Composing.{in_array, to_array}
 use Rattle.go_literals.proofs.values.Literals.composite_array.Goals as goal
 

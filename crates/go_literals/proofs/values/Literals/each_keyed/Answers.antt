@@ -1,6 +1,6 @@
 use Rattle.std.proofs.Common.{◌+◌, drop, Bool, sym, subst, arith}
 use Rattle.go_rules.specs.Nodes.{element_parts}
-use Rattle.go_type_terms.specs.Answers.{env_in}
+use Rattle.go_operations.specs.go_type_terms.Answers.{env_in}
 use Rattle.go_literals.proofs.KeyedFields.{Keyed, keyed_after, keyed_first, keyed_whole}
 use Rattle.go_literals.specs.Elements.{EachKeyed, KeyedFits, parts_of}
 use Rattle.go_literals.proofs.Parts.{held_handed}

@@ -1,5 +1,5 @@
 use Rattle.std.proofs.Common.{drop}
-use Rattle.go_type_terms.specs.Answers.{env_in}
+use Rattle.go_operations.specs.go_type_terms.Answers.{env_in}
 use Rattle.go_literals.proofs.KeyedFields.{Keyed}
 use Rattle.go_literals.proofs.values.Literals.each_keyed.Given as goal
 

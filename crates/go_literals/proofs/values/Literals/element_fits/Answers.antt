@@ -4,7 +4,7 @@ use Rattle.go_rules.specs.Expressions.{ElementFits}
 use Rattle.go_rules.specs.Nodes.{element_parts, expression, value as value_node}
 use Rattle.go_syntax.specs.declared.expression.ElementValue.{ElementValue-F, out-ElementValue}
 use Rattle.go_syntax.specs.declared.expression.ElementValue.TheVariants.{outs-Literal, outs-Value}
-use Rattle.go_type_terms.specs.Answers.{env_in}
+use Rattle.go_operations.specs.go_type_terms.Answers.{env_in}
 use Rattle.go_literals.specs.Elements.{BareFits, ExprFits}
 use Rattle.go_literals.proofs.ElementValues.{in_bare, in_value, to_bare, to_value}
 use Rattle.go_literals.proofs.Parts.{bare_value_loud, expr_value_loud, holds_as}

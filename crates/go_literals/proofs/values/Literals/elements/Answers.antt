@@ -3,7 +3,7 @@ use Rattle.go_model.specs.declared.types.term.Term.{Term-F, out-Term}
 use Rattle.go_model.specs.declared.types.term.Term.TheVariants.{outs-Array, outs-Map, outs-Slice, outs-Struct}
 use Rattle.go_rules.specs.Expressions.{HasElements, HasPairs}
 use Rattle.go_rules.specs.Nodes.{element_parts}
-use Rattle.go_type_terms.specs.Answers.{env_in}
+use Rattle.go_operations.specs.go_type_terms.Answers.{env_in}
 use Rattle.go_literals.specs.Elements.{AreIndexed}
 use Rattle.go_literals.specs.Structs.{StructFits}
 use Rattle.go_literals.proofs.ByType.{array_elements, in_array, in_map, in_slice, in_struct, map_elements, slice_elements, struct_elements}

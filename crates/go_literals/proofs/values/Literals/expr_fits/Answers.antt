@@ -1,6 +1,6 @@
 use Rattle.go_rules.specs.Usability.{UsableAs}
-use Rattle.go_type_terms.specs.Answers.{env_in}
-use Rattle.go_operators.proofs.Answers.{decided_false}
+use Rattle.go_operations.specs.go_type_terms.Answers.{env_in}
+use Rattle.go_elements.proofs.go_operators_proofs.Answers.{decided_false}
 use Rattle.go_literals.proofs.ElementValues.{no_expr_fits}
 use Rattle.go_literals.proofs.values.Literals.expr_fits.Goals as goal
 

@@ -1,8 +1,8 @@
 use Rattle.std.proofs.Common.{◌≡◌, ℕ, suc, ◌+◌, drop, Bool, ◌||◌, sym, subst, arith}
 use Rattle.go_rules.specs.Expressions.{HasIndexed}
 use Rattle.go_rules.specs.Nodes.{element_parts}
-use Rattle.go_type_terms.specs.Answers.{env_in}
-use Rattle.go_type_terms.proofs.Handed.{handed}
+use Rattle.go_operations.specs.go_type_terms.Answers.{env_in}
+use Rattle.go_operations.proofs.go_type_terms_proofs.Handed.{handed}
 use Rattle.go_literals.specs.Elements.{IndexedFits, parts_of}
 use Rattle.go_literals.proofs.Indexing.{Indexed, indexed_done, indexed_first, indexed_next}
 use Rattle.go_literals.proofs.values.Literals.indexed.Goals as goal

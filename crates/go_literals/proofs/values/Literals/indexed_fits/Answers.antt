@@ -1,6 +1,6 @@
 use Rattle.std.proofs.Common.{Bool, sym, subst}
-use Rattle.go_type_terms.specs.Answers.{env_in}
-use Rattle.go_type_terms.specs.Loudness.{AreLoud}
+use Rattle.go_operations.specs.go_type_terms.Answers.{env_in}
+use Rattle.go_operations.specs.go_type_terms.Loudness.{AreLoud}
 use Rattle.go_literals.specs.Elements.{parts_of}
 use Rattle.go_literals.proofs.Parts.{element_loud}
 use Rattle.go_literals.proofs.values.Literals.indexed_fits.Goals as goal

@@ -1,4 +1,4 @@
-use Rattle.go_type_terms.specs.Answers.{env_in}
+use Rattle.go_operations.specs.go_type_terms.Answers.{env_in}
 use Rattle.go_literals.proofs.Indexing.{key_none, key_some}
 use Rattle.go_literals.proofs.Parts.{expr_value_loud}
 use Rattle.go_literals.proofs.values.Literals.key_index.Goals as goal

@@ -1,7 +1,7 @@
 use Rattle.std.proofs.Common.{◌∷◌, [], false}
 use Rattle.go_rules.specs.Nodes.{expression}
 use Rattle.go_syntax.specs.declared.expression.Element.{out-Element}
-use Rattle.go_type_terms.specs.Answers.{env_in}
+use Rattle.go_operations.specs.go_type_terms.Answers.{env_in}
 use Rattle.go_literals.specs.Elements.{KeyedFits, NamedFits, parts_of}
 use Rattle.go_literals.proofs.KeyedFields.{in_keyed_fits, to_keyed_fits}
 use Rattle.go_literals.proofs.Parts.{element_loud, expr_value_loud, holds_as, key_quiet}

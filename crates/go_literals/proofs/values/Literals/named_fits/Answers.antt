@@ -1,8 +1,8 @@
 use Rattle.std.proofs.Common.{ap, ◌∙◌, sym}
 use Rattle.go_rules.specs.Environments.{selector_of}
 use Rattle.go_rules.specs.Expressions.{is_blank}
-use Rattle.go_type_terms.specs.Answers.{env_in}
-use Rattle.go_operators.proofs.Answers.{decided_false, decided_true}
+use Rattle.go_operations.specs.go_type_terms.Answers.{env_in}
+use Rattle.go_elements.proofs.go_operators_proofs.Answers.{decided_false, decided_true}
 use Rattle.go_literals.specs.Elements.{Takes}
 use Rattle.go_literals.proofs.KeyedFields.{named_none, named_some}
 use Rattle.go_literals.proofs.values.Literals.named_fits.Goals as goal

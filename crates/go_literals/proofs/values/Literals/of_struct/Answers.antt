@@ -1,6 +1,6 @@
 use Rattle.std.proofs.Common.{inl, inr, sym, ◌∙◌}
 use Rattle.go_rules.specs.Nodes.{element_parts}
-use Rattle.go_type_terms.specs.Answers.{env_in}
+use Rattle.go_operations.specs.go_type_terms.Answers.{env_in}
 use Rattle.go_literals.specs.Structs.{AreKeyed, AreUnkeyed, StructFits}
 use Rattle.go_literals.proofs.Parts.{holds_as}
 use Rattle.go_literals.proofs.StructElements.{in_keyed, in_unkeyed}

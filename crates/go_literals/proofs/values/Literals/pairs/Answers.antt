@@ -1,6 +1,6 @@
 use Rattle.std.proofs.Common.{◌+◌, drop, Bool, sym, subst, arith}
 use Rattle.go_rules.specs.Nodes.{element_parts}
-use Rattle.go_type_terms.specs.Answers.{env_in}
+use Rattle.go_operations.specs.go_type_terms.Answers.{env_in}
 use Rattle.go_rules.specs.Expressions.{HasPairs}
 use Rattle.go_literals.proofs.Pairing.{Pairs, pairs_after, pairs_first, pairs_whole}
 use Rattle.go_literals.specs.Elements.{PairFits, parts_of}

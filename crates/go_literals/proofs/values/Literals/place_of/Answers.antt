@@ -1,4 +1,4 @@
-use Rattle.go_type_terms.specs.Answers.{env_in}
+use Rattle.go_operations.specs.go_type_terms.Answers.{env_in}
 use Rattle.go_literals.proofs.Indexing.{place_by_key}
 use Rattle.go_literals.proofs.values.Literals.place_of.Goals as goal
 

@@ -1,7 +1,7 @@
 use Rattle.std.proofs.Common.{◌≡◌, ◌<◌, ◌≤◌, length, ◌+◌, drop, Bool, sym, subst, arith}
 use Rattle.go_rules.specs.Expressions.{HasUnkeyed}
 use Rattle.go_rules.specs.Nodes.{element_parts}
-use Rattle.go_type_terms.specs.Answers.{env_in}
+use Rattle.go_operations.specs.go_type_terms.Answers.{env_in}
 use Rattle.go_literals.specs.Elements.{UnkeyedFits, parts_of}
 use Rattle.go_literals.proofs.KeyedFields.{Unkeyed, unkeyed_after, unkeyed_first, unkeyed_lengths, unkeyed_whole}
 use Rattle.go_literals.proofs.Parts.{held_handed}

@@ -2,7 +2,7 @@ use Rattle.std.proofs.Common.{◌∷◌, [], false}
 use Rattle.go_model.specs.declared.types.term.Field.{out-Field}
 use Rattle.go_rules.specs.Nodes.{expression}
 use Rattle.go_syntax.specs.declared.expression.Element.{out-Element}
-use Rattle.go_type_terms.specs.Answers.{env_in}
+use Rattle.go_operations.specs.go_type_terms.Answers.{env_in}
 use Rattle.go_literals.specs.Elements.{ExprFits, UnkeyedFits, parts_of}
 use Rattle.go_literals.proofs.KeyedFields.{in_unkeyed, to_unkeyed}
 use Rattle.go_literals.proofs.Parts.{element_loud, expr_value_loud, holds_as, no_key_loud}

@@ -1,6 +1,6 @@
 use Rattle.std.proofs.Common.{◌≡◌, suc, ◌-◌, arith}
 use Rattle.go_descent.specs.Levels.{levels}
-use Rattle.go_simple_stmts.specs.SimpleStatements.{simple}
+use Rattle.go_stmt_descent.specs.go_simple_stmts.SimpleStatements.{simple}
 use Rattle.go_stmt_descent.specs.Headers.{simple_at}
 use Rattle.go_stmt_parts.proofs.Heights.{no_simple, reads_as, simple_below}
 use Rattle.go_stmt_parts.proofs.headers.Headers.simple.Goals as goal

@@ -1,5 +1,5 @@
 use Rattle.std.proofs.Common.{take}
-use Rattle.go_selectors.proofs.Lists.{taken_next}
+use Rattle.go_types.proofs.go_selectors_proofs.Lists.{taken_next}
 use Rattle.go_types.proofs.Walks.{field_more}
 use Rattle.go_usability.proofs.worklist.Worklist.push_fields.Goals as goal
 

@@ -5,7 +5,7 @@ use Rattle.go_literal_blocks.specs.Blocks.{FindsBlock}
 use Rattle.go_local_scopes.proofs.Standing.{back_at, holds_at}
 use Rattle.go_local_scopes.specs.States.{IsAt}
 use Rattle.go_model.specs.declared.types.term.Signature.{Signature}
-use Rattle.go_operators.proofs.Answers.{found_none, found_some}
+use Rattle.go_expr.proofs.go_operators_proofs.Answers.{found_none, found_some}
 use Rattle.go_rules.specs.Environments.{Env}
 use Rattle.go_rules.specs.Expressions.{OfSignature}
 use Rattle.go_rules.specs.Scopes.{env_of}

@@ -4,7 +4,7 @@ use Rattle.go_judged.specs.declared.judged.Judged.{Judged}
 use Rattle.go_literal_blocks.specs.Literals.{AreLiteralsOf, forms_in}
 use Rattle.go_literal_blocks.specs.declared.literals.Literal.{Literal}
 use Rattle.go_local_scopes.specs.States.{IsAt}
-use Rattle.go_nodes.specs.Trees.{nodes_in}
+use Rattle.go_literal_blocks.specs.go_nodes.Trees.{nodes_in}
 use Rattle.go_rules.specs.Environments.{Env}
 use Rattle.go_statement_rules.specs.Scopes.{Scopes}
 use Rattle.go_untyped_places.specs.LiteralRuns.{IsLiteralRun}

@@ -3,8 +3,8 @@ use Rattle.std.specs.Prelude.{is_some}
 use Rattle.go_base.specs.Keys.{first_with}
 use Rattle.go_model.specs.worlds.Worlds.{path_of}
 use Rattle.go_sources.specs.UnitSources.{source_of}
-use Rattle.go_taken_packages.specs.TakenPaths.{AreTaken}
-use Rattle.go_taken_packages.specs.ToldPackages.{is_among}
+use Rattle.go_taken_units.specs.go_taken_packages.TakenPaths.{AreTaken}
+use Rattle.go_taken_units.specs.go_taken_packages.ToldPackages.{is_among}
 use Rattle.go_work.specs.Answers.{sources}
 use Rattle.go_work.specs.declared.earlier.EarlierWorld.{EarlierWorld}
 use Rattle.go_work.proofs.EarlierUnits.{number_within, package_there, still_beside, taken_from, takes_here}

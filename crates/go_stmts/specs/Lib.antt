@@ -1,0 +1,1 @@
+pub use Rattle.go_stmt_descent.specs as go_stmt_descent

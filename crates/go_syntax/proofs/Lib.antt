@@ -1,0 +1,1 @@
+pub use Rattle.go_base.proofs as go_base_proofs
