@@ -17,7 +17,7 @@ use Rattle.go_rules.specs.declared.predeclared.Predeclared.{Predeclared}
 use Rattle.go_rules.specs.declared.predeclared.Predeclared.TheVariants as p
 use Rattle.go_rules.proofs.OneKind.{no_truth}
 use Rattle.go_rules.proofs.OneOperand.{each_once, quiet_or_loud}
-use Rattle.go_rules.specs.go_syntax.declared.expression.Expr.{Expr}
+use Rattle.go_syntax.specs.declared.expression.Expr.{Expr}
 use Rattle.go_calls.specs.Builtins.{Appends, appends_elements, appends_slice, appends_string, AreSizes, no_sizes, more_sizes, CallsBuiltin, Closes, closes, Copies, copies_slice, copies_string, Deletes, deletes, MakesOf, makes_of, Measures, measures_string, measures_constant_array, measures_array, measures_value, News, news, OfAny, OfMore, OfNone, OfOne, OfTwo, Panics, panics, Prints, prints_each, int_value}
 use Rattle.go_calls.specs.Calls.{Calls, calls_type, calls_builtin, calls_value, IsLoud, IsTold}
 use Rattle.go_calls.specs.Functions.{CallsFunction, calls_function, Passes, passes_each, passes_results}

@@ -7,7 +7,7 @@ use Rattle.go_rules.specs.Expressions.{Converts, HoldsNone, HoldsOne, measures_a
 use Rattle.go_rules.specs.Operands.{builtin, type_name}
 use Rattle.go_rules.specs.declared.operand.Operand.{Operand}
 use Rattle.go_rules.specs.declared.predeclared.Predeclared.{Predeclared}
-use Rattle.go_rules.specs.go_syntax.declared.expression.Expr.{Expr}
+use Rattle.go_syntax.specs.declared.expression.Expr.{Expr}
 use Rattle.go_calls.specs.Builtins.{CallsBuiltin}
 use Rattle.go_calls.specs.Functions.{CallsFunction}
 

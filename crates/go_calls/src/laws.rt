@@ -5,7 +5,7 @@ ghost use Rattle.go_rules.specs.Environments.{Env};
 ghost use Rattle.go_rules.specs.Expressions.{HasEach, HasPost, IsCall};
 ghost use Rattle.go_rules.specs.Nodes.{PostLayer};
 ghost use Rattle.go_rules.specs.declared.operand.Operand.{Operand};
-ghost use Rattle.go_rules.specs.go_syntax.declared.expression.Expr.{Expr};
+ghost use Rattle.go_syntax.specs.declared.expression.Expr.{Expr};
 ghost use Rattle.go_calls.specs.Calls.{Calls, IsTold};
 
 /// A call after an operand has typed arguments, and is exactly what it makes of their operands.

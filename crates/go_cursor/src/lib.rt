@@ -2,7 +2,6 @@
 //! are skipped.
 #![tactic(auto)]
 
-pub use go_syntax;
 pub use go_syntax::go_base;
 
 pub mod cursor;

@@ -1,8 +1,8 @@
 -- Specs of constants that repeat the type and the values of others.
 use Rattle.std.proofs.Common.{◌≡◌, ◌<◌, ◌+◌, ℕ, suc, List, [], ◌∷◌, ◌++◌, append_assoc, add-one, drop, drop-cons, get_or, length, map, refl, sym, ap, ◌∙◌, subst}
 use Rattle.std.proofs.lemmas.List.{map-append}
-use Rattle.go_typings.specs.go_syntax.declared.declaration.ConstSpec.{ConstSpec}
-use Rattle.go_typings.specs.go_syntax.declared.expression.Expr.{Expr}
+use Rattle.go_syntax.specs.declared.declaration.ConstSpec.{ConstSpec}
+use Rattle.go_syntax.specs.declared.expression.Expr.{Expr}
 use Rattle.go_typings.specs.Declarations.{constants, constants_from, Declaration as Declared, in_file, repeated, repeats}
 use Rattle.go_declarations.specs.Forms.{spec_of}
 use Rattle.go_declarations.specs.Listings.{declaration_of, declarations_of}

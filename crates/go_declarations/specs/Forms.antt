@@ -5,7 +5,7 @@ use Rattle.go_typings.specs.go_base.Keys.{item_of}
 use Rattle.go_declarations.specs.declared.form.Constants.{Constants}
 use Rattle.go_declarations.specs.declared.form.Form.{Form}
 use Rattle.go_declarations.specs.declared.form.Form.TheVariants as form
-use Rattle.go_typings.specs.go_syntax.declared.declaration.ConstSpec.{ConstSpec}
+use Rattle.go_syntax.specs.declared.declaration.ConstSpec.{ConstSpec}
 use Rattle.go_typings.specs.Declarations.{Form as Declared, constants, variables, alias, definition, function, method}
 
 -- a spec of constants with the type and the values that it has or repeats

@@ -1,10 +1,10 @@
 //! Declarations, borrowed from the syntax.
 ghost use Rattle.std.specs.Prelude.{◌≡◌};
 
-use go_typings::go_syntax::declaration::{Func, TypeSpec, VarSpec};
-use go_typings::go_syntax::expression::Expr;
-use go_typings::go_syntax::name::Name;
-use go_typings::go_syntax::types::{ParameterDecl, Type};
+use go_syntax::declaration::{Func, TypeSpec, VarSpec};
+use go_syntax::expression::Expr;
+use go_syntax::name::Name;
+use go_syntax::types::{ParameterDecl, Type};
 
 /// The constants of a spec: its names, with the type and the values that it has or repeats, and its place in its
 /// group.

@@ -8,9 +8,9 @@ ghost use Rattle.go_typings.specs.Declarations as declarations;
 ghost use Rattle.go_typings.specs.Declarations.{constants_from, forms, func_form, in_file, no_spec, repeated, variables};
 
 use crate::form::{Constants, Form};
+use go_syntax::declaration::{ConstSpec, Decl, Func, TypeSpec, VarSpec};
 use go_typings::go_base::list::List;
 use go_typings::go_base::memory::NoMemory;
-use go_typings::go_syntax::declaration::{ConstSpec, Decl, Func, TypeSpec, VarSpec};
 
 /// A declaration, and the number of its file.
 #[derive(Clone, Copy)]

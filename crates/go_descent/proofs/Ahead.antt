@@ -1,16 +1,16 @@
 -- The look-ahead past a type ends where the type does.
 use Rattle.std.specs.Prelude.{◌≡◌, ℕ, zero, suc, ◌≤◌, ◌<◌, Bool, true, false, not, if◌then◌else◌, List, ◌∷◌, length, drop, Some}
 use Rattle.std.proofs.Common.{refl, ap, ◌∙◌, arith}
-use Rattle.go_cursor.specs.go_syntax.declared.body.BodyRange.{BodyRange}
-use Rattle.go_cursor.specs.go_syntax.declared.types.ParameterDecl.{ParameterDecl}
-use Rattle.go_cursor.specs.go_syntax.declared.types.Signature.{Signature}
-use Rattle.go_cursor.specs.go_syntax.declared.types.«Type».{«Type» as Typ}
-use Rattle.go_cursor.specs.go_syntax.declared.token.TokenKind.{TokenKind}
-use Rattle.go_cursor.specs.go_syntax.declared.token.TokenKind.TheVariants as kind
-use Rattle.go_cursor.specs.go_syntax.grammar.Brackets.{IsRun, run_none, closer}
-use Rattle.go_cursor.specs.go_syntax.grammar.Grammar.{type_name_alone, type_name_qualified, IsType, type_name, type_paren, type_pointer, type_receive, type_func, type_composite, type_other, IsCompositeType, type_slice, type_array, type_map, type_struct_empty, type_struct, IsOtherType, type_chan, type_send, type_interface_empty, type_interface, IsSignature, signature_alone, signature_parameters, signature_type, IsParameters, parameters_none, parameters_unnamed, parameters_named}
-use Rattle.go_cursor.specs.go_syntax.grammar.Symbols.{Rule, Takes, takes, takes_name, begins, begins_type}
-use Rattle.go_cursor.specs.go_syntax.grammar.Terminals.{Terminal, Sign, Identifier, Extent}
+use Rattle.go_syntax.specs.declared.body.BodyRange.{BodyRange}
+use Rattle.go_syntax.specs.declared.types.ParameterDecl.{ParameterDecl}
+use Rattle.go_syntax.specs.declared.types.Signature.{Signature}
+use Rattle.go_syntax.specs.declared.types.«Type».{«Type» as Typ}
+use Rattle.go_syntax.specs.declared.token.TokenKind.{TokenKind}
+use Rattle.go_syntax.specs.declared.token.TokenKind.TheVariants as kind
+use Rattle.go_syntax.specs.grammar.Brackets.{IsRun, run_none, closer}
+use Rattle.go_syntax.specs.grammar.Grammar.{type_name_alone, type_name_qualified, IsType, type_name, type_paren, type_pointer, type_receive, type_func, type_composite, type_other, IsCompositeType, type_slice, type_array, type_map, type_struct_empty, type_struct, IsOtherType, type_chan, type_send, type_interface_empty, type_interface, IsSignature, signature_alone, signature_parameters, signature_type, IsParameters, parameters_none, parameters_unnamed, parameters_named}
+use Rattle.go_syntax.specs.grammar.Symbols.{Rule, Takes, takes, takes_name, begins, begins_type}
+use Rattle.go_syntax.specs.grammar.Terminals.{Terminal, Sign, Identifier, Extent}
 use Rattle.go_cursor.specs.Reading.{Found, More, turn, loop, run}
 use Rattle.go_cursor.specs.Skipping.{bracketed, past_brackets, past_result, past_front, past_step, brace_after, is_composite}
 use Rattle.go_descent.proofs.Balanced.{Balances, may_run, type_run, expr_run, unnamed_run, named_run, fields_run, interface_elems_run}

@@ -1,30 +1,30 @@
 -- Each tree of the grammar covers a balanced run, where each body does.
 use Rattle.std.specs.Prelude.{◌≡◌, ℕ, Bool, true, List, Option, Some}
 use Rattle.std.proofs.Common.{refl}
-use Rattle.go_cursor.specs.go_syntax.declared.expression.Element.{Element}
-use Rattle.go_cursor.specs.go_syntax.declared.expression.ElementValue.{ElementValue}
-use Rattle.go_cursor.specs.go_syntax.declared.expression.Expr.{Expr}
-use Rattle.go_cursor.specs.go_syntax.declared.expression.Literal.{Literal}
-use Rattle.go_cursor.specs.go_syntax.declared.expression.Post.{Post}
-use Rattle.go_cursor.specs.go_syntax.declared.name.Name.{Name}
-use Rattle.go_cursor.specs.go_syntax.declared.name.QualifiedName.{QualifiedName}
+use Rattle.go_syntax.specs.declared.expression.Element.{Element}
+use Rattle.go_syntax.specs.declared.expression.ElementValue.{ElementValue}
+use Rattle.go_syntax.specs.declared.expression.Expr.{Expr}
+use Rattle.go_syntax.specs.declared.expression.Literal.{Literal}
+use Rattle.go_syntax.specs.declared.expression.Post.{Post}
+use Rattle.go_syntax.specs.declared.name.Name.{Name}
+use Rattle.go_syntax.specs.declared.name.QualifiedName.{QualifiedName}
 use Rattle.go_cursor.specs.go_base.declared.operator.CompareOp.{CompareOp}
 use Rattle.go_cursor.specs.go_base.declared.operator.PrefixOperator.{PrefixOperator}
 use Rattle.go_cursor.specs.go_base.declared.operator.ProductOperator.{ProductOperator}
 use Rattle.go_cursor.specs.go_base.declared.operator.SumOperator.{SumOperator}
-use Rattle.go_cursor.specs.go_syntax.declared.body.BodyRange.{BodyRange}
-use Rattle.go_cursor.specs.go_syntax.declared.types.FieldDecl.{FieldDecl}
-use Rattle.go_cursor.specs.go_syntax.declared.types.InterfaceElem.{InterfaceElem}
-use Rattle.go_cursor.specs.go_syntax.declared.types.ParameterDecl.{ParameterDecl}
-use Rattle.go_cursor.specs.go_syntax.declared.types.Signature.{Signature}
-use Rattle.go_cursor.specs.go_syntax.declared.types.«Type».{«Type» as Typ}
-use Rattle.go_cursor.specs.go_syntax.declared.token.TokenKind.{TokenKind}
-use Rattle.go_cursor.specs.go_syntax.declared.token.TokenKind.TheVariants as kind
-use Rattle.go_cursor.specs.go_syntax.grammar.Brackets.{IsRun, run_none, run_plain, run_nest, no_bracket, closer}
-use Rattle.go_cursor.specs.go_syntax.grammar.Grammar.{comparison, sum_operator, product_operator, prefix_operator}
-use Rattle.go_cursor.specs.go_syntax.grammar.Grammar.{IsNames, names, IsMoreNames, names_none, names_more, IsTypeName, type_name_alone, type_name_qualified, IsTag, tag_none, tag_some, IsType, type_name, type_paren, type_pointer, type_receive, type_func, type_composite, type_other, IsCompositeType, type_slice, type_array, type_map, type_struct_empty, type_struct, IsOtherType, type_chan, type_send, type_interface_empty, type_interface, IsSignature, signature_alone, signature_parameters, signature_type, IsParameters, parameters_none, parameters_unnamed, parameters_named, IsParameter, parameter_one, parameter_variadic, IsUnnamed, unnamed, IsMoreUnnamed, unnamed_none, unnamed_more, IsNamed, named, IsMoreNamed, named_none, named_more, IsFields, fields_none, fields_more, IsField, field_named, field_embedded, field_pointer, IsInterfaceElems, elems_none, elems_more, IsInterfaceElem, elem_method, elem_embedded, IsExpr, expr_or, IsMoreOr, or_none, or_more, IsAnd, expr_and, IsMoreAnd, and_none, and_more, IsCompare, expr_compare, IsMoreCompare, compare_none, compare_more, IsSum, expr_sum, IsMoreSum, sum_none, sum_more, IsProduct, expr_product, IsMoreProduct, product_none, product_more, IsUnary, unary_prefix, unary_primary, IsPrimary, primary, IsPosts, posts_none, posts_more, IsPost, post_selector, post_assertion, post_index, post_slice, post_full_slice, post_call_none, post_call, post_call_receive, IsOptional, optional_none, optional_some, IsExprs, exprs, IsMoreExprs, exprs_none, exprs_more, IsOperand, operand_literal, operand_name, operand_func, operand_named_composite, operand_composite, operand_composite_array, operand_composite_type, operand_func_type, operand_other_type, operand_paren, operand_paren_receive, IsLiteralValue, literal_none, literal_some, IsMoreElements, elements_none, elements_more, IsElement, element_alone, element_keyed, IsElementValue, value_expr, value_literal}
-use Rattle.go_cursor.specs.go_syntax.grammar.Symbols.{Rule, Takes, takes, MayTake, takes_none, takes_one, Marks, unmarked, marked, TakesName, takes_name, TakesLiteral, takes_literal, TakesString, takes_string, Ends, ends_semicolon, ends_closing}
-use Rattle.go_cursor.specs.go_syntax.grammar.Terminals.{Terminal}
+use Rattle.go_syntax.specs.declared.body.BodyRange.{BodyRange}
+use Rattle.go_syntax.specs.declared.types.FieldDecl.{FieldDecl}
+use Rattle.go_syntax.specs.declared.types.InterfaceElem.{InterfaceElem}
+use Rattle.go_syntax.specs.declared.types.ParameterDecl.{ParameterDecl}
+use Rattle.go_syntax.specs.declared.types.Signature.{Signature}
+use Rattle.go_syntax.specs.declared.types.«Type».{«Type» as Typ}
+use Rattle.go_syntax.specs.declared.token.TokenKind.{TokenKind}
+use Rattle.go_syntax.specs.declared.token.TokenKind.TheVariants as kind
+use Rattle.go_syntax.specs.grammar.Brackets.{IsRun, run_none, run_plain, run_nest, no_bracket, closer}
+use Rattle.go_syntax.specs.grammar.Grammar.{comparison, sum_operator, product_operator, prefix_operator}
+use Rattle.go_syntax.specs.grammar.Grammar.{IsNames, names, IsMoreNames, names_none, names_more, IsTypeName, type_name_alone, type_name_qualified, IsTag, tag_none, tag_some, IsType, type_name, type_paren, type_pointer, type_receive, type_func, type_composite, type_other, IsCompositeType, type_slice, type_array, type_map, type_struct_empty, type_struct, IsOtherType, type_chan, type_send, type_interface_empty, type_interface, IsSignature, signature_alone, signature_parameters, signature_type, IsParameters, parameters_none, parameters_unnamed, parameters_named, IsParameter, parameter_one, parameter_variadic, IsUnnamed, unnamed, IsMoreUnnamed, unnamed_none, unnamed_more, IsNamed, named, IsMoreNamed, named_none, named_more, IsFields, fields_none, fields_more, IsField, field_named, field_embedded, field_pointer, IsInterfaceElems, elems_none, elems_more, IsInterfaceElem, elem_method, elem_embedded, IsExpr, expr_or, IsMoreOr, or_none, or_more, IsAnd, expr_and, IsMoreAnd, and_none, and_more, IsCompare, expr_compare, IsMoreCompare, compare_none, compare_more, IsSum, expr_sum, IsMoreSum, sum_none, sum_more, IsProduct, expr_product, IsMoreProduct, product_none, product_more, IsUnary, unary_prefix, unary_primary, IsPrimary, primary, IsPosts, posts_none, posts_more, IsPost, post_selector, post_assertion, post_index, post_slice, post_full_slice, post_call_none, post_call, post_call_receive, IsOptional, optional_none, optional_some, IsExprs, exprs, IsMoreExprs, exprs_none, exprs_more, IsOperand, operand_literal, operand_name, operand_func, operand_named_composite, operand_composite, operand_composite_array, operand_composite_type, operand_func_type, operand_other_type, operand_paren, operand_paren_receive, IsLiteralValue, literal_none, literal_some, IsMoreElements, elements_none, elements_more, IsElement, element_alone, element_keyed, IsElementValue, value_expr, value_literal}
+use Rattle.go_syntax.specs.grammar.Symbols.{Rule, Takes, takes, MayTake, takes_none, takes_one, Marks, unmarked, marked, TakesName, takes_name, TakesLiteral, takes_literal, TakesString, takes_string, Ends, ends_semicolon, ends_closing}
+use Rattle.go_syntax.specs.grammar.Terminals.{Terminal}
 use Rattle.go_cursor.proofs.Runs.{run_and}
 
 pub takes_run : {k : TokenKind} {ts rest : List Terminal} → no_bracket k ≡ true → Takes k ts rest → IsRun ts rest

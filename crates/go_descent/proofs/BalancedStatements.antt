@@ -1,29 +1,29 @@
 -- Each statement covers a balanced run, where each body of a function literal does; so each parsed body does.
 use Rattle.std.specs.Prelude.{◌≡◌, ℕ, zero, suc, Bool, true, List, Option, Some}
 use Rattle.std.proofs.Common.{refl}
-use Rattle.go_cursor.specs.go_syntax.declared.declaration.ConstSpec.{ConstSpec}
-use Rattle.go_cursor.specs.go_syntax.declared.declaration.VarSpec.{VarSpec}
-use Rattle.go_cursor.specs.go_syntax.declared.expression.Expr.{Expr}
-use Rattle.go_cursor.specs.go_syntax.declared.name.Name.{Name}
+use Rattle.go_syntax.specs.declared.declaration.ConstSpec.{ConstSpec}
+use Rattle.go_syntax.specs.declared.declaration.VarSpec.{VarSpec}
+use Rattle.go_syntax.specs.declared.expression.Expr.{Expr}
+use Rattle.go_syntax.specs.declared.name.Name.{Name}
 use Rattle.go_cursor.specs.go_base.declared.operator.AssignOperator.{AssignOperator}
 use Rattle.go_cursor.specs.go_base.declared.operator.StepOperator.{StepOperator}
-use Rattle.go_cursor.specs.go_syntax.declared.body.BodyRange.{BodyRange}
-use Rattle.go_cursor.specs.go_syntax.declared.statement.Case.{Case}
-use Rattle.go_cursor.specs.go_syntax.declared.statement.SelectCase.{SelectCase}
-use Rattle.go_cursor.specs.go_syntax.declared.statement.Stmt.{Stmt}
-use Rattle.go_cursor.specs.go_syntax.declared.statement.StmtKind.{StmtKind}
-use Rattle.go_cursor.specs.go_syntax.declared.statement.TypeCase.{TypeCase}
-use Rattle.go_cursor.specs.go_syntax.declared.types.«Type».{«Type» as Typ}
-use Rattle.go_cursor.specs.go_syntax.declared.token.TokenKind.{TokenKind}
-use Rattle.go_cursor.specs.go_syntax.declared.token.TokenKind.TheVariants as kind
-use Rattle.go_cursor.specs.go_syntax.grammar.Brackets.{IsRun, run_none, run_nest, no_bracket, IsSkipped, skipped}
-use Rattle.go_cursor.specs.go_syntax.grammar.Declarations.{IsSpecs, specs_none, specs_more, IsGroup, group_one, group_specs, IsConstSpec, const_names, const_values, const_typed, IsVarSpec, var_type, var_values, var_typed}
-use Rattle.go_cursor.specs.go_syntax.declared.statement.LiteralBlock.{LiteralBlock}
-use Rattle.go_cursor.specs.go_syntax.grammar.ParsedBodies.{IsBody, body_of, LiteralBodies}
-use Rattle.go_cursor.specs.go_syntax.grammar.Statements.{step_operator, assign_operator}
-use Rattle.go_cursor.specs.go_syntax.grammar.Statements.{IsSimple, simple_expr, simple_send, simple_step, simple_assign, simple_operation, simple_define, IsClause, clause_none, clause_some, IsInit, init_none, init_empty, init_some, IsReceive, receive, receive_paren, IsCommunication, communication_send, communication_receive, communication_assign, communication_define, IsMoreTypes, types_none, types_more, IsLabel, label_none, label_some, IsBinding, binding_none, binding_some, IsBlock, block_of, IsStmts, stmts_none, stmts_more, stmts_last, IsStmt, stmt_at, IsStmtKind, stmt_empty, stmt_simple, stmt_const, stmt_var, stmt_labeled, stmt_go, stmt_defer, stmt_return_none, stmt_return, stmt_break, stmt_break_alone, stmt_continue, stmt_continue_alone, stmt_goto, stmt_fallthrough, stmt_block, stmt_if, stmt_switch, stmt_type_switch, stmt_select, stmt_while, stmt_for, stmt_range, stmt_range_assign, stmt_range_define, IsIf, if_alone, if_else_if, if_else, IsCases, cases_none, cases_values, cases_default, IsTypeCases, type_cases_none, type_cases_types, type_cases_default, IsSelectCases, select_cases_none, select_cases_communication, select_cases_default}
-use Rattle.go_cursor.specs.go_syntax.grammar.Symbols.{Rule}
-use Rattle.go_cursor.specs.go_syntax.grammar.Terminals.{Terminal}
+use Rattle.go_syntax.specs.declared.body.BodyRange.{BodyRange}
+use Rattle.go_syntax.specs.declared.statement.Case.{Case}
+use Rattle.go_syntax.specs.declared.statement.SelectCase.{SelectCase}
+use Rattle.go_syntax.specs.declared.statement.Stmt.{Stmt}
+use Rattle.go_syntax.specs.declared.statement.StmtKind.{StmtKind}
+use Rattle.go_syntax.specs.declared.statement.TypeCase.{TypeCase}
+use Rattle.go_syntax.specs.declared.types.«Type».{«Type» as Typ}
+use Rattle.go_syntax.specs.declared.token.TokenKind.{TokenKind}
+use Rattle.go_syntax.specs.declared.token.TokenKind.TheVariants as kind
+use Rattle.go_syntax.specs.grammar.Brackets.{IsRun, run_none, run_nest, no_bracket, IsSkipped, skipped}
+use Rattle.go_syntax.specs.grammar.Declarations.{IsSpecs, specs_none, specs_more, IsGroup, group_one, group_specs, IsConstSpec, const_names, const_values, const_typed, IsVarSpec, var_type, var_values, var_typed}
+use Rattle.go_syntax.specs.declared.statement.LiteralBlock.{LiteralBlock}
+use Rattle.go_syntax.specs.grammar.ParsedBodies.{IsBody, body_of, LiteralBodies}
+use Rattle.go_syntax.specs.grammar.Statements.{step_operator, assign_operator}
+use Rattle.go_syntax.specs.grammar.Statements.{IsSimple, simple_expr, simple_send, simple_step, simple_assign, simple_operation, simple_define, IsClause, clause_none, clause_some, IsInit, init_none, init_empty, init_some, IsReceive, receive, receive_paren, IsCommunication, communication_send, communication_receive, communication_assign, communication_define, IsMoreTypes, types_none, types_more, IsLabel, label_none, label_some, IsBinding, binding_none, binding_some, IsBlock, block_of, IsStmts, stmts_none, stmts_more, stmts_last, IsStmt, stmt_at, IsStmtKind, stmt_empty, stmt_simple, stmt_const, stmt_var, stmt_labeled, stmt_go, stmt_defer, stmt_return_none, stmt_return, stmt_break, stmt_break_alone, stmt_continue, stmt_continue_alone, stmt_goto, stmt_fallthrough, stmt_block, stmt_if, stmt_switch, stmt_type_switch, stmt_select, stmt_while, stmt_for, stmt_range, stmt_range_assign, stmt_range_define, IsIf, if_alone, if_else_if, if_else, IsCases, cases_none, cases_values, cases_default, IsTypeCases, type_cases_none, type_cases_types, type_cases_default, IsSelectCases, select_cases_none, select_cases_communication, select_cases_default}
+use Rattle.go_syntax.specs.grammar.Symbols.{Rule}
+use Rattle.go_syntax.specs.grammar.Terminals.{Terminal}
 use Rattle.go_descent.proofs.Balanced.{Balances, takes_run, takes_name_run, ends_run, nest_run, names_run, type_run, expr_run, exprs_run, optional_run, unary_run, primary_run}
 use Rattle.go_cursor.proofs.Runs.{run_and}
 

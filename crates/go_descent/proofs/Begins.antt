@@ -1,14 +1,14 @@
 -- What a reading finds step by step, and with what terminals a tree begins.
 use Rattle.std.proofs.Common.{◌≡◌, ℕ, zero, suc, ◌≤◌, ◌<◌, List, [], ◌∷◌, ◌++◌, length, Bool, true, false, if◌then◌else◌, Some, None, refl, sym, ap, ◌∙◌, append_assoc, append-nil, arith}
-use Rattle.go_cursor.specs.go_syntax.declared.body.BodyRange.{BodyRange}
-use Rattle.go_cursor.specs.go_syntax.declared.types.ParameterDecl.{ParameterDecl}
-use Rattle.go_cursor.specs.go_syntax.declared.types.Signature.{Signature}
-use Rattle.go_cursor.specs.go_syntax.declared.types.«Type».{«Type» as Typ}
-use Rattle.go_cursor.specs.go_syntax.declared.token.TokenKind.TheVariants as kind
-use Rattle.go_cursor.specs.go_syntax.grammar.Grammar as grammar
-use Rattle.go_cursor.specs.go_syntax.grammar.Grammar.{prefix_operator, is_receive_type}
-use Rattle.go_cursor.specs.go_syntax.grammar.Symbols.{Rule, Takes, takes, MayTake, takes_none, takes_one, takes_name, Ends, ends_semicolon, ends_closing, begins, begins_type, closes}
-use Rattle.go_cursor.specs.go_syntax.grammar.Terminals.{Terminal, Sign}
+use Rattle.go_syntax.specs.declared.body.BodyRange.{BodyRange}
+use Rattle.go_syntax.specs.declared.types.ParameterDecl.{ParameterDecl}
+use Rattle.go_syntax.specs.declared.types.Signature.{Signature}
+use Rattle.go_syntax.specs.declared.types.«Type».{«Type» as Typ}
+use Rattle.go_syntax.specs.declared.token.TokenKind.TheVariants as kind
+use Rattle.go_syntax.specs.grammar.Grammar as grammar
+use Rattle.go_syntax.specs.grammar.Grammar.{prefix_operator, is_receive_type}
+use Rattle.go_syntax.specs.grammar.Symbols.{Rule, Takes, takes, MayTake, takes_none, takes_one, takes_name, Ends, ends_semicolon, ends_closing, begins, begins_type, closes}
+use Rattle.go_syntax.specs.grammar.Terminals.{Terminal, Sign}
 use Rattle.go_cursor.specs.Reading.{Found, Reader, Next, Stop, More, bind, turn, loop, run, put, step_of, close, past, goes_on, ended, string_at}
 
 -- Steps of a reading

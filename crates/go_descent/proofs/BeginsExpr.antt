@@ -1,19 +1,19 @@
 -- With what terminals an expression begins.
 use Rattle.std.proofs.Common.{◌≡◌, ℕ, List, [], ◌∷◌, Bool, true, false, not, Some, None, refl, ap}
-use Rattle.go_cursor.specs.go_syntax.declared.expression.Element.{Element}
-use Rattle.go_cursor.specs.go_syntax.declared.expression.ElementValue.{ElementValue}
-use Rattle.go_cursor.specs.go_syntax.declared.expression.Expr.{Expr}
-use Rattle.go_cursor.specs.go_syntax.declared.expression.Literal.{Literal}
-use Rattle.go_cursor.specs.go_syntax.declared.name.Name.{Name}
+use Rattle.go_syntax.specs.declared.expression.Element.{Element}
+use Rattle.go_syntax.specs.declared.expression.ElementValue.{ElementValue}
+use Rattle.go_syntax.specs.declared.expression.Expr.{Expr}
+use Rattle.go_syntax.specs.declared.expression.Literal.{Literal}
+use Rattle.go_syntax.specs.declared.name.Name.{Name}
 use Rattle.go_cursor.specs.go_base.declared.operator.PrefixOperator.{PrefixOperator}
-use Rattle.go_cursor.specs.go_syntax.declared.body.BodyRange.{BodyRange}
-use Rattle.go_cursor.specs.go_syntax.declared.types.«Type».{«Type» as Typ}
-use Rattle.go_cursor.specs.go_syntax.declared.token.TokenKind.{TokenKind}
-use Rattle.go_cursor.specs.go_syntax.declared.token.TokenKind.TheVariants as kind
-use Rattle.go_cursor.specs.go_syntax.grammar.Grammar as grammar
-use Rattle.go_cursor.specs.go_syntax.grammar.Grammar.{prefix_operator, is_receive_type}
-use Rattle.go_cursor.specs.go_syntax.grammar.Symbols.{Rule, takes, takes_name, takes_literal, begins, closes, sign_at}
-use Rattle.go_cursor.specs.go_syntax.grammar.Terminals.{Terminal, Sign, Identifier, Basic, Extent}
+use Rattle.go_syntax.specs.declared.body.BodyRange.{BodyRange}
+use Rattle.go_syntax.specs.declared.types.«Type».{«Type» as Typ}
+use Rattle.go_syntax.specs.declared.token.TokenKind.{TokenKind}
+use Rattle.go_syntax.specs.declared.token.TokenKind.TheVariants as kind
+use Rattle.go_syntax.specs.grammar.Grammar as grammar
+use Rattle.go_syntax.specs.grammar.Grammar.{prefix_operator, is_receive_type}
+use Rattle.go_syntax.specs.grammar.Symbols.{Rule, takes, takes_name, takes_literal, begins, closes, sign_at}
+use Rattle.go_syntax.specs.grammar.Terminals.{Terminal, Sign, Identifier, Basic, Extent}
 use Rattle.go_cursor.specs.LookAheads.{begins_receive}
 use Rattle.go_descent.specs.Rules.{operator_at}
 

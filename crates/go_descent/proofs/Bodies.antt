@@ -1,11 +1,11 @@
 -- What is known of bodies that are balanced, and so of those that are skipped.
 use Rattle.std.proofs.Common.{◌≡◌, ℕ, List, true, Some, refl}
-use Rattle.go_cursor.specs.go_syntax.declared.body.BodyRange.{BodyRange}
-use Rattle.go_cursor.specs.go_syntax.declared.token.TokenKind.TheVariants as kind
-use Rattle.go_cursor.specs.go_syntax.grammar.Brackets.{IsSkipped, skipped}
-use Rattle.go_cursor.specs.go_syntax.grammar.SourceFiles.{Skips}
-use Rattle.go_cursor.specs.go_syntax.grammar.Symbols.{Rule, begins}
-use Rattle.go_cursor.specs.go_syntax.grammar.Terminals.{Terminal}
+use Rattle.go_syntax.specs.declared.body.BodyRange.{BodyRange}
+use Rattle.go_syntax.specs.declared.token.TokenKind.TheVariants as kind
+use Rattle.go_syntax.specs.grammar.Brackets.{IsSkipped, skipped}
+use Rattle.go_syntax.specs.grammar.SourceFiles.{Skips}
+use Rattle.go_syntax.specs.grammar.Symbols.{Rule, begins}
+use Rattle.go_syntax.specs.grammar.Terminals.{Terminal}
 use Rattle.go_cursor.specs.Skipping.{skipped_body}
 use Rattle.go_descent.proofs.Ahead.{composite_ahead}
 use Rattle.go_descent.proofs.Balanced.{Balances}

@@ -1,8 +1,8 @@
 -- What is read of a body, where there are lower trees.
 use Rattle.std.proofs.Common.{◌≡◌, ℕ, true, List, Result, sym, subst}
-use Rattle.go_cursor.specs.go_syntax.declared.body.BodyRange.{BodyRange}
-use Rattle.go_cursor.specs.go_syntax.declared.token.Token.{Token}
-use Rattle.go_cursor.specs.go_syntax.grammar.Terminals.{Terminal}
+use Rattle.go_syntax.specs.declared.body.BodyRange.{BodyRange}
+use Rattle.go_syntax.specs.declared.token.Token.{Token}
+use Rattle.go_syntax.specs.grammar.Terminals.{Terminal}
 use Rattle.go_cursor.specs.declared.error.ParseError.{ParseError}
 use Rattle.go_cursor.specs.Reading.{Found}
 use Rattle.go_cursor.specs.Reads.{Reads}

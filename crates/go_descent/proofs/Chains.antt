@@ -1,11 +1,11 @@
 -- Loops over operands, beside the recursion on the turns that are left: what a turn makes of each kind of loop.
 use Rattle.std.proofs.Common.{◌≡◌, ℕ, ◌+◌, ◌-◌, ◌<◌, ◌≤◌, Bool, true, false, if◌then◌else◌, List, [], ◌∷◌, ◌++◌, length, drop, Option, Some, None, Result, Ok, Err, refl, ap, sym, subst, ◌∙◌, arith}
 use Rattle.std.specs.Result.{IsErrAnd}
-use Rattle.go_cursor.specs.go_syntax.declared.expression.Expr.{Expr}
-use Rattle.go_cursor.specs.go_syntax.declared.token.Token.{Token}
-use Rattle.go_cursor.specs.go_syntax.declared.token.TokenKind.{TokenKind}
-use Rattle.go_cursor.specs.go_syntax.grammar.Symbols.{sign_at}
-use Rattle.go_cursor.specs.go_syntax.grammar.Terminals.{Terminal, terminals}
+use Rattle.go_syntax.specs.declared.expression.Expr.{Expr}
+use Rattle.go_syntax.specs.declared.token.Token.{Token}
+use Rattle.go_syntax.specs.declared.token.TokenKind.{TokenKind}
+use Rattle.go_syntax.specs.grammar.Symbols.{sign_at}
+use Rattle.go_syntax.specs.grammar.Terminals.{Terminal, terminals}
 use Rattle.go_cursor.specs.declared.error.ParseError.{ParseError}
 use Rattle.go_cursor.specs.declared.error.ParseError.TheVariants.{Syntax, NoMemory}
 use Rattle.go_cursor.specs.Reading.{Found, Reader, Next, Stop, Fail, More, bind, loop, run, put, after, step_of}

@@ -1,8 +1,8 @@
 -- The readers of trees of a height below a number find each of them.
 use Rattle.std.proofs.Common.{◌≡◌, ℕ, zero, suc, List, Some, refl}
-use Rattle.go_cursor.specs.go_syntax.declared.body.BodyRange.{BodyRange}
-use Rattle.go_cursor.specs.go_syntax.grammar.Symbols.{Rule}
-use Rattle.go_cursor.specs.go_syntax.grammar.Terminals.{Terminal}
+use Rattle.go_syntax.specs.declared.body.BodyRange.{BodyRange}
+use Rattle.go_syntax.specs.grammar.Symbols.{Rule}
+use Rattle.go_syntax.specs.grammar.Terminals.{Terminal}
 use Rattle.go_cursor.specs.Reading.{Reader}
 use Rattle.go_descent.specs.Rules.{parts}
 use Rattle.go_descent.proofs.CompleteLiterals.{literal_read}

@@ -1,12 +1,12 @@
 -- Each composite literal's braces, with the elements in them, are found.
 use Rattle.std.proofs.Common.{◌≡◌, ℕ, suc, List, [], ◌∷◌, ◌++◌, true, false, not, Some, refl, ap, arith}
-use Rattle.go_cursor.specs.go_syntax.declared.expression.Element.{Element}
-use Rattle.go_cursor.specs.go_syntax.declared.expression.ElementValue.{ElementValue}
-use Rattle.go_cursor.specs.go_syntax.declared.body.BodyRange.{BodyRange}
-use Rattle.go_cursor.specs.go_syntax.declared.token.TokenKind.TheVariants as kind
-use Rattle.go_cursor.specs.go_syntax.grammar.Grammar as grammar
-use Rattle.go_cursor.specs.go_syntax.grammar.Symbols.{Rule, Takes, takes, MayTake, takes_none, takes_one, begins}
-use Rattle.go_cursor.specs.go_syntax.grammar.Terminals.{Terminal, Sign}
+use Rattle.go_syntax.specs.declared.expression.Element.{Element}
+use Rattle.go_syntax.specs.declared.expression.ElementValue.{ElementValue}
+use Rattle.go_syntax.specs.declared.body.BodyRange.{BodyRange}
+use Rattle.go_syntax.specs.declared.token.TokenKind.TheVariants as kind
+use Rattle.go_syntax.specs.grammar.Grammar as grammar
+use Rattle.go_syntax.specs.grammar.Symbols.{Rule, Takes, takes, MayTake, takes_none, takes_one, begins}
+use Rattle.go_syntax.specs.grammar.Terminals.{Terminal, Sign}
 use Rattle.go_cursor.specs.Reading.{after, step_of, expect}
 use Rattle.go_descent.specs.Rules.{Parts, element_value, element_of, element_item, elements, literal_value_of}
 use Rattle.go_descent.proofs.Begins.{read, if_so, if_not, Gives, gives_stop, gives_more, runs, comma_stops_brace, closing_comma_brace}

@@ -1,11 +1,11 @@
 -- Each list of names, each type's name and each tag is found.
 use Rattle.std.proofs.Common.{◌≡◌, ℕ, List, [], ◌∷◌, ◌++◌, false, Option, Some, None, refl, ap, arith}
-use Rattle.go_cursor.specs.go_syntax.declared.name.Name.{Name}
-use Rattle.go_cursor.specs.go_syntax.declared.name.QualifiedName.{QualifiedName}
-use Rattle.go_cursor.specs.go_syntax.declared.token.TokenKind.TheVariants as kind
-use Rattle.go_cursor.specs.go_syntax.grammar.Grammar as grammar
-use Rattle.go_cursor.specs.go_syntax.grammar.Symbols.{takes, takes_name, takes_string, begins}
-use Rattle.go_cursor.specs.go_syntax.grammar.Terminals.{Terminal, Sign, Identifier}
+use Rattle.go_syntax.specs.declared.name.Name.{Name}
+use Rattle.go_syntax.specs.declared.name.QualifiedName.{QualifiedName}
+use Rattle.go_syntax.specs.declared.token.TokenKind.TheVariants as kind
+use Rattle.go_syntax.specs.grammar.Grammar as grammar
+use Rattle.go_syntax.specs.grammar.Symbols.{takes, takes_name, takes_string, begins}
+use Rattle.go_syntax.specs.grammar.Terminals.{Terminal, Sign, Identifier}
 use Rattle.go_cursor.specs.Names.{name_item, names, type_name, tag_of, tag}
 use Rattle.go_cursor.specs.Reading.{step_of, string_at}
 use Rattle.go_descent.proofs.Begins.{if_not, Gives, gives_stop, gives_more, runs}

@@ -1,14 +1,14 @@
 -- Each operand is found.
 use Rattle.std.proofs.Common.{◌≡◌, ℕ, List, ◌∷◌, drop, Bool, true, false, if◌then◌else◌, Some, refl, ◌∙◌}
-use Rattle.go_cursor.specs.go_syntax.declared.expression.Expr.{Expr}
-use Rattle.go_cursor.specs.go_syntax.declared.expression.Expr.TheVariants as expr
-use Rattle.go_cursor.specs.go_syntax.declared.name.Name.{Name}
-use Rattle.go_cursor.specs.go_syntax.declared.body.BodyRange.{BodyRange}
-use Rattle.go_cursor.specs.go_syntax.declared.types.«Type».{«Type» as Typ}
-use Rattle.go_cursor.specs.go_syntax.declared.token.TokenKind.TheVariants as kind
-use Rattle.go_cursor.specs.go_syntax.grammar.Grammar as grammar
-use Rattle.go_cursor.specs.go_syntax.grammar.Symbols.{Rule, takes, takes_name, takes_literal, begins, begins_selector}
-use Rattle.go_cursor.specs.go_syntax.grammar.Terminals.{Terminal, Identifier}
+use Rattle.go_syntax.specs.declared.expression.Expr.{Expr}
+use Rattle.go_syntax.specs.declared.expression.Expr.TheVariants as expr
+use Rattle.go_syntax.specs.declared.name.Name.{Name}
+use Rattle.go_syntax.specs.declared.body.BodyRange.{BodyRange}
+use Rattle.go_syntax.specs.declared.types.«Type».{«Type» as Typ}
+use Rattle.go_syntax.specs.declared.token.TokenKind.TheVariants as kind
+use Rattle.go_syntax.specs.grammar.Grammar as grammar
+use Rattle.go_syntax.specs.grammar.Symbols.{Rule, takes, takes_name, takes_literal, begins, begins_selector}
+use Rattle.go_syntax.specs.grammar.Terminals.{Terminal, Identifier}
 use Rattle.go_cursor.specs.Reading.{bind, expect, close}
 use Rattle.go_descent.specs.Rules.{Parts, named_composite, name_operand, func_operand, composite_operand, array_operand, paren_operand, other_operand, sign_operand, operand, chan_type, interface_type}
 use Rattle.go_descent.proofs.Begins.{read, if_so, if_not}

@@ -1,16 +1,16 @@
 -- Each expression is found: prefix operators, and chains of operators.
 use Rattle.std.proofs.Common.{◌≡◌, ℕ, zero, suc, ◌<◌, List, [], ◌∷◌, ◌++◌, length, Bool, Option, Some, None, refl, sym, ap, ◌∙◌, append_assoc, append-nil, arith}
-use Rattle.go_cursor.specs.go_syntax.declared.expression.Expr.{Expr}
+use Rattle.go_syntax.specs.declared.expression.Expr.{Expr}
 use Rattle.go_cursor.specs.go_base.declared.operator.CompareOp.{CompareOp}
 use Rattle.go_cursor.specs.go_base.declared.operator.ProductOperator.{ProductOperator}
 use Rattle.go_cursor.specs.go_base.declared.operator.SumOperator.{SumOperator}
-use Rattle.go_cursor.specs.go_syntax.declared.body.BodyRange.{BodyRange}
-use Rattle.go_cursor.specs.go_syntax.declared.token.TokenKind.{TokenKind}
-use Rattle.go_cursor.specs.go_syntax.declared.token.TokenKind.TheVariants as kind
-use Rattle.go_cursor.specs.go_syntax.grammar.Grammar as grammar
-use Rattle.go_cursor.specs.go_syntax.grammar.Grammar.{comparison, sum_operator, product_operator}
-use Rattle.go_cursor.specs.go_syntax.grammar.Symbols.{Rule, takes, sign_at}
-use Rattle.go_cursor.specs.go_syntax.grammar.Terminals.{Terminal, Sign, Extent}
+use Rattle.go_syntax.specs.declared.body.BodyRange.{BodyRange}
+use Rattle.go_syntax.specs.declared.token.TokenKind.{TokenKind}
+use Rattle.go_syntax.specs.declared.token.TokenKind.TheVariants as kind
+use Rattle.go_syntax.specs.grammar.Grammar as grammar
+use Rattle.go_syntax.specs.grammar.Grammar.{comparison, sum_operator, product_operator}
+use Rattle.go_syntax.specs.grammar.Symbols.{Rule, takes, sign_at}
+use Rattle.go_syntax.specs.grammar.Terminals.{Terminal, Sign, Extent}
 use Rattle.go_cursor.specs.Reading.{Reader, Next, Stop, More, after, turn, loop, step_of}
 use Rattle.go_descent.specs.Rules.{Parts, operator_at, prefixed, unary_expr, put_both, step_both, operated, operation, chain_of, after_sign, plain_chain, product_expr, sum_expr, compare_expr, and_expr, expr_of}
 use Rattle.go_descent.proofs.Begins.{read, if_not, Gives, gives_stop, gives_more, runs}

@@ -1,14 +1,14 @@
 -- What it is for readers of parts to find each tree, and what follows an expression.
 use Rattle.std.proofs.Common.{◌≡◌, ℕ, suc, List, ◌∷◌, Bool, true, false, Some, None, refl}
-use Rattle.go_cursor.specs.go_syntax.declared.expression.Element.{Element}
-use Rattle.go_cursor.specs.go_syntax.declared.expression.Expr.{Expr}
-use Rattle.go_cursor.specs.go_syntax.declared.body.BodyRange.{BodyRange}
-use Rattle.go_cursor.specs.go_syntax.declared.types.Signature.{Signature}
-use Rattle.go_cursor.specs.go_syntax.declared.types.«Type».{«Type» as Typ}
-use Rattle.go_cursor.specs.go_syntax.declared.token.TokenKind.TheVariants as kind
-use Rattle.go_cursor.specs.go_syntax.grammar.Grammar.{IsType, IsCompositeType, IsSignature, IsExpr, IsUnary, IsLiteralValue, comparison, sum_operator, product_operator}
-use Rattle.go_cursor.specs.go_syntax.grammar.Symbols.{Rule, begins, sign_at}
-use Rattle.go_cursor.specs.go_syntax.grammar.Terminals.{Terminal, Sign, Extent}
+use Rattle.go_syntax.specs.declared.expression.Element.{Element}
+use Rattle.go_syntax.specs.declared.expression.Expr.{Expr}
+use Rattle.go_syntax.specs.declared.body.BodyRange.{BodyRange}
+use Rattle.go_syntax.specs.declared.types.Signature.{Signature}
+use Rattle.go_syntax.specs.declared.types.«Type».{«Type» as Typ}
+use Rattle.go_syntax.specs.declared.token.TokenKind.TheVariants as kind
+use Rattle.go_syntax.specs.grammar.Grammar.{IsType, IsCompositeType, IsSignature, IsExpr, IsUnary, IsLiteralValue, comparison, sum_operator, product_operator}
+use Rattle.go_syntax.specs.grammar.Symbols.{Rule, begins, sign_at}
+use Rattle.go_syntax.specs.grammar.Terminals.{Terminal, Sign, Extent}
 use Rattle.go_cursor.specs.Skipping.{is_composite}
 use Rattle.go_cursor.proofs.Steps.{Below}
 use Rattle.go_descent.specs.Follow.{begins_post, Over, OverExpr}

@@ -1,13 +1,13 @@
 -- Each list of expressions, each post and each primary expression is found.
 use Rattle.std.proofs.Common.{◌≡◌, ℕ, suc, ◌<◌, List, [], ◌∷◌, ◌++◌, length, Bool, true, false, not, if◌then◌else◌, Option, Some, refl, ap, arith}
-use Rattle.go_cursor.specs.go_syntax.declared.expression.Expr.{Expr}
-use Rattle.go_cursor.specs.go_syntax.declared.expression.Post.{Post}
-use Rattle.go_cursor.specs.go_syntax.declared.expression.Post.TheVariants as post
-use Rattle.go_cursor.specs.go_syntax.declared.body.BodyRange.{BodyRange}
-use Rattle.go_cursor.specs.go_syntax.declared.token.TokenKind.TheVariants as kind
-use Rattle.go_cursor.specs.go_syntax.grammar.Grammar as grammar
-use Rattle.go_cursor.specs.go_syntax.grammar.Symbols.{Rule, Takes, takes, MayTake, takes_none, takes_one, Marks, unmarked, marked, takes_name, begins, begins_selector}
-use Rattle.go_cursor.specs.go_syntax.grammar.Terminals.{Terminal, Sign, Identifier}
+use Rattle.go_syntax.specs.declared.expression.Expr.{Expr}
+use Rattle.go_syntax.specs.declared.expression.Post.{Post}
+use Rattle.go_syntax.specs.declared.expression.Post.TheVariants as post
+use Rattle.go_syntax.specs.declared.body.BodyRange.{BodyRange}
+use Rattle.go_syntax.specs.declared.token.TokenKind.TheVariants as kind
+use Rattle.go_syntax.specs.grammar.Grammar as grammar
+use Rattle.go_syntax.specs.grammar.Symbols.{Rule, Takes, takes, MayTake, takes_none, takes_one, Marks, unmarked, marked, takes_name, begins, begins_selector}
+use Rattle.go_syntax.specs.grammar.Terminals.{Terminal, Sign, Identifier}
 use Rattle.go_cursor.specs.LookAheads.{begins_type_switch}
 use Rattle.go_cursor.specs.Reading.{Reader, Next, Stop, More, after, step_of, expect, close, goes_on}
 use Rattle.go_descent.specs.Rules.{Parts, expr_item, more_exprs, exprs, call_end, call, bound, slice_end, index, selector, post_item, primary_expr}

@@ -1,15 +1,15 @@
 -- Each list of parameters and each signature is found.
 use Rattle.std.proofs.Common.{◌≡◌, ℕ, List, [], ◌∷◌, ◌++◌, true, false, not, if◌then◌else◌, Some, refl, ap, ◌∙◌, arith}
-use Rattle.go_cursor.specs.go_syntax.declared.name.Name.{Name}
-use Rattle.go_cursor.specs.go_syntax.declared.body.BodyRange.{BodyRange}
-use Rattle.go_cursor.specs.go_syntax.declared.types.ParameterDecl.{ParameterDecl}
-use Rattle.go_cursor.specs.go_syntax.declared.types.Signature.{Signature}
-use Rattle.go_cursor.specs.go_syntax.declared.types.«Type».{«Type» as Typ}
-use Rattle.go_cursor.specs.go_syntax.declared.token.TokenKind.TheVariants as kind
-use Rattle.go_cursor.specs.go_syntax.grammar.Grammar as grammar
-use Rattle.go_cursor.specs.go_syntax.grammar.Grammar.{last_variadic}
-use Rattle.go_cursor.specs.go_syntax.grammar.Symbols.{Rule, Takes, takes, MayTake, takes_none, takes_one, takes_name, begins, begins_type, closes}
-use Rattle.go_cursor.specs.go_syntax.grammar.Terminals.{Terminal, Sign, Identifier, Extent}
+use Rattle.go_syntax.specs.declared.name.Name.{Name}
+use Rattle.go_syntax.specs.declared.body.BodyRange.{BodyRange}
+use Rattle.go_syntax.specs.declared.types.ParameterDecl.{ParameterDecl}
+use Rattle.go_syntax.specs.declared.types.Signature.{Signature}
+use Rattle.go_syntax.specs.declared.types.«Type».{«Type» as Typ}
+use Rattle.go_syntax.specs.declared.token.TokenKind.TheVariants as kind
+use Rattle.go_syntax.specs.grammar.Grammar as grammar
+use Rattle.go_syntax.specs.grammar.Grammar.{last_variadic}
+use Rattle.go_syntax.specs.grammar.Symbols.{Rule, Takes, takes, MayTake, takes_none, takes_one, takes_name, begins, begins_type, closes}
+use Rattle.go_syntax.specs.grammar.Terminals.{Terminal, Sign, Identifier, Extent}
 use Rattle.go_cursor.specs.LookAheads.{is_named}
 use Rattle.go_cursor.specs.Reading.{Reader, after, step_of, expect, goes_on}
 use Rattle.go_descent.specs.Rules.{Parts, parameter_of, unnamed_item, unnamed, named_parameter, named_item, named, some_parameters, parameters, result_parameters, signature_end, signature_of}

@@ -1,14 +1,14 @@
 -- Each type is found.
 use Rattle.std.proofs.Common.{◌≡◌, ℕ, suc, ◌<◌, List, [], ◌∷◌, ◌++◌, length, drop, true, false, if◌then◌else◌, Option, Some, refl, ap, ◌∙◌, arith}
-use Rattle.go_cursor.specs.go_syntax.declared.name.Name.{Name}
-use Rattle.go_cursor.specs.go_syntax.declared.body.BodyRange.{BodyRange}
-use Rattle.go_cursor.specs.go_syntax.declared.types.FieldDecl.{FieldDecl}
-use Rattle.go_cursor.specs.go_syntax.declared.types.InterfaceElem.{InterfaceElem}
-use Rattle.go_cursor.specs.go_syntax.declared.types.«Type».{«Type» as Typ}
-use Rattle.go_cursor.specs.go_syntax.declared.token.TokenKind.TheVariants as kind
-use Rattle.go_cursor.specs.go_syntax.grammar.Grammar as grammar
-use Rattle.go_cursor.specs.go_syntax.grammar.Symbols.{Rule, takes, takes_name, takes_string, Ends, begins, begins_type, closes}
-use Rattle.go_cursor.specs.go_syntax.grammar.Terminals.{Terminal, Sign, Identifier}
+use Rattle.go_syntax.specs.declared.name.Name.{Name}
+use Rattle.go_syntax.specs.declared.body.BodyRange.{BodyRange}
+use Rattle.go_syntax.specs.declared.types.FieldDecl.{FieldDecl}
+use Rattle.go_syntax.specs.declared.types.InterfaceElem.{InterfaceElem}
+use Rattle.go_syntax.specs.declared.types.«Type».{«Type» as Typ}
+use Rattle.go_syntax.specs.declared.token.TokenKind.TheVariants as kind
+use Rattle.go_syntax.specs.grammar.Grammar as grammar
+use Rattle.go_syntax.specs.grammar.Symbols.{Rule, takes, takes_name, takes_string, Ends, begins, begins_type, closes}
+use Rattle.go_syntax.specs.grammar.Terminals.{Terminal, Sign, Identifier}
 use Rattle.go_cursor.specs.LookAheads.{names_field}
 use Rattle.go_cursor.specs.Reading.{after, step_of, expect, close}
 use Rattle.go_descent.specs.Rules.{Parts, embedded_field, named_field, field_of, field_item, fields, struct_type, slice_or_array, map_type, composite_type, chan_type, method_of, interface_elem, interface_item, interface_elems, interface_type, receive_type, typ_of}

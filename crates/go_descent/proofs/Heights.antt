@@ -1,7 +1,7 @@
 -- The readers at height 0, and above it.
 use Rattle.std.proofs.Common.{◌≡◌, ℕ, zero, suc, Bool, true, false, List, None, ap, sym, ◌∙◌, refl}
-use Rattle.go_cursor.specs.go_syntax.declared.body.BodyRange.{BodyRange}
-use Rattle.go_cursor.specs.go_syntax.grammar.Terminals.{Terminal}
+use Rattle.go_syntax.specs.declared.body.BodyRange.{BodyRange}
+use Rattle.go_syntax.specs.grammar.Terminals.{Terminal}
 use Rattle.go_cursor.specs.Reading.{Reader}
 use Rattle.go_descent.specs.Rules.{Parts, no_parts, whole_parts, parts}
 use Rattle.go_cursor.specs.Skipping.{skipped_body}

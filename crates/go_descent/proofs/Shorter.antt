@@ -1,26 +1,26 @@
 -- What follows a tree is no longer than the terminals at which it begins.
 use Rattle.std.proofs.Common.{ℕ, ◌≤◌, List, length, Bool, Option, arith}
-use Rattle.go_cursor.specs.go_syntax.declared.expression.Element.{Element}
-use Rattle.go_cursor.specs.go_syntax.declared.expression.ElementValue.{ElementValue}
-use Rattle.go_cursor.specs.go_syntax.declared.expression.Expr.{Expr}
-use Rattle.go_cursor.specs.go_syntax.declared.expression.Post.{Post}
-use Rattle.go_cursor.specs.go_syntax.declared.name.Name.{Name}
-use Rattle.go_cursor.specs.go_syntax.declared.name.QualifiedName.{QualifiedName}
+use Rattle.go_syntax.specs.declared.expression.Element.{Element}
+use Rattle.go_syntax.specs.declared.expression.ElementValue.{ElementValue}
+use Rattle.go_syntax.specs.declared.expression.Expr.{Expr}
+use Rattle.go_syntax.specs.declared.expression.Post.{Post}
+use Rattle.go_syntax.specs.declared.name.Name.{Name}
+use Rattle.go_syntax.specs.declared.name.QualifiedName.{QualifiedName}
 use Rattle.go_cursor.specs.go_base.declared.operator.CompareOp.{CompareOp}
 use Rattle.go_cursor.specs.go_base.declared.operator.ProductOperator.{ProductOperator}
 use Rattle.go_cursor.specs.go_base.declared.operator.SumOperator.{SumOperator}
-use Rattle.go_cursor.specs.go_syntax.declared.body.BodyRange.{BodyRange}
-use Rattle.go_cursor.specs.go_syntax.declared.types.FieldDecl.{FieldDecl}
-use Rattle.go_cursor.specs.go_syntax.declared.types.InterfaceElem.{InterfaceElem}
-use Rattle.go_cursor.specs.go_syntax.declared.types.ParameterDecl.{ParameterDecl}
-use Rattle.go_cursor.specs.go_syntax.declared.types.Signature.{Signature}
-use Rattle.go_cursor.specs.go_syntax.declared.types.«Type».{«Type» as Typ}
-use Rattle.go_cursor.specs.go_syntax.declared.token.TokenKind.{TokenKind}
-use Rattle.go_cursor.specs.go_syntax.grammar.Brackets.{IsRun, run_none, run_plain, run_nest, skipped}
-use Rattle.go_cursor.specs.go_syntax.grammar.Grammar as grammar
-use Rattle.go_cursor.specs.go_syntax.grammar.SourceFiles.{Skips}
-use Rattle.go_cursor.specs.go_syntax.grammar.Symbols.{Rule, takes, MayTake, takes_none, takes_one, Marks, unmarked, marked, takes_name, takes_literal, takes_string, Ends, ends_semicolon, ends_closing}
-use Rattle.go_cursor.specs.go_syntax.grammar.Terminals.{Terminal}
+use Rattle.go_syntax.specs.declared.body.BodyRange.{BodyRange}
+use Rattle.go_syntax.specs.declared.types.FieldDecl.{FieldDecl}
+use Rattle.go_syntax.specs.declared.types.InterfaceElem.{InterfaceElem}
+use Rattle.go_syntax.specs.declared.types.ParameterDecl.{ParameterDecl}
+use Rattle.go_syntax.specs.declared.types.Signature.{Signature}
+use Rattle.go_syntax.specs.declared.types.«Type».{«Type» as Typ}
+use Rattle.go_syntax.specs.declared.token.TokenKind.{TokenKind}
+use Rattle.go_syntax.specs.grammar.Brackets.{IsRun, run_none, run_plain, run_nest, skipped}
+use Rattle.go_syntax.specs.grammar.Grammar as grammar
+use Rattle.go_syntax.specs.grammar.SourceFiles.{Skips}
+use Rattle.go_syntax.specs.grammar.Symbols.{Rule, takes, MayTake, takes_none, takes_one, Marks, unmarked, marked, takes_name, takes_literal, takes_string, Ends, ends_semicolon, ends_closing}
+use Rattle.go_syntax.specs.grammar.Terminals.{Terminal}
 
 pub may_shorter : {k : TokenKind} {ts rest : List Terminal} → MayTake k ts rest → length rest ≤ length ts
 may_shorter takes_none = omega arith

@@ -1,7 +1,7 @@
 -- The readers of each level are sound: what they find is in the grammar, below their height.
 use Rattle.std.proofs.Common.{ℕ, zero, suc, true, refl}
-use Rattle.go_cursor.specs.go_syntax.declared.body.BodyRange.{BodyRange}
-use Rattle.go_cursor.specs.go_syntax.grammar.Symbols.{Rule}
+use Rattle.go_syntax.specs.declared.body.BodyRange.{BodyRange}
+use Rattle.go_syntax.specs.grammar.Symbols.{Rule}
 use Rattle.go_cursor.specs.Reading.{Reader}
 use Rattle.go_descent.specs.Rules.{Parts, no_parts, whole_parts, parts}
 use Rattle.go_descent.proofs.SoundOperands.{literal_value_sound}

@@ -1,16 +1,16 @@
 -- What the readers of literals and operands find is in the grammar.
 use Rattle.std.proofs.Common.{◌≡◌, ℕ, zero, suc, List, [], ◌∷◌, drop, Bool, true, false, Option, Some, None, refl}
-use Rattle.go_cursor.specs.go_syntax.declared.expression.Element.{Element}
-use Rattle.go_cursor.specs.go_syntax.declared.expression.Expr.{Expr}
-use Rattle.go_cursor.specs.go_syntax.declared.expression.Expr.TheVariants as expr
-use Rattle.go_cursor.specs.go_syntax.declared.expression.Literal.{Literal}
-use Rattle.go_cursor.specs.go_syntax.declared.body.BodyRange.{BodyRange}
-use Rattle.go_cursor.specs.go_syntax.declared.types.«Type».{«Type» as Typ}
-use Rattle.go_cursor.specs.go_syntax.declared.types.«Type».TheVariants as type
-use Rattle.go_cursor.specs.go_syntax.declared.token.TokenKind.TheVariants as kind
-use Rattle.go_cursor.specs.go_syntax.grammar.Grammar.{IsType, IsCompositeType, IsOtherType, IsSignature, IsExpr, IsOperand, operand_literal, operand_name, operand_func, operand_named_composite, operand_composite, operand_composite_array, operand_composite_type, operand_func_type, operand_other_type, operand_paren, operand_paren_receive, IsLiteralValue, literal_none, literal_some, IsMoreElements, elements_none, elements_more, IsElement, element_alone, element_keyed, IsElementValue, value_expr, value_literal}
-use Rattle.go_cursor.specs.go_syntax.grammar.Symbols.{Rule, Takes, MayTake, begins}
-use Rattle.go_cursor.specs.go_syntax.grammar.Terminals.{Terminal}
+use Rattle.go_syntax.specs.declared.expression.Element.{Element}
+use Rattle.go_syntax.specs.declared.expression.Expr.{Expr}
+use Rattle.go_syntax.specs.declared.expression.Expr.TheVariants as expr
+use Rattle.go_syntax.specs.declared.expression.Literal.{Literal}
+use Rattle.go_syntax.specs.declared.body.BodyRange.{BodyRange}
+use Rattle.go_syntax.specs.declared.types.«Type».{«Type» as Typ}
+use Rattle.go_syntax.specs.declared.types.«Type».TheVariants as type
+use Rattle.go_syntax.specs.declared.token.TokenKind.TheVariants as kind
+use Rattle.go_syntax.specs.grammar.Grammar.{IsType, IsCompositeType, IsOtherType, IsSignature, IsExpr, IsOperand, operand_literal, operand_name, operand_func, operand_named_composite, operand_composite, operand_composite_array, operand_composite_type, operand_func_type, operand_other_type, operand_paren, operand_paren_receive, IsLiteralValue, literal_none, literal_some, IsMoreElements, elements_none, elements_more, IsElement, element_alone, element_keyed, IsElementValue, value_expr, value_literal}
+use Rattle.go_syntax.specs.grammar.Symbols.{Rule, Takes, MayTake, begins}
+use Rattle.go_syntax.specs.grammar.Terminals.{Terminal}
 use Rattle.go_cursor.specs.Names.{type_name}
 use Rattle.go_cursor.specs.LookAheads.{names_composite, begins_receive}
 use Rattle.go_cursor.specs.Reading.{Reader, bind, expect, past, name, begins_name, literal_at}

@@ -1,14 +1,14 @@
 -- What the readers of prefix operators and of chains of operators find is in the grammar.
 use Rattle.std.proofs.Common.{◌≡◌, ℕ, zero, suc, List, [], ◌∷◌, ◌++◌, length, drop, Bool, false, Option, Some, None, refl, sym, ap, ◌∙◌, subst, append_assoc, append-nil}
-use Rattle.go_cursor.specs.go_syntax.declared.expression.Expr.{Expr}
-use Rattle.go_cursor.specs.go_syntax.declared.expression.Expr.TheVariants as expr
+use Rattle.go_syntax.specs.declared.expression.Expr.{Expr}
+use Rattle.go_syntax.specs.declared.expression.Expr.TheVariants as expr
 use Rattle.go_cursor.specs.go_base.declared.operator.PrefixOperator.{PrefixOperator}
-use Rattle.go_cursor.specs.go_syntax.declared.body.BodyRange.{BodyRange}
-use Rattle.go_cursor.specs.go_syntax.declared.token.TokenKind.{TokenKind}
-use Rattle.go_cursor.specs.go_syntax.declared.token.TokenKind.TheVariants as kind
-use Rattle.go_cursor.specs.go_syntax.grammar.Grammar.{comparison, sum_operator, product_operator, prefix_operator, is_receive_type, or_of, and_of, compare_of, sum_of, product_of, IsExpr, expr_or, IsMoreOr, or_none, or_more, IsAnd, expr_and, IsMoreAnd, and_none, and_more, IsCompare, expr_compare, IsMoreCompare, compare_none, compare_more, IsSum, expr_sum, IsMoreSum, sum_none, sum_more, IsProduct, expr_product, IsMoreProduct, product_none, product_more, IsUnary, unary_prefix, unary_primary}
-use Rattle.go_cursor.specs.go_syntax.grammar.Symbols.{Rule, Takes, takes, begins, sign_at}
-use Rattle.go_cursor.specs.go_syntax.grammar.Terminals.{Terminal, Sign, Identifier, Basic, Odd, Extent}
+use Rattle.go_syntax.specs.declared.body.BodyRange.{BodyRange}
+use Rattle.go_syntax.specs.declared.token.TokenKind.{TokenKind}
+use Rattle.go_syntax.specs.declared.token.TokenKind.TheVariants as kind
+use Rattle.go_syntax.specs.grammar.Grammar.{comparison, sum_operator, product_operator, prefix_operator, is_receive_type, or_of, and_of, compare_of, sum_of, product_of, IsExpr, expr_or, IsMoreOr, or_none, or_more, IsAnd, expr_and, IsMoreAnd, and_none, and_more, IsCompare, expr_compare, IsMoreCompare, compare_none, compare_more, IsSum, expr_sum, IsMoreSum, sum_none, sum_more, IsProduct, expr_product, IsMoreProduct, product_none, product_more, IsUnary, unary_prefix, unary_primary}
+use Rattle.go_syntax.specs.grammar.Symbols.{Rule, Takes, takes, begins, sign_at}
+use Rattle.go_syntax.specs.grammar.Terminals.{Terminal, Sign, Identifier, Basic, Odd, Extent}
 use Rattle.go_cursor.specs.LookAheads.{begins_receive}
 use Rattle.go_cursor.specs.Reading.{Reader, Next, Stop, Fail, More, bind, turn, loop, run, step_of}
 use Rattle.go_descent.specs.Rules.{Parts, operator_at, prefixed, unary_expr, put_both, step_both, operated, operation, chain_of, after_sign, plain_chain, product_expr, sum_expr, compare_expr, and_expr, expr_of}

@@ -1,8 +1,8 @@
 -- What it means that the readers of the parts are sound: they find only what is one level lower.
 use Rattle.std.proofs.Common.{◌≡◌, ℕ, zero, suc, Bool, true, arith}
-use Rattle.go_cursor.specs.go_syntax.declared.body.BodyRange.{BodyRange}
-use Rattle.go_cursor.specs.go_syntax.grammar.Grammar.{IsType, IsCompositeType, IsSignature, IsExpr, IsUnary, IsLiteralValue}
-use Rattle.go_cursor.specs.go_syntax.grammar.Symbols.{Rule}
+use Rattle.go_syntax.specs.declared.body.BodyRange.{BodyRange}
+use Rattle.go_syntax.specs.grammar.Grammar.{IsType, IsCompositeType, IsSignature, IsExpr, IsUnary, IsLiteralValue}
+use Rattle.go_syntax.specs.grammar.Symbols.{Rule}
 use Rattle.go_descent.specs.Rules.{Parts}
 use Rattle.go_cursor.proofs.Steps.{Below, Sound}
 

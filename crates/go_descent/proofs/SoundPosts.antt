@@ -1,13 +1,13 @@
 -- What the readers of lists of expressions, of posts and of primary expressions find is in the grammar.
 use Rattle.std.proofs.Common.{◌≡◌, ℕ, zero, suc, List, [], ◌∷◌, drop, Bool, true, Option, Some, None}
-use Rattle.go_cursor.specs.go_syntax.declared.expression.Expr.{Expr}
-use Rattle.go_cursor.specs.go_syntax.declared.expression.Post.{Post}
-use Rattle.go_cursor.specs.go_syntax.declared.expression.Post.TheVariants as post
-use Rattle.go_cursor.specs.go_syntax.declared.body.BodyRange.{BodyRange}
-use Rattle.go_cursor.specs.go_syntax.declared.token.TokenKind.TheVariants as kind
-use Rattle.go_cursor.specs.go_syntax.grammar.Grammar.{IsExpr, IsPrimary, primary, IsPosts, posts_none, posts_more, IsPost, post_selector, post_assertion, post_index, post_slice, post_full_slice, post_call_none, post_call, post_call_receive, IsOptional, optional_none, optional_some, IsExprs, exprs as is_exprs, IsMoreExprs, exprs_none, exprs_more}
-use Rattle.go_cursor.specs.go_syntax.grammar.Symbols.{Rule, Takes, MayTake, begins}
-use Rattle.go_cursor.specs.go_syntax.grammar.Terminals.{Terminal}
+use Rattle.go_syntax.specs.declared.expression.Expr.{Expr}
+use Rattle.go_syntax.specs.declared.expression.Post.{Post}
+use Rattle.go_syntax.specs.declared.expression.Post.TheVariants as post
+use Rattle.go_syntax.specs.declared.body.BodyRange.{BodyRange}
+use Rattle.go_syntax.specs.declared.token.TokenKind.TheVariants as kind
+use Rattle.go_syntax.specs.grammar.Grammar.{IsExpr, IsPrimary, primary, IsPosts, posts_none, posts_more, IsPost, post_selector, post_assertion, post_index, post_slice, post_full_slice, post_call_none, post_call, post_call_receive, IsOptional, optional_none, optional_some, IsExprs, exprs as is_exprs, IsMoreExprs, exprs_none, exprs_more}
+use Rattle.go_syntax.specs.grammar.Symbols.{Rule, Takes, MayTake, begins}
+use Rattle.go_syntax.specs.grammar.Terminals.{Terminal}
 use Rattle.go_cursor.specs.LookAheads.{begins_receive, begins_type_switch}
 use Rattle.go_cursor.specs.Reading.{Found, Reader, bind, run, step_of, expect, close, past, name, begins_name}
 use Rattle.go_descent.specs.Rules.{Parts, expr_item, more_exprs, exprs, call_end, call, bound, index_of, full_slice, slice_end, index, selector, nest, post_item, operand, primary_expr}

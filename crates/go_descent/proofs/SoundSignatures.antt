@@ -1,14 +1,14 @@
 -- What the readers of parameters and signatures find is in the grammar.
 use Rattle.std.proofs.Common.{◌≡◌, ℕ, zero, suc, List, [], ◌∷◌, drop, true, if◌then◌else◌, Some}
-use Rattle.go_cursor.specs.go_syntax.declared.name.Name.{Name}
-use Rattle.go_cursor.specs.go_syntax.declared.body.BodyRange.{BodyRange}
-use Rattle.go_cursor.specs.go_syntax.declared.types.ParameterDecl.{ParameterDecl}
-use Rattle.go_cursor.specs.go_syntax.declared.types.Signature.{Signature}
-use Rattle.go_cursor.specs.go_syntax.declared.types.«Type».{«Type» as Typ}
-use Rattle.go_cursor.specs.go_syntax.declared.token.TokenKind.TheVariants as kind
-use Rattle.go_cursor.specs.go_syntax.grammar.Grammar.{last_variadic, none_variadic, IsNames, IsType, IsSignature, signature_alone, signature_parameters, signature_type, IsParameters, parameters_none, parameters_unnamed, parameters_named, IsParameter, parameter_one, parameter_variadic, IsUnnamed, unnamed as is_unnamed, IsMoreUnnamed, unnamed_none, unnamed_more, IsNamed, named as is_named_list, IsMoreNamed, named_none, named_more}
-use Rattle.go_cursor.specs.go_syntax.grammar.Symbols.{Rule, Takes, begins, begins_type}
-use Rattle.go_cursor.specs.go_syntax.grammar.Terminals.{Terminal}
+use Rattle.go_syntax.specs.declared.name.Name.{Name}
+use Rattle.go_syntax.specs.declared.body.BodyRange.{BodyRange}
+use Rattle.go_syntax.specs.declared.types.ParameterDecl.{ParameterDecl}
+use Rattle.go_syntax.specs.declared.types.Signature.{Signature}
+use Rattle.go_syntax.specs.declared.types.«Type».{«Type» as Typ}
+use Rattle.go_syntax.specs.declared.token.TokenKind.TheVariants as kind
+use Rattle.go_syntax.specs.grammar.Grammar.{last_variadic, none_variadic, IsNames, IsType, IsSignature, signature_alone, signature_parameters, signature_type, IsParameters, parameters_none, parameters_unnamed, parameters_named, IsParameter, parameter_one, parameter_variadic, IsUnnamed, unnamed as is_unnamed, IsMoreUnnamed, unnamed_none, unnamed_more, IsNamed, named as is_named_list, IsMoreNamed, named_none, named_more}
+use Rattle.go_syntax.specs.grammar.Symbols.{Rule, Takes, begins, begins_type}
+use Rattle.go_syntax.specs.grammar.Terminals.{Terminal}
 use Rattle.go_cursor.specs.Names.{names}
 use Rattle.go_cursor.specs.LookAheads.{is_named}
 use Rattle.go_cursor.specs.Reading.{Reader, expect, past}

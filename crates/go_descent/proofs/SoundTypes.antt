@@ -1,12 +1,12 @@
 -- What the readers of types find is in the grammar.
 use Rattle.std.proofs.Common.{◌≡◌, ℕ, zero, suc, List, [], drop, true, Some}
-use Rattle.go_cursor.specs.go_syntax.declared.body.BodyRange.{BodyRange}
-use Rattle.go_cursor.specs.go_syntax.declared.types.«Type».{«Type» as Typ}
-use Rattle.go_cursor.specs.go_syntax.declared.types.«Type».TheVariants as type
-use Rattle.go_cursor.specs.go_syntax.declared.token.TokenKind.TheVariants as kind
-use Rattle.go_cursor.specs.go_syntax.grammar.Grammar.{IsExpr, IsSignature, IsType, type_name as type_named, type_paren, type_pointer, type_receive, type_func, type_composite, type_other, IsCompositeType, type_slice, type_array, type_map, type_struct_empty, type_struct, IsOtherType, type_chan, type_send, type_interface_empty, type_interface, IsFields, fields_none, fields_more, IsField, field_named, field_embedded, field_pointer, IsInterfaceElems, elems_none, elems_more, IsInterfaceElem, elem_method, elem_embedded}
-use Rattle.go_cursor.specs.go_syntax.grammar.Symbols.{Rule, Takes, begins}
-use Rattle.go_cursor.specs.go_syntax.grammar.Terminals.{Terminal}
+use Rattle.go_syntax.specs.declared.body.BodyRange.{BodyRange}
+use Rattle.go_syntax.specs.declared.types.«Type».{«Type» as Typ}
+use Rattle.go_syntax.specs.declared.types.«Type».TheVariants as type
+use Rattle.go_syntax.specs.declared.token.TokenKind.TheVariants as kind
+use Rattle.go_syntax.specs.grammar.Grammar.{IsExpr, IsSignature, IsType, type_name as type_named, type_paren, type_pointer, type_receive, type_func, type_composite, type_other, IsCompositeType, type_slice, type_array, type_map, type_struct_empty, type_struct, IsOtherType, type_chan, type_send, type_interface_empty, type_interface, IsFields, fields_none, fields_more, IsField, field_named, field_embedded, field_pointer, IsInterfaceElems, elems_none, elems_more, IsInterfaceElem, elem_method, elem_embedded}
+use Rattle.go_syntax.specs.grammar.Symbols.{Rule, Takes, begins}
+use Rattle.go_syntax.specs.grammar.Terminals.{Terminal}
 use Rattle.go_cursor.specs.Names.{names, type_name, tag}
 use Rattle.go_cursor.specs.LookAheads.{names_field, names_method}
 use Rattle.go_cursor.specs.Reading.{bind, expect, close, name, begins_name}

@@ -1,10 +1,10 @@
 -- What must not follow an expression for its reader to end there: what a longer one would go on with.
 -- Own: how the parser reads what the grammar derives.
 use Rattle.std.specs.Prelude.{◌≡◌, Bool, true, false, if◌then◌else◌, List, None}
-use Rattle.go_cursor.specs.go_syntax.declared.token.TokenKind.TheVariants as kind
-use Rattle.go_cursor.specs.go_syntax.grammar.Grammar.{comparison, sum_operator, product_operator}
-use Rattle.go_cursor.specs.go_syntax.grammar.Symbols.{begins, sign_at}
-use Rattle.go_cursor.specs.go_syntax.grammar.Terminals.{Terminal}
+use Rattle.go_syntax.specs.declared.token.TokenKind.TheVariants as kind
+use Rattle.go_syntax.specs.grammar.Grammar.{comparison, sum_operator, product_operator}
+use Rattle.go_syntax.specs.grammar.Symbols.{begins, sign_at}
+use Rattle.go_syntax.specs.grammar.Terminals.{Terminal}
 use Rattle.go_cursor.specs.LookAheads.{begins_type_switch}
 use Rattle.go_descent.specs.Rules.{operator_at}
 

@@ -1,32 +1,32 @@
 -- What each rule's reader finds, where the readers of the parts, whose trees are lower, are given.
 -- Own: how the parser reads what the grammar derives.
 use Rattle.std.specs.Prelude.{ℕ, zero, suc, Bool, true, false, if◌then◌else◌, List, [], ◌∷◌, ◌++◌, drop, Option, Some, None}
-use Rattle.go_cursor.specs.go_syntax.declared.expression.Element.{Element}
-use Rattle.go_cursor.specs.go_syntax.declared.expression.ElementValue.{ElementValue}
-use Rattle.go_cursor.specs.go_syntax.declared.expression.ElementValue.TheVariants as value
-use Rattle.go_cursor.specs.go_syntax.declared.expression.Expr.{Expr}
-use Rattle.go_cursor.specs.go_syntax.declared.expression.Expr.TheVariants as expr
-use Rattle.go_cursor.specs.go_syntax.declared.expression.Literal.{Literal}
-use Rattle.go_cursor.specs.go_syntax.declared.expression.Post.{Post}
-use Rattle.go_cursor.specs.go_syntax.declared.expression.Post.TheVariants as post
-use Rattle.go_cursor.specs.go_syntax.declared.name.Name.{Name}
-use Rattle.go_cursor.specs.go_syntax.declared.name.QualifiedName.{QualifiedName}
+use Rattle.go_syntax.specs.declared.expression.Element.{Element}
+use Rattle.go_syntax.specs.declared.expression.ElementValue.{ElementValue}
+use Rattle.go_syntax.specs.declared.expression.ElementValue.TheVariants as value
+use Rattle.go_syntax.specs.declared.expression.Expr.{Expr}
+use Rattle.go_syntax.specs.declared.expression.Expr.TheVariants as expr
+use Rattle.go_syntax.specs.declared.expression.Literal.{Literal}
+use Rattle.go_syntax.specs.declared.expression.Post.{Post}
+use Rattle.go_syntax.specs.declared.expression.Post.TheVariants as post
+use Rattle.go_syntax.specs.declared.name.Name.{Name}
+use Rattle.go_syntax.specs.declared.name.QualifiedName.{QualifiedName}
 use Rattle.go_cursor.specs.go_base.declared.operator.PrefixOperator.{PrefixOperator}
-use Rattle.go_cursor.specs.go_syntax.declared.body.BodyRange.{BodyRange}
-use Rattle.go_cursor.specs.go_syntax.declared.types.FieldDecl.{FieldDecl}
-use Rattle.go_cursor.specs.go_syntax.declared.types.FieldDecl.TheVariants as field
-use Rattle.go_cursor.specs.go_syntax.declared.types.FuncResult.TheVariants as result
-use Rattle.go_cursor.specs.go_syntax.declared.types.InterfaceElem.{InterfaceElem}
-use Rattle.go_cursor.specs.go_syntax.declared.types.InterfaceElem.TheVariants as elem
-use Rattle.go_cursor.specs.go_syntax.declared.types.ParameterDecl.{ParameterDecl}
-use Rattle.go_cursor.specs.go_syntax.declared.types.Signature.{Signature}
-use Rattle.go_cursor.specs.go_syntax.declared.types.«Type».{«Type» as Typ}
-use Rattle.go_cursor.specs.go_syntax.declared.types.«Type».TheVariants as type
-use Rattle.go_cursor.specs.go_syntax.declared.token.TokenKind.{TokenKind}
-use Rattle.go_cursor.specs.go_syntax.declared.token.TokenKind.TheVariants as kind
-use Rattle.go_cursor.specs.go_syntax.grammar.Grammar.{comparison, sum_operator, product_operator, prefix_operator, or_of, and_of, compare_of, sum_of, product_of, primary_of, parameter, signature, none_variadic, last_variadic, element}
-use Rattle.go_cursor.specs.go_syntax.grammar.Symbols.{begins, begins_type, closes, sign_at}
-use Rattle.go_cursor.specs.go_syntax.grammar.Terminals.{Terminal}
+use Rattle.go_syntax.specs.declared.body.BodyRange.{BodyRange}
+use Rattle.go_syntax.specs.declared.types.FieldDecl.{FieldDecl}
+use Rattle.go_syntax.specs.declared.types.FieldDecl.TheVariants as field
+use Rattle.go_syntax.specs.declared.types.FuncResult.TheVariants as result
+use Rattle.go_syntax.specs.declared.types.InterfaceElem.{InterfaceElem}
+use Rattle.go_syntax.specs.declared.types.InterfaceElem.TheVariants as elem
+use Rattle.go_syntax.specs.declared.types.ParameterDecl.{ParameterDecl}
+use Rattle.go_syntax.specs.declared.types.Signature.{Signature}
+use Rattle.go_syntax.specs.declared.types.«Type».{«Type» as Typ}
+use Rattle.go_syntax.specs.declared.types.«Type».TheVariants as type
+use Rattle.go_syntax.specs.declared.token.TokenKind.{TokenKind}
+use Rattle.go_syntax.specs.declared.token.TokenKind.TheVariants as kind
+use Rattle.go_syntax.specs.grammar.Grammar.{comparison, sum_operator, product_operator, prefix_operator, or_of, and_of, compare_of, sum_of, product_of, primary_of, parameter, signature, none_variadic, last_variadic, element}
+use Rattle.go_syntax.specs.grammar.Symbols.{begins, begins_type, closes, sign_at}
+use Rattle.go_syntax.specs.grammar.Terminals.{Terminal}
 use Rattle.go_cursor.specs.LookAheads.{is_named, names_field, names_method, names_composite, begins_receive, begins_type_switch}
 use Rattle.go_cursor.specs.Names.{names, type_name, tag}
 use Rattle.go_cursor.specs.Reading.{Found, Reader, Next, Stop, Fail, More, bind, after, run, step_of, expect, close, past, goes_on, ended, name, begins_name, literal_at}

@@ -1,6 +1,6 @@
 //! The readers of the trees of a height, over a reader of the lower trees that are their parts.
 ghost use Rattle.std.specs.Prelude.{◌≡◌};
-ghost use Rattle.go_cursor.specs.go_syntax.grammar.Terminals.{terminals};
+ghost use Rattle.go_syntax.specs.grammar.Terminals.{terminals};
 ghost use Rattle.go_descent.specs.Levels.{levels};
 ghost use Rattle.go_descent.specs.Parts.{ReadsBelow, ReadsPart};
 ghost use Rattle.go_cursor.specs.Reads.{Reads};
@@ -8,12 +8,12 @@ ghost use Rattle.go_cursor.specs.Reads.{Reads};
 use go_cursor::cursor::Cursor;
 use go_cursor::error::ParseError;
 use go_cursor::go_base::list::List;
-use go_cursor::go_syntax::body::BodyRange;
-use go_cursor::go_syntax::expression::{Element, Expr};
-use go_cursor::go_syntax::held::expression::{HeldElements, HeldExpr};
-use go_cursor::go_syntax::held::types::{HeldSignature, HeldType};
-use go_cursor::go_syntax::types::{Signature, Type};
 use go_cursor::skipping::skipped_body;
+use go_syntax::body::BodyRange;
+use go_syntax::expression::{Element, Expr};
+use go_syntax::held::expression::{HeldElements, HeldExpr};
+use go_syntax::held::types::{HeldSignature, HeldType};
+use go_syntax::types::{Signature, Type};
 use std::alloc::Global;
 
 /// What is read where a tree has a part of a lower height.

@@ -1,16 +1,16 @@
 //! The laws of the readers: what one finds is what the grammar derives, where the bodies of function literals are
 //! skipped.
 ghost use Rattle.std.specs.Prelude.{◌≡◌, ℕ, suc, Bool, true, false, List, Some};
-ghost use Rattle.go_cursor.specs.go_syntax.declared.body.BodyRange.{BodyRange};
-ghost use Rattle.go_cursor.specs.go_syntax.declared.expression.Expr.{Expr};
-ghost use Rattle.go_cursor.specs.go_syntax.declared.statement.LiteralBlock.{LiteralBlock};
-ghost use Rattle.go_cursor.specs.go_syntax.declared.types.Signature.{Signature};
-ghost use Rattle.go_cursor.specs.go_syntax.declared.types.«Type».{«Type»};
-ghost use Rattle.go_cursor.specs.go_syntax.grammar.Brackets.{IsSkipped};
-ghost use Rattle.go_cursor.specs.go_syntax.grammar.Grammar.{IsExpr, IsType, IsSignature};
-ghost use Rattle.go_cursor.specs.go_syntax.grammar.ParsedBodies.{LiteralBodies};
-ghost use Rattle.go_cursor.specs.go_syntax.grammar.SourceFiles.{Skips};
-ghost use Rattle.go_cursor.specs.go_syntax.grammar.Terminals.{Terminal};
+ghost use Rattle.go_syntax.specs.declared.body.BodyRange.{BodyRange};
+ghost use Rattle.go_syntax.specs.declared.expression.Expr.{Expr};
+ghost use Rattle.go_syntax.specs.declared.statement.LiteralBlock.{LiteralBlock};
+ghost use Rattle.go_syntax.specs.declared.types.Signature.{Signature};
+ghost use Rattle.go_syntax.specs.declared.types.«Type».{«Type»};
+ghost use Rattle.go_syntax.specs.grammar.Brackets.{IsSkipped};
+ghost use Rattle.go_syntax.specs.grammar.Grammar.{IsExpr, IsType, IsSignature};
+ghost use Rattle.go_syntax.specs.grammar.ParsedBodies.{LiteralBodies};
+ghost use Rattle.go_syntax.specs.grammar.SourceFiles.{Skips};
+ghost use Rattle.go_syntax.specs.grammar.Terminals.{Terminal};
 ghost use Rattle.go_cursor.specs.Skipping.{skipped_body};
 ghost use Rattle.go_descent.specs.Follow.{OverExpr};
 ghost use Rattle.go_descent.specs.Levels.{levels};

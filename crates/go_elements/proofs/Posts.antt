@@ -4,10 +4,10 @@ use Rattle.go_model.specs.declared.types.term.Term.{Term}
 use Rattle.go_rules.specs.Environments.{Env}
 use Rattle.go_rules.specs.Expressions.{Ascend, Has, HasOptional, optional_none, optional_some, HasPost, post_field, post_method, post_method_expression, post_assertion, post_array, post_array_pointer, post_slice_index, post_string, post_map, post_slice, post_full_slice, post_conversion, post_call, post_builtin, IsIndex, OfType, Slices}
 use Rattle.go_rules.specs.declared.operand.Operand.{Operand}
-use Rattle.go_rules.specs.go_syntax.declared.expression.Expr.{Expr}
-use Rattle.go_rules.specs.go_syntax.declared.expression.Post.{Post-F}
-use Rattle.go_rules.specs.go_syntax.declared.name.Name.{Name}
-use Rattle.go_rules.specs.go_syntax.declared.types.«Type».{«Type» as Typ}
+use Rattle.go_syntax.specs.declared.expression.Expr.{Expr}
+use Rattle.go_syntax.specs.declared.expression.Post.{Post-F}
+use Rattle.go_syntax.specs.declared.name.Name.{Name}
+use Rattle.go_syntax.specs.declared.types.«Type».{«Type» as Typ}
 use Rattle.go_elements.specs.Assertions.{Asserts, asserts}
 use Rattle.go_elements.specs.Indexes.{Indexes, indexes_array, indexes_array_pointer, indexes_slice, indexes_string, indexes_map}
 use Rattle.go_elements.specs.Selections.{Selects, selects_field, selects_method, selects_function}

@@ -4,7 +4,7 @@ use Rattle.std.specs.Prelude.{ℕ, true, false, Option, Some, None, [], ◌∷�
 use Rattle.go_rules.specs.Environments.{Env}
 use Rattle.go_rules.specs.Expressions.{Ascend, Has, IsIndex, Slices}
 use Rattle.go_rules.specs.declared.operand.Operand.{Operand}
-use Rattle.go_rules.specs.go_syntax.declared.expression.Expr.{Expr}
+use Rattle.go_syntax.specs.declared.expression.Expr.{Expr}
 
 -- an index that may be left out, and its value where it is constant
 pub data IsOptionalIndex (E : Env) : Option Operand → Option ℕ → Type 0 where

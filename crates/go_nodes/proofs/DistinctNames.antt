@@ -5,7 +5,7 @@ use mathlib.Core.Bool.{true≢false}
 use denote.Ref.{Bor}
 use Rattle.go_base.specs.Growing.{Adds}
 use Rattle.go_base.specs.Lists.{Has, Once}
-use Rattle.go_selectors.specs.go_model.types.Terms.{blank}
+use Rattle.go_model.specs.types.Terms.{blank}
 use Rattle.go_rules.specs.Asks.{AreDistinctNames}
 use Rattle.go_rules.specs.Expressions.{is_blank}
 use Rattle.go_selectors.proofs.Lists.{drop_all, drop_next}

@@ -3,7 +3,7 @@
 use Rattle.go_rules.specs.Asks.{AreDistinctNames, TypeMeets, signature_names}
 use Rattle.go_rules.specs.Environments.{Env}
 use Rattle.go_rules.specs.Nodes.{Node, expression, post, value, type, signature}
-use Rattle.go_rules.specs.go_syntax.declared.types.«Type».{«out-Type» as out-Typ}
+use Rattle.go_syntax.specs.declared.types.«Type».{«out-Type» as out-Typ}
 
 -- what a tree by itself is asked is met
 abbrev pub MeetsHere : Env → Node → Type 0

@@ -10,7 +10,7 @@ use crate::tree::Tree;
 use crate::trees::Trees;
 use go_base::memory::NoMemory;
 use go_declarations::form::Form;
-use go_rules::go_syntax::types::Type;
+use go_syntax::types::Type;
 use std::alloc::Global;
 
 fn push_type<'a>(trees: &mut Trees<'a>, form: Option<&'a Type>) -> Result<(), NoMemory>

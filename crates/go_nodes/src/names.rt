@@ -3,14 +3,14 @@ ghost use Rattle.std.specs.Prelude.{◌≡◌, ◌++◌, OnOk, IfOk};
 ghost use Rattle.go_nodes.specs.Trees.{texts_of};
 ghost use Rattle.go_rules.specs.Asks as asks;
 ghost use Rattle.go_rules.specs.Asks.{field_names, method_names, optional_result_names, parameter_names, texts};
-ghost use Rattle.go_rules.specs.go_syntax.declared.types.FieldDecl.{out-FieldDecl};
-ghost use Rattle.go_rules.specs.go_syntax.declared.types.InterfaceElem.{out-InterfaceElem};
+ghost use Rattle.go_syntax.specs.declared.types.FieldDecl.{out-FieldDecl};
+ghost use Rattle.go_syntax.specs.declared.types.InterfaceElem.{out-InterfaceElem};
 
 use go_base::list::List;
 use go_base::memory::NoMemory;
 use go_base::text::Text;
-use go_rules::go_syntax::name::Name;
-use go_rules::go_syntax::types::{FieldDecl, FuncResult, InterfaceElem, ParameterDecl, Signature};
+use go_syntax::name::Name;
+use go_syntax::types::{FieldDecl, FuncResult, InterfaceElem, ParameterDecl, Signature};
 use std::alloc::Global;
 
 /// Adds names.

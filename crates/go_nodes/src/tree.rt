@@ -1,6 +1,6 @@
 //! A tree of an expression or a type, or a part of one.
-use go_rules::go_syntax::expression::{ElementValue, Expr, Post};
-use go_rules::go_syntax::types::{Signature, Type};
+use go_syntax::expression::{ElementValue, Expr, Post};
+use go_syntax::types::{Signature, Type};
 
 /// A tree of an expression or a type, or a part of one.
 #[derive(Clone, Copy)]

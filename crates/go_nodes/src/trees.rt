@@ -2,20 +2,18 @@
 ghost use Rattle.std.specs.Prelude.{◌≡◌, ◌++◌, ◌∷◌, [], map, OnOk};
 ghost use Rattle.go_nodes.specs.Trees.{Pops, node_of, nodes_in};
 ghost use Rattle.go_rules.specs.Nodes.{element_parts, elem_parts, elems_parts, expression, expression_parts, field_parts, fields_parts, optional, optional_result_parts, parameter_parts, parts, post, post_parts, type_parts, value, value_parts};
-ghost use Rattle.go_rules.specs.go_syntax.declared.expression.ElementValue.{out-ElementValue};
-ghost use Rattle.go_rules.specs.go_syntax.declared.expression.Expr.{out-Expr};
-ghost use Rattle.go_rules.specs.go_syntax.declared.expression.Post.{out-Post};
-ghost use Rattle.go_rules.specs.go_syntax.declared.types.FieldDecl.{out-FieldDecl};
-ghost use Rattle.go_rules.specs.go_syntax.declared.types.InterfaceElem.{out-InterfaceElem};
-ghost use Rattle.go_rules.specs.go_syntax.declared.types.«Type».{«out-Type» as out-Typ};
+ghost use Rattle.go_syntax.specs.declared.expression.ElementValue.{out-ElementValue};
+ghost use Rattle.go_syntax.specs.declared.expression.Expr.{out-Expr};
+ghost use Rattle.go_syntax.specs.declared.expression.Post.{out-Post};
+ghost use Rattle.go_syntax.specs.declared.types.FieldDecl.{out-FieldDecl};
+ghost use Rattle.go_syntax.specs.declared.types.InterfaceElem.{out-InterfaceElem};
+ghost use Rattle.go_syntax.specs.declared.types.«Type».{«out-Type» as out-Typ};
 
 use crate::tree::Tree;
 use go_base::boxed::Box;
 use go_base::memory::NoMemory;
-use go_rules::go_syntax::expression::{Element, ElementValue, Expr, Post};
-use go_rules::go_syntax::types::{
-    FieldDecl, FuncResult, InterfaceElem, ParameterDecl, Signature, Type,
-};
+use go_syntax::expression::{Element, ElementValue, Expr, Post};
+use go_syntax::types::{FieldDecl, FuncResult, InterfaceElem, ParameterDecl, Signature, Type};
 use std::alloc::Global;
 
 /// Trees, of which the last one is taken first.

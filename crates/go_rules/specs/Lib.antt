@@ -1,5 +1,4 @@
 pub use Rattle.go_model.specs as go_model
-pub use Rattle.go_syntax.specs as go_syntax
 pub mod Asks
 pub mod Environments
 pub mod Expressions

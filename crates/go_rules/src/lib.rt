@@ -1,8 +1,6 @@
 //! Rules of typing: what names mean, what an expression is, the environment that both are asked in, and their laws.
 #![tactic(auto)]
 
-pub use go_syntax;
-
 mod announced;
 mod awaited;
 pub mod blank;

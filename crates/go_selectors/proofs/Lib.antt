@@ -1,4 +1,3 @@
-pub use Rattle.go_model.proofs as go_model_proofs
 pub mod Consolidation
 pub mod Counting
 pub mod Fields

@@ -1,5 +1,4 @@
 pub use Rattle.go_base.specs as go_base
-pub use Rattle.go_model.specs as go_model
 pub mod Answers
 pub mod Candidates
 pub mod Endings

@@ -2,7 +2,6 @@
 #![tactic(auto)]
 
 pub use go_base;
-pub use go_model;
 
 pub mod candidate;
 pub mod candidates;

@@ -2,26 +2,26 @@
 use Rattle.std.proofs.Common.{◌≡◌, ℕ, Bool, true, false, ◌||◌, ◌&&◌, inl, inr, List, [], ◌∷◌, ◌++◌, map, refl, sym, ap, ◌∙◌, subst, Option, Some, None, if◌then◌else◌}
 use Rattle.go_selectors.specs.go_base.Lists.{Has}
 use Rattle.go_selectors.specs.go_base.Gathered.{gather}
-use Rattle.go_selectors.specs.go_model.types.Tables.{Table}
+use Rattle.go_model.specs.types.Tables.{Table}
 use Rattle.std.specs.List.{filter}
-use Rattle.go_selectors.specs.go_model.types.Terms.{Layer, same_sel}
-use Rattle.go_selectors.specs.go_model.types.TypeNames.{Names, names, name_step, field_names, method_names, parameter_names, all_of}
-use Rattle.go_selectors.specs.go_model.types.Underlying.{entry, under, under_layer, under_entry, fields_of, declared_methods, methods_of_entry}
-use Rattle.go_selectors.specs.go_model.declared.types.names.TypeName.{TypeName}
-use Rattle.go_selectors.specs.go_model.declared.types.names.Sel.{Sel}
-use Rattle.go_selectors.specs.go_model.declared.types.package.Defined.{Defined}
-use Rattle.go_selectors.specs.go_model.declared.types.found.Found.{Found}
-use Rattle.go_selectors.specs.go_model.declared.types.term.Signature.{Signature}
-use Rattle.go_selectors.specs.go_model.declared.types.term.Term.{Term, Term-F, out-Term, roll-Term, roll-out-Term, fold-roll-Term}
-use Rattle.go_selectors.specs.go_model.declared.types.term.Field.{Field, out-Field, fold-Field, fold_out-Field}
-use Rattle.go_selectors.specs.go_model.declared.types.term.Method.{out-Method}
-use Rattle.go_selectors.specs.go_model.types.Selectors.{Spot, step, steps, ends, start, start_layer, start_pointer, start_named, is_pointer, base_of, base_layer, Finds}
-use Rattle.go_selectors.specs.go_model.types.MethodSets.{InSet, Implements}
-use Rattle.go_selectors.specs.go_model.types.Comparison.{LeadsToIncomparable, at_slice, at_map, at_func, in_array, in_struct, Comparable}
-use Rattle.go_selectors.specs.go_model.types.Imports.{is_imported_struct, is_imported_open, imported_struct, imported_interface}
-use Rattle.go_selectors.specs.go_model.types.Tags.{untagged}
-use Rattle.go_selectors.specs.go_model.types.Assignability.{Assignable, assign_identical, assign_underlying, assign_interface, assign_channel, AreChannels}
-use Rattle.go_selectors.specs.go_model.types.Conversions.{Convertible, convert_assignable, convert_underlying, convert_pointer, convert_basic, UnderlyingConverts, is_characters, is_text, is_character, both_basic, basics_convert}
+use Rattle.go_model.specs.types.Terms.{Layer, same_sel}
+use Rattle.go_model.specs.types.TypeNames.{Names, names, name_step, field_names, method_names, parameter_names, all_of}
+use Rattle.go_model.specs.types.Underlying.{entry, under, under_layer, under_entry, fields_of, declared_methods, methods_of_entry}
+use Rattle.go_model.specs.declared.types.names.TypeName.{TypeName}
+use Rattle.go_model.specs.declared.types.names.Sel.{Sel}
+use Rattle.go_model.specs.declared.types.package.Defined.{Defined}
+use Rattle.go_model.specs.declared.types.found.Found.{Found}
+use Rattle.go_model.specs.declared.types.term.Signature.{Signature}
+use Rattle.go_model.specs.declared.types.term.Term.{Term, Term-F, out-Term, roll-Term, roll-out-Term, fold-roll-Term}
+use Rattle.go_model.specs.declared.types.term.Field.{Field, out-Field, fold-Field, fold_out-Field}
+use Rattle.go_model.specs.declared.types.term.Method.{out-Method}
+use Rattle.go_model.specs.types.Selectors.{Spot, step, steps, ends, start, start_layer, start_pointer, start_named, is_pointer, base_of, base_layer, Finds}
+use Rattle.go_model.specs.types.MethodSets.{InSet, Implements}
+use Rattle.go_model.specs.types.Comparison.{LeadsToIncomparable, at_slice, at_map, at_func, in_array, in_struct, Comparable}
+use Rattle.go_model.specs.types.Imports.{is_imported_struct, is_imported_open, imported_struct, imported_interface}
+use Rattle.go_model.specs.types.Tags.{untagged}
+use Rattle.go_model.specs.types.Assignability.{Assignable, assign_identical, assign_underlying, assign_interface, assign_channel, AreChannels}
+use Rattle.go_model.specs.types.Conversions.{Convertible, convert_assignable, convert_underlying, convert_pointer, convert_basic, UnderlyingConverts, is_characters, is_text, is_character, both_basic, basics_convert}
 use Rattle.go_selectors.specs.Ways.{OnWay, here, further, AgreeAt, AgreeFrom, AgreeIn}
 use Rattle.go_selectors.proofs.Ways.{ends_agree, finds_agree, set_agrees}
 use Rattle.go_types.specs.Regions.{Within, AgreeOn, IsClosed}

@@ -1,12 +1,12 @@
 -- A relation by cases, once each case was tried.
 use Rattle.std.proofs.Common.{◌≡◌, ◌↔◌, IsTrue, Bool, true, false, sym, ◌∙◌, subst}
 use mathlib.Core.Bool.{true≢false}
-use Rattle.go_selectors.specs.go_model.types.Tables.{Table}
-use Rattle.go_selectors.specs.go_model.declared.types.term.Term.{Term}
+use Rattle.go_model.specs.types.Tables.{Table}
+use Rattle.go_model.specs.declared.types.term.Term.{Term}
 use Rattle.go_selectors.specs.Answers.{Decides}
-use Rattle.go_selectors.specs.go_model.types.MethodSets.{Implements}
-use Rattle.go_selectors.specs.go_model.types.Assignability.{UnderlyingAssigns, ChannelAssigns, Assignable, assign_identical, assign_underlying, assign_interface, assign_channel}
-use Rattle.go_selectors.specs.go_model.types.Conversions.{UnderlyingConverts, PointerConverts, Convertible, convert_assignable, convert_underlying, convert_pointer, convert_basic, basics_convert}
+use Rattle.go_model.specs.types.MethodSets.{Implements}
+use Rattle.go_model.specs.types.Assignability.{UnderlyingAssigns, ChannelAssigns, Assignable, assign_identical, assign_underlying, assign_interface, assign_channel}
+use Rattle.go_model.specs.types.Conversions.{UnderlyingConverts, PointerConverts, Convertible, convert_assignable, convert_underlying, convert_pointer, convert_basic, basics_convert}
 
 pub denied : {P : Type 0} (b : Bool) → b ≡ false → (IsTrue b ↔ P) → P → ⊥
 denied b f i p = true≢false (sym (i.1 p) ∙ f)

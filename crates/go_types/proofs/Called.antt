@@ -1,16 +1,16 @@
 -- The method that a search finds is the one in the method set.
 use Rattle.std.proofs.Common.{◌≡◌, Bool, true, false, inl, inr, List, sym, ap, ◌∙◌, subst}
 use mathlib.Core.Bool.{true≢false}
-use Rattle.go_selectors.specs.go_model.types.Tables.{Table}
-use Rattle.go_selectors.specs.go_model.declared.types.names.Sel.{Sel}
-use Rattle.go_selectors.specs.go_model.declared.types.term.Term.{Term}
-use Rattle.go_selectors.specs.go_model.declared.types.term.Signature.{Signature}
-use Rattle.go_selectors.specs.go_model.declared.types.found.Found.{Found}
-use Rattle.go_selectors.specs.go_model.declared.types.found.Found.TheVariants as found
-use Rattle.go_selectors.specs.go_model.declared.types.found.MethodFound.{MethodFound}
-use Rattle.go_selectors.specs.go_model.types.Selectors.{Ending, field, method, start, IsOnly, Finds}
-use Rattle.go_selectors.specs.go_model.types.MethodSets.{Reaches, InSet, HasMethods}
-use Rattle.go_selectors.specs.go_model.declared.types.term.Method.{Method, out-Method}
+use Rattle.go_model.specs.types.Tables.{Table}
+use Rattle.go_model.specs.declared.types.names.Sel.{Sel}
+use Rattle.go_model.specs.declared.types.term.Term.{Term}
+use Rattle.go_model.specs.declared.types.term.Signature.{Signature}
+use Rattle.go_model.specs.declared.types.found.Found.{Found}
+use Rattle.go_model.specs.declared.types.found.Found.TheVariants as found
+use Rattle.go_model.specs.declared.types.found.MethodFound.{MethodFound}
+use Rattle.go_model.specs.types.Selectors.{Ending, field, method, start, IsOnly, Finds}
+use Rattle.go_model.specs.types.MethodSets.{Reaches, InSet, HasMethods}
+use Rattle.go_model.specs.declared.types.term.Method.{Method, out-Method}
 use Rattle.go_selectors.specs.Candidates.{Candidates, HoldMethodSet, AreCandidates}
 use Rattle.go_selectors.specs.Answers.{Decides}
 use Rattle.go_selectors.proofs.UniqueFind.{same_ending, no_many, one_some}

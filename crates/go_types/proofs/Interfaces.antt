@@ -2,14 +2,14 @@
 use Rattle.std.proofs.Common.{◌≡◌, Bool, true, false, inl, inr, List, [], ◌∷◌, ◌++◌, map, refl, sym, ap, ◌∙◌, subst, arith, None, if◌then◌else◌}
 use Rattle.go_selectors.specs.go_base.Lists.{Has, Once}
 use Rattle.go_selectors.specs.go_base.Gathered.{gather}
-use Rattle.go_selectors.specs.go_model.types.Tables.{Table}
-use Rattle.go_selectors.specs.go_model.types.Terms.{Layer, same_sel}
-use Rattle.go_selectors.specs.go_model.types.Underlying.{under, under_layer, fields_of, methods_of, declared_methods}
-use Rattle.go_selectors.specs.go_model.types.Selectors.{Ending, method, name_of, field_ending, declared_ending, method_ending, endings, ends, start, start_layer, start_named, is_defined_pointer, is_defined_layer}
-use Rattle.go_selectors.specs.go_model.types.MethodSets.{InSet, Implements, method_sel}
-use Rattle.go_selectors.specs.go_model.declared.types.names.Sel.{Sel}
-use Rattle.go_selectors.specs.go_model.declared.types.term.Term.{Term, Term-F, out-Term}
-use Rattle.go_selectors.specs.go_model.declared.types.term.Method.{Method, out-Method}
+use Rattle.go_model.specs.types.Tables.{Table}
+use Rattle.go_model.specs.types.Terms.{Layer, same_sel}
+use Rattle.go_model.specs.types.Underlying.{under, under_layer, fields_of, methods_of, declared_methods}
+use Rattle.go_model.specs.types.Selectors.{Ending, method, name_of, field_ending, declared_ending, method_ending, endings, ends, start, start_layer, start_named, is_defined_pointer, is_defined_layer}
+use Rattle.go_model.specs.types.MethodSets.{InSet, Implements, method_sel}
+use Rattle.go_model.specs.declared.types.names.Sel.{Sel}
+use Rattle.go_model.specs.declared.types.term.Term.{Term, Term-F, out-Term}
+use Rattle.go_model.specs.declared.types.term.Method.{Method, out-Method}
 use Rattle.go_selectors.proofs.Noting.{sel_is, sel_self}
 
 abbrev method_end : Method → Ending

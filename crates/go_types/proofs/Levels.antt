@@ -1,12 +1,12 @@
 -- What is underneath a type, where the code has seen its form.
 use Rattle.std.proofs.Common.{◌≡◌, ℕ, List, sym, ap, ◌∙◌}
-use Rattle.go_selectors.specs.go_model.types.Tables.{Table}
-use Rattle.go_selectors.specs.go_model.declared.types.term.Term.{Term, Term-F, out-Term}
-use Rattle.go_selectors.specs.go_model.declared.types.term.Term.TheVariants as t
-use Rattle.go_selectors.specs.go_model.declared.types.term.Term.TheVariants.{outs-Slice, outs-Map, outs-Func, outs-Array, outs-Struct}
-use Rattle.go_selectors.specs.go_model.declared.types.term.Field.{Field}
-use Rattle.go_selectors.specs.go_model.declared.types.term.Signature.{Signature}
-use Rattle.go_selectors.specs.go_model.types.Underlying.{under}
+use Rattle.go_model.specs.types.Tables.{Table}
+use Rattle.go_model.specs.declared.types.term.Term.{Term, Term-F, out-Term}
+use Rattle.go_model.specs.declared.types.term.Term.TheVariants as t
+use Rattle.go_model.specs.declared.types.term.Term.TheVariants.{outs-Slice, outs-Map, outs-Func, outs-Array, outs-Struct}
+use Rattle.go_model.specs.declared.types.term.Field.{Field}
+use Rattle.go_model.specs.declared.types.term.Signature.{Signature}
+use Rattle.go_model.specs.types.Underlying.{under}
 
 module _ (T : Table) (u v : Term) (is : out-Term v ≡ under T u) where
   pub under_slice : (e : Term) → v ≡ t.Slice e → under T u ≡ Term-F.Slice e

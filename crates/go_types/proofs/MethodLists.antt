@@ -1,7 +1,7 @@
 -- A fact of each of some methods, one after another.
 use Rattle.std.proofs.Common.{◌≡◌, ◌<◌, ◌+◌, ℕ, Bool, true, false, inl, inr, List, length, take, get_or, subst}
 use Rattle.go_selectors.specs.go_base.Lists.{Has}
-use Rattle.go_selectors.specs.go_model.declared.types.term.Method.{Method}
+use Rattle.go_model.specs.declared.types.term.Method.{Method}
 use Rattle.go_selectors.specs.Answers.{Decides}
 use Rattle.go_selectors.proofs.Lists.{has-back, item_has, taken_next}
 

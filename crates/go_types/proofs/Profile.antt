@@ -1,9 +1,9 @@
 -- What is permitted in a client of the profile is permitted elsewhere.
 use Rattle.std.proofs.Common.{true, false, refl}
-use Rattle.go_selectors.specs.go_model.types.Tables.{Table}
-use Rattle.go_selectors.specs.go_model.declared.types.term.Term.{Term}
-use Rattle.go_selectors.specs.go_model.types.Assignability.{Assignable, assign_identical, assign_underlying, assign_interface, assign_channel}
-use Rattle.go_selectors.specs.go_model.types.Conversions.{UnderlyingConverts, Convertible, convert_assignable, convert_underlying, convert_pointer, convert_basic}
+use Rattle.go_model.specs.types.Tables.{Table}
+use Rattle.go_model.specs.declared.types.term.Term.{Term}
+use Rattle.go_model.specs.types.Assignability.{Assignable, assign_identical, assign_underlying, assign_interface, assign_channel}
+use Rattle.go_model.specs.types.Conversions.{UnderlyingConverts, Convertible, convert_assignable, convert_underlying, convert_pointer, convert_basic}
 
 pub assigns_elsewhere : (T : Table) (from to : Term) → Assignable T true from to → Assignable T false from to
 assigns_elsewhere T from to (assign_identical e) = assign_identical e

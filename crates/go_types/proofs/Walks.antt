@@ -2,13 +2,13 @@
 use Rattle.std.proofs.Common.{◌≡◌, ◌≤◌, ◌<◌, ◌+◌, ℕ, zero, suc, Bool, true, false, ◌⊎◌, inl, inr, List, [], ◌∷◌, ◌++◌, length, take, get_or, refl, sym, ap, ◌∙◌, subst, arith, length-append, append_assoc, append-nil}
 use Rattle.std.proofs.lemmas.List.{take_more}
 use Rattle.go_selectors.specs.go_base.Lists.{Has}
-use Rattle.go_selectors.specs.go_model.types.Tables.{Table}
-use Rattle.go_selectors.specs.go_model.declared.types.names.TypeName.{TypeName}
-use Rattle.go_selectors.specs.go_model.declared.types.term.Term.{Term, Term-F, roll-Term}
-use Rattle.go_selectors.specs.go_model.declared.types.term.Field.{Field, out-Field}
-use Rattle.go_selectors.specs.go_model.types.Terms.{Layer}
-use Rattle.go_selectors.specs.go_model.types.Underlying.{under}
-use Rattle.go_selectors.specs.go_model.types.Comparison.{LeadsToIncomparable, at_slice, at_map, at_func, in_array, in_struct}
+use Rattle.go_model.specs.types.Tables.{Table}
+use Rattle.go_model.specs.declared.types.names.TypeName.{TypeName}
+use Rattle.go_model.specs.declared.types.term.Term.{Term, Term-F, roll-Term}
+use Rattle.go_model.specs.declared.types.term.Field.{Field, out-Field}
+use Rattle.go_model.specs.types.Terms.{Layer}
+use Rattle.go_model.specs.types.Underlying.{under}
+use Rattle.go_model.specs.types.Comparison.{LeadsToIncomparable, at_slice, at_map, at_func, in_array, in_struct}
 use Rattle.go_types.specs.Parts.{Known, Pushed, IsFieldTerm, SeesTerm, Pushes, PushesFields, ByParts, Looked}
 use Rattle.go_selectors.proofs.Lists.{has-left, has-split, has-last, has-back}
 

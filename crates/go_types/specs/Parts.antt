@@ -4,13 +4,13 @@ use Rattle.std.specs.Prelude.{◌≡◌, ◌⊎◌, ◌<◌, ◌≤◌, ℕ, Lis
 use denote.Ref.{Bor}
 use lib.ListN.{get_or}
 use Rattle.go_selectors.specs.go_base.Lists.{Has}
-use Rattle.go_selectors.specs.go_model.types.Tables.{Table}
-use Rattle.go_selectors.specs.go_model.declared.types.names.TypeName.{TypeName}
-use Rattle.go_selectors.specs.go_model.declared.types.term.Term.{Term, Term-F, roll-Term}
-use Rattle.go_selectors.specs.go_model.declared.types.term.Field.{Field, out-Field}
-use Rattle.go_selectors.specs.go_model.types.Terms.{Layer}
-use Rattle.go_selectors.specs.go_model.types.Underlying.{under}
-use Rattle.go_selectors.specs.go_model.types.Comparison.{LeadsToIncomparable}
+use Rattle.go_model.specs.types.Tables.{Table}
+use Rattle.go_model.specs.declared.types.names.TypeName.{TypeName}
+use Rattle.go_model.specs.declared.types.term.Term.{Term, Term-F, roll-Term}
+use Rattle.go_model.specs.declared.types.term.Field.{Field, out-Field}
+use Rattle.go_model.specs.types.Terms.{Layer}
+use Rattle.go_model.specs.types.Underlying.{under}
+use Rattle.go_model.specs.types.Comparison.{LeadsToIncomparable}
 
 -- each name that was seen stands in the list
 abbrev pub Known : List Term → List TypeName → Type 0

@@ -2,14 +2,14 @@
 -- Own: what two tables have in common.
 use Rattle.std.specs.Prelude.{◌≡◌, Bool, true, Some}
 use Rattle.go_selectors.specs.go_base.Lists.{Has}
-use Rattle.go_selectors.specs.go_model.types.Tables.{Table}
-use Rattle.go_selectors.specs.go_model.types.Underlying.{entry}
-use Rattle.go_selectors.specs.go_model.types.TypeNames.{names, signature_names}
-use Rattle.go_selectors.specs.go_model.declared.types.names.TypeName.{TypeName}
-use Rattle.go_selectors.specs.go_model.declared.types.package.Defined.{Defined}
-use Rattle.go_selectors.specs.go_model.declared.types.package.MethodOf.{MethodOf}
-use Rattle.go_selectors.specs.go_model.declared.types.term.Term.{Term}
-use Rattle.go_selectors.specs.go_model.declared.types.term.Signature.{Signature}
+use Rattle.go_model.specs.types.Tables.{Table}
+use Rattle.go_model.specs.types.Underlying.{entry}
+use Rattle.go_model.specs.types.TypeNames.{names, signature_names}
+use Rattle.go_model.specs.declared.types.names.TypeName.{TypeName}
+use Rattle.go_model.specs.declared.types.package.Defined.{Defined}
+use Rattle.go_model.specs.declared.types.package.MethodOf.{MethodOf}
+use Rattle.go_model.specs.declared.types.term.Term.{Term}
+use Rattle.go_model.specs.declared.types.term.Signature.{Signature}
 
 -- each name in the type is in the set
 abbrev pub Within : (TypeName → Bool) → Term → Type 0

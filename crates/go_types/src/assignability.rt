@@ -1,18 +1,18 @@
 //! Which types are assignable to which.
 ghost use Rattle.std.specs.Prelude.{◌≡◌, ◌↔◌, ◌&&◌, ◌||◌, IsTrue, IfOk};
-ghost use Rattle.go_selectors.specs.go_model.worlds.Worlds.{table_of};
+ghost use Rattle.go_model.specs.worlds.Worlds.{table_of};
 ghost use Rattle.go_selectors.specs.Answers.{Decides};
-ghost use Rattle.go_selectors.specs.go_model.types.Assignability.{UnderlyingAssigns, AreChannels, ChannelAssigns, Assignable};
-ghost use Rattle.go_selectors.specs.go_model.types.Underlying.{under};
-ghost use Rattle.go_selectors.specs.go_model.types.Imports.{is_named, is_imported_struct};
-ghost use Rattle.go_selectors.specs.go_model.declared.types.term.Term.{out-Term};
+ghost use Rattle.go_model.specs.types.Assignability.{UnderlyingAssigns, AreChannels, ChannelAssigns, Assignable};
+ghost use Rattle.go_model.specs.types.Underlying.{under};
+ghost use Rattle.go_model.specs.types.Imports.{is_named, is_imported_struct};
+ghost use Rattle.go_model.specs.declared.types.term.Term.{out-Term};
 
 use crate::implementing;
 use crate::imports::{is_imported_struct, is_named};
+use go_model::types::table::TypeTable;
+use go_model::types::term::{Direction, Term};
+use go_model::types::world::World;
 use go_selectors::go_base::memory::NoMemory;
-use go_selectors::go_model::types::table::TypeTable;
-use go_selectors::go_model::types::term::{Direction, Term};
-use go_selectors::go_model::types::world::World;
 use go_selectors::identity::identical;
 use go_selectors::lookup::{Lookup, error_type};
 use std::alloc::Global;

@@ -1,16 +1,16 @@
 //! Types whose values can be compared.
 ghost use Rattle.std.specs.Prelude.{◌≡◌, [], ◌∷◌, IfOk, OnOk};
-ghost use Rattle.go_selectors.specs.go_model.worlds.Worlds.{table_of};
+ghost use Rattle.go_model.specs.worlds.Worlds.{table_of};
 ghost use Rattle.go_selectors.specs.Answers.{Decides};
-ghost use Rattle.go_selectors.specs.go_model.types.Comparison.{Comparable};
+ghost use Rattle.go_model.specs.types.Comparison.{Comparable};
 ghost use Rattle.go_selectors.specs.Search.{Adds};
 ghost use Rattle.go_types.specs.Parts.{SeesTerm, Pushes, PushesFields, Looked, PartAt};
 
+use go_model::types::borrowed::BorrowedTerm;
+use go_model::types::table::TypeTable;
+use go_model::types::term::{Field, Term};
+use go_model::types::world::World;
 use go_selectors::go_base::memory::NoMemory;
-use go_selectors::go_model::types::borrowed::BorrowedTerm;
-use go_selectors::go_model::types::table::TypeTable;
-use go_selectors::go_model::types::term::{Field, Term};
-use go_selectors::go_model::types::world::World;
 use go_selectors::lookup::{Lookup, error_type};
 use go_selectors::name::Name;
 use indexmap::IndexSet;

@@ -1,22 +1,22 @@
 //! Which types are convertible to which, for values that aren't constants.
 ghost use Rattle.std.specs.Prelude.{◌≡◌, ◌&&◌, ◌||◌, IfOk};
-ghost use Rattle.go_selectors.specs.go_model.worlds.Worlds.{table_of};
+ghost use Rattle.go_model.specs.worlds.Worlds.{table_of};
 ghost use Rattle.go_selectors.specs.Answers.{Decides};
-ghost use Rattle.go_selectors.specs.go_model.types.Tags.{bare};
-ghost use Rattle.go_selectors.specs.go_model.types.Underlying.{under};
-ghost use Rattle.go_selectors.specs.go_model.types.Imports.{is_imported_open};
-ghost use Rattle.go_selectors.specs.go_model.types.Conversions.{UnderlyingConverts, PointerConverts, Convertible, class_converts, both_basic, is_text, is_character, is_characters, basics_convert};
-ghost use Rattle.go_selectors.specs.go_model.declared.types.term.Term.{out-Term};
+ghost use Rattle.go_model.specs.types.Tags.{bare};
+ghost use Rattle.go_model.specs.types.Underlying.{under};
+ghost use Rattle.go_model.specs.types.Imports.{is_imported_open};
+ghost use Rattle.go_model.specs.types.Conversions.{UnderlyingConverts, PointerConverts, Convertible, class_converts, both_basic, is_text, is_character, is_characters, basics_convert};
+ghost use Rattle.go_model.specs.declared.types.term.Term.{out-Term};
 
 use crate::assignability;
 use crate::imports::is_imported_open;
 use crate::tags::untagged;
+use go_model::constants::class::Class;
+use go_model::constants::value::Basic;
+use go_model::types::table::TypeTable;
+use go_model::types::term::Term;
+use go_model::types::world::World;
 use go_selectors::go_base::memory::NoMemory;
-use go_selectors::go_model::constants::class::Class;
-use go_selectors::go_model::constants::value::Basic;
-use go_selectors::go_model::types::table::TypeTable;
-use go_selectors::go_model::types::term::Term;
-use go_selectors::go_model::types::world::World;
 use go_selectors::identity::identical;
 use go_selectors::lookup::{Lookup, error_type};
 use std::alloc::Global;

@@ -1,19 +1,19 @@
 //! Types that implement an interface.
 ghost use Rattle.std.specs.Prelude.{◌≡◌, IfOk};
-ghost use Rattle.go_selectors.specs.go_model.worlds.Worlds.{table_of};
+ghost use Rattle.go_model.specs.worlds.Worlds.{table_of};
 ghost use Rattle.go_selectors.specs.Answers.{Decides};
 ghost use Rattle.go_types.specs.Answers.{IsCalled};
 ghost use Rattle.go_selectors.specs.Candidates.{IsCandidate, AreCandidates};
-ghost use Rattle.go_selectors.specs.go_model.types.MethodSets.{HasMethod, HasMethods, Implements};
+ghost use Rattle.go_model.specs.types.MethodSets.{HasMethod, HasMethods, Implements};
 
+use go_model::types::found::Found;
+use go_model::types::names::Sel;
+use go_model::types::table::TypeTable;
+use go_model::types::term::{Method, Term};
+use go_model::types::world::World;
 use go_selectors::candidate::Candidate;
 use go_selectors::candidates::{called_at, candidates};
 use go_selectors::go_base::memory::NoMemory;
-use go_selectors::go_model::types::found::Found;
-use go_selectors::go_model::types::names::Sel;
-use go_selectors::go_model::types::table::TypeTable;
-use go_selectors::go_model::types::term::{Method, Term};
-use go_selectors::go_model::types::world::World;
 use go_selectors::identity::same_signature;
 use go_selectors::lookup::{Lookup, error_type};
 use std::alloc::Global;

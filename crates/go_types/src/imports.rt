@@ -1,10 +1,10 @@
 //! Named types, and types of other packages than a client's.
 ghost use Rattle.std.specs.Prelude.{◌≡◌};
-ghost use Rattle.go_selectors.specs.go_model.types.Imports.{is_named, is_imported_struct, is_imported_open};
+ghost use Rattle.go_model.specs.types.Imports.{is_named, is_imported_struct, is_imported_open};
 
-use go_selectors::go_model::types::names::is_imported;
-use go_selectors::go_model::types::table::TypeTable;
-use go_selectors::go_model::types::term::Term;
+use go_model::types::names::is_imported;
+use go_model::types::table::TypeTable;
+use go_model::types::term::Term;
 use go_selectors::lookup::Lookup;
 
 /// Whether a type is predeclared or defined.

@@ -1,21 +1,21 @@
 //! Laws of the relations on types, for the layers above.
 ghost use Rattle.std.specs.Prelude.{◌≡◌, ℕ, List, [], map, Bool, true, false};
 ghost use Rattle.go_selectors.specs.go_base.Lists.{Once};
-ghost use Rattle.go_selectors.specs.go_model.types.Tables.{Table};
-ghost use Rattle.go_selectors.specs.go_model.declared.types.names.Sel.{Sel};
-ghost use Rattle.go_selectors.specs.go_model.declared.types.term.Term.{Term, Term-F, out-Term};
-ghost use Rattle.go_selectors.specs.go_model.declared.types.term.Method.{Method};
-ghost use Rattle.go_selectors.specs.go_model.types.Underlying.{under, declared_methods};
-ghost use Rattle.go_selectors.specs.go_model.declared.types.term.Signature.{Signature};
-ghost use Rattle.go_selectors.specs.go_model.declared.types.found.Found.{Found};
-ghost use Rattle.go_selectors.specs.go_model.types.Selectors.{Spot, ends, Finds};
+ghost use Rattle.go_model.specs.types.Tables.{Table};
+ghost use Rattle.go_model.specs.declared.types.names.Sel.{Sel};
+ghost use Rattle.go_model.specs.declared.types.term.Term.{Term, Term-F, out-Term};
+ghost use Rattle.go_model.specs.declared.types.term.Method.{Method};
+ghost use Rattle.go_model.specs.types.Underlying.{under, declared_methods};
+ghost use Rattle.go_model.specs.declared.types.term.Signature.{Signature};
+ghost use Rattle.go_model.specs.declared.types.found.Found.{Found};
+ghost use Rattle.go_model.specs.types.Selectors.{Spot, ends, Finds};
 ghost use Rattle.go_selectors.specs.Ways.{AgreeIn};
-ghost use Rattle.go_selectors.specs.go_model.types.MethodSets.{InSet, Implements, method_sel};
-ghost use Rattle.go_selectors.specs.go_model.types.Comparison.{Comparable};
+ghost use Rattle.go_model.specs.types.MethodSets.{InSet, Implements, method_sel};
+ghost use Rattle.go_model.specs.types.Comparison.{Comparable};
 ghost use Rattle.go_types.specs.Regions.{Within, AgreeOn, IsClosed};
-ghost use Rattle.go_selectors.specs.go_model.declared.types.names.TypeName.{TypeName};
-ghost use Rattle.go_selectors.specs.go_model.types.Assignability.{Assignable};
-ghost use Rattle.go_selectors.specs.go_model.types.Conversions.{Convertible};
+ghost use Rattle.go_model.specs.declared.types.names.TypeName.{TypeName};
+ghost use Rattle.go_model.specs.types.Assignability.{Assignable};
+ghost use Rattle.go_model.specs.types.Conversions.{Convertible};
 
 /// What is permitted in a client of the profile is permitted elsewhere.
 pub fn profile_permits_less()

@@ -1,12 +1,12 @@
 //! Types without the tags of their fields.
 ghost use Rattle.std.specs.Prelude.{◌≡◌, map, IfOk};
-ghost use Rattle.go_selectors.specs.go_model.types.Tags.{untagged, untagged_field, untagged_method, untagged_signature};
+ghost use Rattle.go_model.specs.types.Tags.{untagged, untagged_field, untagged_method, untagged_signature};
 
+use go_model::types::term::{Field, Method, Signature, Term};
 use go_selectors::go_base::list::List;
 use go_selectors::go_base::memory::NoMemory;
 use go_selectors::go_base::shared::Shared;
 use go_selectors::go_base::text::Text;
-use go_selectors::go_model::types::term::{Field, Method, Signature, Term};
 use std::alloc::Global;
 
 /// A type without tags.

@@ -1,8 +1,8 @@
 -- The spec whose type and values others repeat.
 use Rattle.std.specs.Prelude.{◌≡◌, List, Option, None, Some}
 use denote.Ref.{Bor}
-use Rattle.go_typings.specs.go_syntax.declared.declaration.ConstSpec.{ConstSpec}
-use Rattle.go_typings.specs.go_syntax.declared.name.Name.{Name}
+use Rattle.go_syntax.specs.declared.declaration.ConstSpec.{ConstSpec}
+use Rattle.go_syntax.specs.declared.name.Name.{Name}
 use Rattle.go_typings.specs.Declarations.{no_spec}
 
 abbrev pub given_by : Option (Bor ConstSpec) → ConstSpec

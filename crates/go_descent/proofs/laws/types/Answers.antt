@@ -1,6 +1,6 @@
 use Rattle.std.proofs.Common.{suc}
 use Rattle.go_cursor.specs.Skipping.{skipped_body}
-use Rattle.go_cursor.specs.go_syntax.grammar.SourceFiles.{Skips}
+use Rattle.go_syntax.specs.grammar.SourceFiles.{Skips}
 use Rattle.go_descent.proofs.Bodies.{skips_known, skips_sound, skips_read}
 use Rattle.go_descent.proofs.CompleteLevels.{complete_parts}
 use Rattle.go_descent.proofs.SoundLevels.{parts_sound}

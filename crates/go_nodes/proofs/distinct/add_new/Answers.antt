@@ -1,6 +1,6 @@
 use Rattle.std.proofs.Common.{ℕ, List, ◌∙◌, subst}
 use Rattle.go_base.specs.Growing.{Adds}
-use Rattle.go_selectors.proofs.go_model_proofs.TextSets.{adds}
+use Rattle.go_model.proofs.TextSets.{adds}
 use Rattle.go_nodes.proofs.distinct.add_new.Goals as goal
 
 pub returns : goal.returns

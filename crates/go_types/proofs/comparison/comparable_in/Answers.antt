@@ -1,5 +1,5 @@
 use Rattle.std.proofs.Common.{subst}
-use Rattle.go_selectors.specs.go_model.types.Comparison.{Comparable}
+use Rattle.go_model.specs.types.Comparison.{Comparable}
 use Rattle.go_selectors.specs.Answers.{Decides}
 use Rattle.go_types.proofs.comparison.comparable_in.Goals as goal
 

@@ -1,4 +1,4 @@
-use Rattle.go_selectors.specs.go_model.types.Comparison.{at_slice, at_map, at_func}
+use Rattle.go_model.specs.types.Comparison.{at_slice, at_map, at_func}
 use Rattle.go_types.proofs.Levels.{under_slice, under_map, under_func, under_array, under_struct}
 use Rattle.go_types.proofs.Walks.{looked_array, looked_struct}
 use Rattle.go_types.proofs.comparison.look.Goals as goal

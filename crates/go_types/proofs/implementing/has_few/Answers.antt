@@ -1,4 +1,4 @@
-use Rattle.go_selectors.specs.go_model.types.MethodSets.{HasMethod}
+use Rattle.go_model.specs.types.MethodSets.{HasMethod}
 use Rattle.go_types.proofs.MethodLists.{lacks, has_next}
 use Rattle.go_types.proofs.implementing.has_few.Goals as goal
 

@@ -1,5 +1,5 @@
 use Rattle.std.proofs.Common.{take}
-use Rattle.go_selectors.specs.go_model.types.MethodSets.{HasMethods}
+use Rattle.go_model.specs.types.MethodSets.{HasMethods}
 use Rattle.go_types.proofs.implementing.has_few.Given as goal
 
 abbrev pub invariant-loop-method : goal.invariant-loop-method

@@ -1,5 +1,5 @@
 use Rattle.std.proofs.Common.{subst}
-use Rattle.go_selectors.specs.go_model.types.MethodSets.{Implements}
+use Rattle.go_model.specs.types.MethodSets.{Implements}
 use Rattle.go_selectors.specs.Answers.{Decides}
 use Rattle.go_types.proofs.implementing.implements_in.Goals as goal
 

@@ -1,9 +1,9 @@
 use Rattle.std.proofs.Common.{◌≡◌, List, map, sym, ap, ◌∙◌}
-use Rattle.go_selectors.specs.go_model.declared.types.term.Term.{Term, roll-Term}
-use Rattle.go_selectors.specs.go_model.declared.types.term.Field.{Field}
-use Rattle.go_selectors.specs.go_model.declared.types.term.Method.{Method, roll-Method}
-use Rattle.go_selectors.specs.go_model.declared.types.term.Signature.{Signature, out-Signature, roll-Signature, fold_out-Signature}
-use Rattle.go_selectors.specs.go_model.types.Tags.{untagged, untagged_step, untagged_signature}
+use Rattle.go_model.specs.declared.types.term.Term.{Term, roll-Term}
+use Rattle.go_model.specs.declared.types.term.Field.{Field}
+use Rattle.go_model.specs.declared.types.term.Method.{Method, roll-Method}
+use Rattle.go_model.specs.declared.types.term.Signature.{Signature, out-Signature, roll-Signature, fold_out-Signature}
+use Rattle.go_model.specs.types.Tags.{untagged, untagged_step, untagged_signature}
 use Rattle.go_types.proofs.tags.+untagged.Goals as goal
 
 made : (g : Signature) (ps rs : List Term) → ps ≡ map untagged (out-Signature g).params → rs ≡ map untagged (out-Signature g).results → roll-Signature (record { params = ps; variadic = (out-Signature g).variadic; results = rs }) ≡ untagged_signature g

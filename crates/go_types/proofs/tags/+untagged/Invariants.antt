@@ -1,5 +1,5 @@
 use Rattle.std.proofs.Common.{◌≡◌, take, map}
-use Rattle.go_selectors.specs.go_model.types.Tags.{untagged, untagged_field, untagged_method}
+use Rattle.go_model.specs.types.Tags.{untagged, untagged_field, untagged_method}
 use Rattle.go_types.proofs.tags.+untagged.Given as goal
 
 abbrev pub invariant-of_terms-loop-term : goal.invariant-of_terms-loop-term

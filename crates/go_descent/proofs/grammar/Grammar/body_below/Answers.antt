@@ -1,5 +1,5 @@
 use Rattle.std.proofs.Common.{◌∙◌, sym}
-use Rattle.go_cursor.specs.go_syntax.grammar.Terminals.{terminals}
+use Rattle.go_syntax.specs.grammar.Terminals.{terminals}
 use Rattle.go_descent.proofs.Heights.{no_body}
 use Rattle.go_descent.proofs.BodyBelow.{body_above}
 use Rattle.go_descent.proofs.grammar.Grammar.body_below.Goals as goal
