@@ -85,14 +85,14 @@ module _ (u : PackageSource) (d : Declaration) where
     pub not_counted : (old : List ℕ) (b : Bool) → b ≡ false → Decides b Stands → Grows (CountsAt u is_seen file d) old old
     not_counted old b e k = grows_nothing (CountsAt u is_seen file d) old (λ p s. is_not Stands b e k (s.0, s.1))
 
-    pub counted : (old new : List ℕ) (b : Bool) → b ≡ true → Decides b Stands → (is : List Import) (rs : List Reference) → is ≡ imports_of u d.file → rs ≡ references d.form
+    pub counted : (old new : List ℕ) (b : Bool) → b ≡ true → Decides b Stands → (is : List Import) (rs : List Reference) → is ≡ imports_of u file → rs ≡ references d.form
         → Grows (SomeSelectsAt is rs) old new → Grows (CountsAt u is_seen file d) old new
     counted old new b e k is rs f h g =
         let stands = is_so Stands b e k in
         grows_as (SomeSelectsAt (imports_of u d.file) (references d.form)) (CountsAt u is_seen file d) old new
         (λ p s. (stands.0, stands.1, told_at p s))
         (λ p s. at_told p s.2)
-        (subst (λ (q : List Import × List Reference). Grows (SomeSelectsAt q.0 q.1) old new) (λ i. (f i, h i)) g)
+        (subst (λ (q : List Import × List Reference). Grows (SomeSelectsAt q.0 q.1) old new) (λ i. ((f ∙ ap (imports_of u) (sym stands.1)) i, h i)) g)
 
 -- ---- declarations
 

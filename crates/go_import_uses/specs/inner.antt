@@ -1,2 +1,3 @@
 pub mod FirstNeeded
+pub mod NamedImports
 pub mod SelectedPlaces

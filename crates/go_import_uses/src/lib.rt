@@ -5,6 +5,7 @@ pub use go_beyond;
 
 mod imports;
 pub mod missing;
+mod named_imports;
 pub mod needed;
 mod places;
 mod references;

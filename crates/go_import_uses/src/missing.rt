@@ -7,17 +7,19 @@ ghost use Rattle.go_import_uses.specs.Selecting.{OneSelectsNone, SelectsMissingA
 ghost use Rattle.go_selectors.specs.Answers.{Decides};
 ghost use Rattle.go_sources.specs.UnitSources.{import_of, source_of};
 ghost use Rattle.go_typings.specs.Declarations.{declarations as all_declarations};
+ghost use Rattle.go_typings.specs.Sources.{imports_of, PackageSource};
 
-use crate::imports::{import_named, imports_of};
+use crate::imports::imports_of;
+use crate::named_imports::{NamedImports, import_named, named_imports};
 use crate::references::{is_selected, references};
 use go_base::memory::NoMemory;
 use go_declarations::listing::Declaration;
 use go_references::references::Reference;
-use go_units::unit::{Unit, UsedImport};
+use go_units::unit::Unit;
 use std::alloc::Global;
 
 // Whether a reference selects from an import that isn't found.
-fn selects_none(imports: &[UsedImport], reference: &Reference<'_>) -> bool
+fn selects_none(imports: &NamedImports<'_>, reference: &Reference<'_>) -> bool
     ensures { Decides result (SelectsNone (map import_of imports.now) reference.now) }
 {
     if !is_selected(reference) {
@@ -30,7 +32,7 @@ fn selects_none(imports: &[UsedImport], reference: &Reference<'_>) -> bool
 }
 
 // Whether one of the references does.
-fn one_selects_none(imports: &[UsedImport], references: &[Reference<'_>]) -> bool
+fn one_selects_none(imports: &NamedImports<'_>, references: &[Reference<'_>]) -> bool
     ensures { Decides result (OneSelectsNone (map import_of imports.now) references.now) }
 {
     for reference in references {
@@ -41,19 +43,37 @@ fn one_selects_none(imports: &[UsedImport], references: &[Reference<'_>]) -> boo
     false
 }
 
-// Whether a declaration of a package selects from an import that isn't found.
+// Whether a declaration of a file with these imports selects from one that isn't found.
 fn selects_missing(
     alloc: Global,
-    unit: &Unit,
+    imports: &NamedImports<'_>,
     declaration: &Declaration<'_>,
 ) -> Result<bool, NoMemory>
-    ensures { IfOk result (λ answer. Decides answer (SelectsMissing (source_of unit.now) (declaration_of declaration.now))) }
+    ensures { (u : PackageSource) → map import_of imports.now ≡ imports_of u (declaration_of declaration.now).file → IfOk result (λ answer. Decides answer (SelectsMissing u (declaration_of declaration.now))) }
 {
     let references = references(alloc, declaration.form)?;
-    Ok(one_selects_none(imports_of(unit, declaration.file), references.items()))
+    Ok(one_selects_none(imports, references.items()))
 }
 
-/// Flags of the declarations of a package that select from imports that aren't found.
+// The imports of the file of one number, where those of another are at hand.
+fn turned_to<'u>(
+    alloc: Global,
+    unit: &'u Unit,
+    file: u32,
+    imports: NamedImports<'u>,
+    wanted: u32,
+) -> Result<NamedImports<'u>, NoMemory>
+    requires { map import_of imports ≡ imports_of (source_of unit.now) file }
+    ensures { IfOk result (λ turned. map import_of turned ≡ imports_of (source_of unit.now) wanted) }
+{
+    if file == wanted {
+        return Ok(imports);
+    }
+    named_imports(alloc, imports_of(unit, wanted))
+}
+
+/// Flags of the declarations of a package that select from imports that aren't found. Where the declarations stand in the order of their files,
+/// the imports of each file are put in order once.
 pub fn selecting_missing(
     alloc: Global,
     unit: &Unit,
@@ -63,8 +83,13 @@ pub fn selecting_missing(
     ensures { IfOk result (λ flags. AreFlagsOf (length (all_declarations (source_of unit.now))) (SelectsMissingAt (source_of unit.now)) flags.items) }
 {
     let mut flags = Vec::new(alloc);
+    let mut file = 0u32;
+    let mut imports = named_imports(alloc, imports_of(unit, file))?;
     for number in 0..declarations.len() {
-        let found = selects_missing(alloc, unit, &declarations[number])?;
+        let declaration = &declarations[number];
+        imports = turned_to(alloc, unit, file, imports, declaration.file)?;
+        file = declaration.file;
+        let found = selects_missing(alloc, &imports, declaration)?;
         flags.push(found)?;
     }
     Ok(flags)

@@ -12,9 +12,10 @@ ghost use Rattle.go_selectors.specs.Answers.{Decides};
 ghost use Rattle.go_sources.specs.UnitSources.{import_of, source_of};
 ghost use Rattle.go_syntax.specs.declared.name.Place.{Place as Spot};
 ghost use Rattle.go_typings.specs.Declarations.{declarations as all_declarations};
-ghost use Rattle.go_typings.specs.Sources.{PackageSource};
+ghost use Rattle.go_typings.specs.Sources.{imports_of, PackageSource};
 
-use crate::imports::{import_named, imports_of};
+use crate::imports::imports_of;
+use crate::named_imports::{NamedImports, import_named, named_imports};
 use crate::places::{has_place, places_in};
 use crate::references::{is_selected, references};
 use go_base::memory::NoMemory;
@@ -42,7 +43,7 @@ fn is_same(left: &UsedImport, right: &UsedImport) -> bool
 }
 
 // Whether a reference selects from this import.
-fn selects(imports: &[UsedImport], reference: &Reference<'_>, import: &UsedImport) -> bool
+fn selects(imports: &NamedImports<'_>, reference: &Reference<'_>, import: &UsedImport) -> bool
     ensures { Decides result (Selects (map import_of imports.now) reference.now (import_of import.now)) }
 {
     if !is_selected(reference) {
@@ -55,7 +56,11 @@ fn selects(imports: &[UsedImport], reference: &Reference<'_>, import: &UsedImpor
 }
 
 // Whether one of the references does.
-fn one_selects(imports: &[UsedImport], references: &[Reference<'_>], import: &UsedImport) -> bool
+fn one_selects(
+    imports: &NamedImports<'_>,
+    references: &[Reference<'_>],
+    import: &UsedImport,
+) -> bool
     ensures { Decides result (OneSelects (map import_of imports.now) references.now (import_of import.now)) }
 {
     for reference in references {
@@ -66,33 +71,29 @@ fn one_selects(imports: &[UsedImport], references: &[Reference<'_>], import: &Us
     false
 }
 
-// Whether a declaration selects from an import of its file.
+// Whether a declaration of a file with these imports selects from one of them.
 fn selects_from(
     alloc: Global,
-    unit: &Unit,
+    imports: &NamedImports<'_>,
     declaration: &Declaration<'_>,
     import: &UsedImport,
 ) -> Result<bool, NoMemory>
-    ensures { IfOk result (λ answer. Decides answer (SelectsFrom (source_of unit.now) (declaration_of declaration.now) (import_of import.now))) }
+    ensures { (u : PackageSource) → map import_of imports.now ≡ imports_of u (declaration_of declaration.now).file → IfOk result (λ answer. Decides answer (SelectsFrom u (declaration_of declaration.now) (import_of import.now))) }
 {
     let references = references(alloc, declaration.form)?;
-    Ok(one_selects(
-        imports_of(unit, declaration.file),
-        references.items(),
-        import,
-    ))
+    Ok(one_selects(imports, references.items(), import))
 }
 
-// Whether a declaration that may be flagged as seen stands in the file and selects from an import.
+// Whether a declaration that may be flagged as seen stands in the file, which has these imports, and selects from one of them.
 fn counts(
     alloc: Global,
-    unit: &Unit,
+    imports: &NamedImports<'_>,
     declaration: &Declaration<'_>,
     is_seen: bool,
     file: u32,
     import: &UsedImport,
 ) -> Result<bool, NoMemory>
-    ensures { IfOk result (λ answer. Decides answer ((is_seen ≡ true) × ((declaration_of declaration.now).file ≡ file) × SelectsFrom (source_of unit.now) (declaration_of declaration.now) (import_of import.now))) }
+    ensures { (u : PackageSource) → map import_of imports.now ≡ imports_of u file → IfOk result (λ answer. Decides answer ((is_seen ≡ true) × ((declaration_of declaration.now).file ≡ file) × SelectsFrom u (declaration_of declaration.now) (import_of import.now))) }
 {
     if !is_seen {
         return Ok(false);
@@ -100,7 +101,7 @@ fn counts(
     if declaration.file != file {
         return Ok(false);
     }
-    selects_from(alloc, unit, declaration, import)
+    selects_from(alloc, imports, declaration, import)
 }
 
 // Whether a declaration of the file that is seen selects from an import.
@@ -115,9 +116,17 @@ fn is_seen_in(
     requires { declarations_of declarations.now ≡ all_declarations (source_of unit.now) }
     ensures { AreFlagsOf (length (all_declarations (source_of unit.now))) (IsExposed (source_of unit.now)) seen.now → IfOk result (λ answer. Decides answer (IsSeenIn (source_of unit.now) file (import_of import.now))) }
 {
+    let imports = named_imports(alloc, imports_of(unit, file))?;
     for number in 0..declarations.len() {
         let is_seen = flag(seen, number);
-        let found = counts(alloc, unit, &declarations[number], is_seen, file, import)?;
+        let found = counts(
+            alloc,
+            &imports,
+            &declarations[number],
+            is_seen,
+            file,
+            import,
+        )?;
         if found {
             return Ok(true);
         }
@@ -189,8 +198,8 @@ fn needed_in(
 }
 
 /// The place of the first import of a package, in the order of its files and their places, that isn't found and from which a declaration
-/// that is seen selects; None where there is none. Each file that has one that isn't found takes time by the number of its references, times that of its
-/// imports.
+/// that is seen selects; None where there is none. Each file that has one that isn't found takes time by the number of its references, and by that of
+/// the package's declarations.
 pub fn first_needed(
     alloc: Global,
     unit: &Unit,

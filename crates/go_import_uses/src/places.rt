@@ -6,14 +6,16 @@ ghost use Rattle.go_declarations.specs.Listings.{declaration_of};
 ghost use Rattle.go_import_uses.specs.inner.SelectedPlaces.{CountsAt, HoldsPlaces, SelectsAt, SomeSelectsAt};
 ghost use Rattle.go_selectors.specs.Answers.{Decides};
 ghost use Rattle.go_sources.specs.UnitSources.{import_of, source_of};
+ghost use Rattle.go_typings.specs.Sources.{imports_of, PackageSource};
 
-use crate::imports::{import_named, imports_of};
+use crate::imports::imports_of;
+use crate::named_imports::{NamedImports, import_named, named_imports};
 use crate::references::{is_selected, references};
 use go_base::memory::NoMemory;
 use go_declarations::listing::Declaration;
 use go_graphs::flags::flag;
 use go_references::references::Reference;
-use go_units::unit::{Unit, UsedImport};
+use go_units::unit::Unit;
 use std::alloc::Global;
 use std::collections::BTreeSet;
 
@@ -27,7 +29,7 @@ fn put(places: &mut BTreeSet<u32>, place: u32) -> Result<(), NoMemory>
 // Adds the place of the import from which a reference selects.
 fn add_selected(
     places: &mut BTreeSet<u32>,
-    imports: &[UsedImport],
+    imports: &NamedImports<'_>,
     reference: &Reference<'_>,
 ) -> Result<(), NoMemory>
     ensures { OnOk result (Grows (SelectsAt (map import_of imports.now) reference.now) places.old.keys places.new.keys) }
@@ -47,7 +49,7 @@ fn add_selected(
 // Adds those of the imports from which one of the references does.
 fn add_all_selected(
     places: &mut BTreeSet<u32>,
-    imports: &[UsedImport],
+    imports: &NamedImports<'_>,
     references: &[Reference<'_>],
 ) -> Result<(), NoMemory>
     ensures { OnOk result (Grows (SomeSelectsAt (map import_of imports.now) references.now) places.old.keys places.new.keys) }
@@ -68,22 +70,21 @@ fn is_counted(declaration: &Declaration<'_>, is_seen: bool, file: u32) -> bool
     declaration.file == file
 }
 
-// Adds those of the imports from which a declaration does, where it is flagged as seen and stands in the file.
+// Adds those of the imports of a file from which a declaration does, where it is flagged as seen and stands in the file.
 fn add_counted(
     alloc: Global,
-    unit: &Unit,
     places: &mut BTreeSet<u32>,
+    imports: &NamedImports<'_>,
     declaration: &Declaration<'_>,
     is_seen: bool,
     file: u32,
 ) -> Result<(), NoMemory>
-    ensures { OnOk result (Grows (CountsAt (source_of unit.now) is_seen file (declaration_of declaration.now)) places.old.keys places.new.keys) }
+    ensures { (u : PackageSource) → map import_of imports.now ≡ imports_of u file → OnOk result (Grows (CountsAt u is_seen file (declaration_of declaration.now)) places.old.keys places.new.keys) }
 {
     if !is_counted(declaration, is_seen, file) {
         return Ok(());
     }
     let references = references(alloc, declaration.form)?;
-    let imports = imports_of(unit, declaration.file);
     add_all_selected(places, imports, references.items())?;
     Ok(())
 }
@@ -98,13 +99,14 @@ pub(crate) fn places_in(
 ) -> Result<BTreeSet<u32>, NoMemory>
     ensures { IfOk result (λ places. HoldsPlaces (source_of unit.now) declarations.now seen.now file places.keys) }
 {
+    let imports = named_imports(alloc, imports_of(unit, file))?;
     let mut places = BTreeSet::new(alloc);
     for number in 0..declarations.len() {
         let is_seen = flag(seen, number);
         add_counted(
             alloc,
-            unit,
             &mut places,
+            &imports,
             &declarations[number],
             is_seen,
             file,

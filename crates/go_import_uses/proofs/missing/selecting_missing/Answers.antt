@@ -10,9 +10,11 @@ use Rattle.go_import_uses.proofs.missing.selecting_missing.Goals as goal
 
 pub loop-number-preserved : goal.loop-number-preserved
 loop-number-preserved c =
-    let P : Declaration → Type 0 = λ d. SelectsMissing (source_of c.args.«unit».now) d in
-    subst (AreFlagsOf (c.loop-number.number + 1) (λ n. At (declarations_of c.args.declarations.now) n P)) (sym c.in_ok-push.ensures.items)
-    (decided_next c.args.declarations.now c.loop-number.number c.index-declarations-number.result P c.loop-number-test.true c.index-declarations-number.is c.loop-number.flags.items c.in_ok-found.found c.loop-number.invariant c.in_ok-found.ensures)
+    let P : Declaration → Type 0 = λ d. SelectsMissing (source_of c.args.«unit».now) d in (
+      subst (AreFlagsOf (c.loop-number.number + 1) (λ n. At (declarations_of c.args.declarations.now) n P)) (sym c.in_ok-push.ensures.items)
+          (decided_next c.args.declarations.now c.loop-number.number c.index-declarations-number.result P c.loop-number-test.true c.index-declarations-number.is c.loop-number.flags.items c.in_ok-found.found c.loop-number.invariant.0 (c.in_ok-found.ensures (source_of c.args.«unit».now) c.in_ok-imports-2.ensures)),
+      c.in_ok-imports-2.ensures,
+    )
 
 pub returns : goal.returns
 returns c =
@@ -21,4 +23,4 @@ returns c =
     let k = c.loop-number.auto.number-end in
     let m = listed_length c.args.declarations.now in
     subst (λ (ds : List Declaration). AreFlagsOf (length ds) (λ n. At ds n P) c.loop-number.flags.items) c.requires
-    (subst (λ (n : ℕ). AreFlagsOf n (λ n. At (declarations_of c.args.declarations.now) n P) c.loop-number.flags.items) (omega (arith, h, k, m)) c.loop-number.invariant)
+    (subst (λ (n : ℕ). AreFlagsOf n (λ n. At (declarations_of c.args.declarations.now) n P) c.loop-number.flags.items) (omega (arith, h, k, m)) c.loop-number.invariant.0)

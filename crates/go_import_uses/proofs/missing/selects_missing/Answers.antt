@@ -1,8 +1,8 @@
 use Rattle.std.proofs.Common.{map, ◌∙◌}
 use Rattle.go_declarations.specs.Listings.{declaration_of}
 use Rattle.go_import_uses.proofs.Declarations.{missing_told}
-use Rattle.go_sources.specs.UnitSources.{import_of, source_of}
+use Rattle.go_sources.specs.UnitSources.{import_of}
 use Rattle.go_import_uses.proofs.missing.selects_missing.Goals as goal
 
 pub returns : goal.returns
-returns c = missing_told (source_of c.args.unit.now) (declaration_of c.args.declaration.now) (map import_of c.imports_of.result.now) c.items.result.now c.one_selects_none.result c.imports_of.ensures (c.items.ensures ∙ c.in_ok-references.ensures) c.one_selects_none.ensures
+returns c u e = missing_told u (declaration_of c.args.declaration.now) (map import_of c.args.imports.now) c.items.result.now c.one_selects_none.result e (c.items.ensures ∙ c.in_ok-references.ensures) c.one_selects_none.ensures
