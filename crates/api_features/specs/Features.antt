@@ -92,3 +92,7 @@ pub record IsFeature (world : Packages) (l : Line) : Type 0 where
   pub path : of.path ≡ l.path
   pub context : l.context ≡ None
   pub rest : IsRest world.packages of.path object.name object.entity l.rest
+
+-- a feature of a package that has none of these paths
+abbrev pub IsFeatureExcept : List (List ℕ) → Packages → Line → Type 0
+IsFeatureExcept except world l = IsFeature world l × (Has except l.path → ⊥)

@@ -2,7 +2,7 @@
 ghost use Rattle.std.specs.Prelude.{◌≡◌, ◌++◌, Decides, IfOk, OnOk, codes};
 ghost use Rattle.go_base.specs.Growing.{Grows};
 ghost use Rattle.go_model.specs.declared.types.package.Entity.TheVariants as entity;
-ghost use Rattle.api_features.specs.Features.{defined_term, IsFeature, IsRest};
+ghost use Rattle.api_features.specs.Features.{defined_term, IsFeature, IsFeatureExcept, IsRest};
 ghost use Rattle.api_lines.specs.Lines.{IsListing};
 ghost use Rattle.api_features.specs.TypeTexts.{constant_type, signature_text, type_text};
 ghost use Rattle.api_features.specs.inner.FeatureLines.{IsLineIn, IsObjectLine, IsPackageLine, IsSomeObjectLine, IsValueRest};
@@ -192,11 +192,15 @@ fn add_package(
     lines: &mut Lines,
     world: &World,
     public: &Texts,
+    except: &Texts,
     package: &Package,
 ) -> Result<(), NoMemory>
-    ensures { OnOk result (Grows (IsPackageLine public.now world.now «package».now) lines.old lines.new) }
+    ensures { OnOk result (Grows (IsPackageLine public.now except.now world.now «package».now) lines.old lines.new) }
 {
     if !public.has(&package.path) {
+        return Ok(());
+    }
+    if except.has(&package.path) {
         return Ok(());
     }
     add_objects(alloc, lines, world, package)?;
@@ -204,16 +208,30 @@ fn add_package(
     Ok(())
 }
 
-/// The features of the public packages of a world, as lines without context, each text once, in the order of bytes.
-pub fn features(alloc: Global, world: &World) -> Result<List<Line>, NoMemory>
-    ensures { IfOk result (IsListing (IsFeature world.now)) }
+/// The features of the public packages of a world, without those of packages with these paths, as lines without context, each text once, in the
+/// order of bytes.
+pub fn features_except(
+    alloc: Global,
+    world: &World,
+    except: &Texts,
+) -> Result<List<Line>, NoMemory>
+    ensures { IfOk result (IsListing (IsFeatureExcept except.now world.now)) }
 {
     let public = Texts::of(alloc, world.public())?;
     let mut lines = Lines::new(alloc);
     let packages = world.packages();
     for package in packages {
-        add_package(alloc, &mut lines, world, &public, package)?;
+        add_package(alloc, &mut lines, world, &public, except, package)?;
     }
     let listed = lines.into_list(alloc)?;
+    Ok(listed)
+}
+
+/// The features of the public packages of a world, as lines without context, each text once, in the order of bytes.
+pub fn features(alloc: Global, world: &World) -> Result<List<Line>, NoMemory>
+    ensures { IfOk result (IsListing (IsFeature world.now)) }
+{
+    let none = Texts::new(alloc);
+    let listed = features_except(alloc, world, &none)?;
     Ok(listed)
 }

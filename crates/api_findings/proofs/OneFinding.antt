@@ -3,7 +3,8 @@ use Rattle.std.proofs.Common.{◌≡◌, ℕ, true, Option, List, [], ◌∷◌,
 use Rattle.std.proofs.lemmas.List.{map-append}
 use Rattle.api_features.specs.Features.{IsFeature}
 use Rattle.api_findings.proofs.OneListing.{same_lines, same_texts}
-use Rattle.api_findings.proofs.PlainPaths.{IsPlain, IsSimple, elements_plain, package_of}
+use Rattle.api_findings.proofs.PlainPaths.{IsPlain, elements_plain, package_of}
+use Rattle.api_shared_features.proofs.PlainLines.{IsSimple}
 use Rattle.api_findings.proofs.PlatformFindings.{IsFeatured, featured, old_stands}
 use Rattle.api_findings.specs.Findings.{AreFindings, find_none, find_more, Finds, features_alone, with_verdict, IsRefusal, old_refused, new_refused, IsFirstRefusal, refused_here, refused_later, OldStands, shown}
 use Rattle.api_judge.specs.Verdicts.{IsVerdict}

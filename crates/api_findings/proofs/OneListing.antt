@@ -4,7 +4,7 @@ use Rattle.api_judge.proofs.SortedTexts.{same_lists}
 use Rattle.api_lines.proofs.OrderedTexts.{has_map, map_has}
 use Rattle.api_lines.specs.Lines.{HasText, IsListing, printed}
 use Rattle.api_lines.specs.declared.line.Line.{Line}
-use Rattle.api_findings.proofs.PlainPaths.{IsSimple, one_line}
+use Rattle.api_shared_features.proofs.PlainLines.{IsSimple, one_line}
 use Rattle.go_base.specs.Lists.{Has}
 
 -- a text that one of the lines has is among their texts

@@ -1,4 +1,5 @@
 pub mod Chains
 pub mod Found
+pub mod NextLines
 pub mod Outcomes
 pub mod Sides

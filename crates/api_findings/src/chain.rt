@@ -1,12 +1,12 @@
 //! What was typed on the platform before.
 ghost use Rattle.api_findings.specs.inner.Chains.{IsChain};
 
-use api_worlds::go_work::typed::TypedUnits;
+use crate::next_lines::FeaturedUnits;
 
-/// The packages of each tree of a run as they were typed on the platform before, where there is one, for the next platform to take over.
+/// The packages of each tree of a run as they were typed on the platform before, where there is one, with their features, for the next platform to take over.
 pub(crate) struct Chain {
-    pub of_old: Option<TypedUnits>,
-    pub of_new: Option<TypedUnits>,
+    pub of_old: Option<FeaturedUnits>,
+    pub of_new: Option<FeaturedUnits>,
     /// Whether those of a tree alone are kept, for further platforms.
     pub keeps: bool,
 }

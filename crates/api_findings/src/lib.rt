@@ -11,6 +11,7 @@ mod found_on;
 pub mod laws;
 mod listed;
 mod next_found;
+mod next_lines;
 mod outcomes;
 mod sides;
 pub mod trees;

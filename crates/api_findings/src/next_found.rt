@@ -5,6 +5,7 @@ ghost use Rattle.api_findings.specs.Checks.{CountsAtMost};
 ghost use Rattle.api_findings.specs.Findings.{IsLeftOut, IsOldTree};
 ghost use Rattle.api_findings.specs.inner.Chains.{IsChain};
 ghost use Rattle.api_findings.specs.inner.Found.{AnswersFound};
+ghost use Rattle.api_findings.specs.inner.NextLines.{AreFeatured};
 ghost use Rattle.api_findings.specs.inner.Sides.{AnswersNextListed, AreTrees, IsListedOn};
 ghost use Rattle.api_worlds.specs.PlatformWorlds.{CountsAtMost as CountsAtMostOn};
 ghost use Rattle.api_worlds.specs.go_work.TypedUnits.{AreTypedUnits};
@@ -12,8 +13,8 @@ ghost use Rattle.api_worlds.specs.go_work.TypedUnits.{AreTypedUnits};
 use crate::chain::Chain;
 use crate::found::{Found, featured, verdict_of};
 use crate::listed::Listed;
+use crate::next_lines::{FeaturedUnits, copy_if, next_features, typed_of, with_features};
 use crate::trees::RunTrees;
-use api_features::features::features;
 use api_lines::line::Line;
 use api_texts::lines::Side;
 use api_worlds::error::PlatformError;
@@ -27,6 +28,7 @@ use go_model::files::platform::Platform;
 use go_model::files::tree::Tree;
 use go_outside::gate::Gate;
 use std::alloc::Global;
+use std::mem;
 
 /// The packages of one tree on a platform as they were typed, and what is listed of them.
 pub(crate) struct ListedUnits {
@@ -52,12 +54,14 @@ impl ListedUnits {
         (typed, listed)
     }
 
-    // The packages, moved out.
-    fn into_typed(self) -> TypedUnits
-        ensures { result ≡ self.typed }
+    // The packages and their features, moved out.
+    fn into_featured(self) -> FeaturedUnits
+        ensures typed { result.typed ≡ self.typed }
+        ensures lines { result.lines ≡ self.listed.lines }
     {
-        let ListedUnits { typed, listed: _ } = self;
-        typed
+        let ListedUnits { typed, listed } = self;
+        let (lines, _left_out) = listed.into_parts();
+        FeaturedUnits { typed, lines }
     }
 }
 
@@ -73,25 +77,26 @@ fn with_lines(found: NextWorld, lines: List<Line>) -> ListedUnits
     }
 }
 
-// The packages of one tree on a platform, of which two others may have some, and what is listed of them.
+// The packages of one tree on a platform, of which others may have some, and what is listed of them. The features of packages that are taken over from those
+// of the platform before stay.
 fn listed_next<G: Gate, L: Copy>(
     alloc: Global,
     side: Side,
     trees: &PlatformTrees<'_>,
     first: Option<&TypedUnits>,
-    second: Option<&TypedUnits>,
+    before: Option<FeaturedUnits>,
     gate: &G,
     steps: &mut Steps<L>,
 ) -> Result<ListedUnits, PlatformError>
     requires trees { AreTrees trees.now.barred.now trees.now.tree.now trees.now.std_tree.now }
     requires first { IfSome (option_copied first) AreTypedUnits }
-    requires second { IfSome (option_copied second) AreTypedUnits }
+    requires before { IfSome before AreFeatured }
     ensures answer { AnswersNextListed trees.now.barred.now trees.now.tree.now trees.now.std_tree.now side trees.now.platform result }
     ensures steps { CountsAtMostOn trees.now.barred.now trees.now.tree.now trees.now.std_tree.now trees.now.platform steps.old steps.new }
 {
-    match next_world_on(alloc, side, trees, first, second, gate, steps) {
+    match next_world_on(alloc, side, trees, first, typed_of(&before), gate, steps) {
         Err(error) => Err(error),
-        Ok(found) => match features(alloc, &found.typed.world) {
+        Ok(found) => match next_features(alloc, &found.typed, before) {
             Err(NoMemory) => Err(PlatformError::NoMemory),
             Ok(lines) => Ok(with_lines(found, lines)),
         },
@@ -114,6 +119,7 @@ pub(crate) fn features_next<G: Gate, L: Copy>(
     ensures chain { IsChain chain.new }
     ensures steps { CountsAtMost trees.now.barred.now None trees.now.tree.now trees.now.std_tree.now (platform ∷ []) steps.old steps.new }
 {
+    let before = mem::replace(&mut chain.of_new, None);
     match listed_next(
         alloc,
         Side::New,
@@ -124,15 +130,58 @@ pub(crate) fn features_next<G: Gate, L: Copy>(
             platform,
         },
         None,
-        chain.of_new.as_ref(),
+        before,
         gate,
         steps,
     ) {
         Err(error) => Err(error),
-        Ok(new) => {
+        Ok(new) => match copy_if(alloc, chain.keeps, &new.listed.lines) {
+            Err(NoMemory) => Err(PlatformError::NoMemory),
+            Ok(lines) => {
+                let (typed, listed) = new.into_parts();
+                chain.of_new = with_features(typed, lines);
+                Ok(featured(listed))
+            }
+        },
+    }
+}
+
+// What is found on a platform where both trees have these packages. Those of the new tree are kept for further platforms.
+fn verdict_kept(
+    alloc: Global,
+    old_tree: &Tree,
+    trees: &RunTrees<'_>,
+    platform: Platform,
+    old: &ListedUnits,
+    new: ListedUnits,
+    chain: &mut Chain,
+) -> Result<Found, PlatformError>
+    requires old_tree { IsOldTree trees.now.barred.now (Some old_tree.now) }
+    requires trees { AreTrees trees.now.barred.now trees.now.tree.now trees.now.std_tree.now }
+    requires old { IsListedOn trees.now.barred.now old_tree.now trees.now.std_tree.now platform old.now.typed.world old.now.listed }
+    requires new { IsListedOn trees.now.barred.now trees.now.tree.now trees.now.std_tree.now platform new.typed.world new.listed }
+    requires typed { AreTypedUnits new.typed }
+    requires chain { IsChain chain.old }
+    ensures answer { AnswersFound trees.now.barred.now (Some old_tree.now) trees.now.tree.now trees.now.std_tree.now platform result }
+    ensures left_out { IfOk result (λ found. IsLeftOut trees.now.barred.now trees.now.std_tree.now (Some old_tree.now) trees.now.tree.now platform found.left_out) }
+    ensures chain { IsChain chain.new }
+{
+    match copy_if(alloc, chain.keeps, &new.listed.lines) {
+        Err(NoMemory) => Err(PlatformError::NoMemory),
+        Ok(lines) => {
             let (typed, listed) = new.into_parts();
-            chain.of_new = Some(typed);
-            Ok(featured(listed))
+            let found = verdict_of(
+                alloc,
+                old_tree,
+                trees,
+                platform,
+                &old.typed.world,
+                &old.listed,
+                &typed.world,
+                listed,
+            );
+            chain.of_new = with_features(typed, lines);
+            found
         }
     }
 }
@@ -158,6 +207,7 @@ fn verdict_after<G: Gate, L: Copy>(
     ensures chain { IsChain chain.new }
     ensures steps { CountsAtMostOn trees.now.barred.now trees.now.tree.now trees.now.std_tree.now platform steps.old steps.new }
 {
+    let before = mem::replace(&mut chain.of_new, None);
     match listed_next(
         alloc,
         Side::New,
@@ -168,26 +218,12 @@ fn verdict_after<G: Gate, L: Copy>(
             platform,
         },
         Some(&old.typed),
-        chain.of_new.as_ref(),
+        before,
         gate,
         steps,
     ) {
         Err(error) => Err(error),
-        Ok(new) => {
-            let (typed, listed) = new.into_parts();
-            let found = verdict_of(
-                alloc,
-                old_tree,
-                trees,
-                platform,
-                &old.typed.world,
-                &old.listed,
-                &typed.world,
-                listed,
-            );
-            chain.of_new = Some(typed);
-            found
-        }
+        Ok(new) => verdict_kept(alloc, old_tree, trees, platform, old, new, chain),
     }
 }
 
@@ -209,6 +245,7 @@ pub(crate) fn verdict_next<G: Gate, L: Copy>(
     ensures chain { IsChain chain.new }
     ensures steps { CountsAtMost trees.now.barred.now (Some old_tree.now) trees.now.tree.now trees.now.std_tree.now (platform ∷ []) steps.old steps.new }
 {
+    let before = mem::replace(&mut chain.of_old, None);
     match listed_next(
         alloc,
         Side::Old,
@@ -219,15 +256,14 @@ pub(crate) fn verdict_next<G: Gate, L: Copy>(
             platform,
         },
         None,
-        chain.of_old.as_ref(),
+        before,
         gate,
         steps,
     ) {
         Err(error) => Err(error),
         Ok(old) => {
-            chain.of_old = None;
             let found = verdict_after(alloc, old_tree, trees, platform, &old, chain, gate, steps);
-            chain.of_old = Some(old.into_typed());
+            chain.of_old = Some(old.into_featured());
             found
         }
     }

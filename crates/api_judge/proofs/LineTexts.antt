@@ -2,10 +2,9 @@
 use Rattle.std.proofs.Common.{◌≡◌, ℕ, Bool, true, false, zero, suc, ◌<◌, arith, List, [], ◌∷◌, ◌++◌, length, map, drop, get_or, refl, sym, ap, ◌∙◌, Option, None, codes}
 use Rattle.std.specs.Prelude.{Decides, bytes_eq}
 use Rattle.std.specs.Cmp.Lexicographic.{bytes_decides}
-use Rattle.std.proofs.lemmas.List.{append-nil, append_assoc}
-use Rattle.go_model.specs.declared.files.platform.Platform.{Platform}
 use Rattle.api_judge.specs.inner.Shapes.{AreAlike}
-use Rattle.api_lines.specs.Lines.{context_text, printed}
+use Rattle.api_lines.proofs.PlainTexts.{plain_text}
+use Rattle.api_lines.specs.Lines.{printed}
 use Rattle.api_lines.specs.declared.line.Line.{Line}
 
 -- of texts whose first parts are equally long, each part is the same
@@ -17,14 +16,6 @@ parts_same (x ∷ xs) (y ∷ ys) rs ss n e =
     let first : x ≡ y = cc in
     let k = parts_same xs ys rs ss (omega arith) (let s : xs ++ rs ≡ ys ++ ss = cc in s) in
     ((λ i. first i ∷ k.0 i), k.1)
-
--- a line without context, its prefix apart
-pub plain_text : (l : Line) → l.context ≡ None → printed l ≡ codes "pkg " ++ (l.path ++ 44 ∷ 32 ∷ l.rest)
-plain_text l e =
-    ap (λ (c : Option Platform). codes "pkg " ++ l.path ++ context_text c ++ codes ", " ++ l.rest) e
-    ∙ append_assoc (codes "pkg " ++ l.path ++ []) (codes ", ") l.rest
-    ∙ ap (λ (w : List ℕ). w ++ (44 ∷ 32 ∷ l.rest)) (append-nil (codes "pkg " ++ l.path))
-    ∙ append_assoc (codes "pkg ") l.path (44 ∷ 32 ∷ l.rest)
 
 pub one_text : (a b : Line) → AreAlike a b → a.path ≡ b.path → a.rest ≡ b.rest → printed a ≡ printed b
 one_text a b alike p r = plain_text a alike.first ∙ (λ i. codes "pkg " ++ (p i ++ 44 ∷ 32 ∷ r i)) ∙ sym (plain_text b alike.second)

@@ -10,10 +10,9 @@ use Rattle.std.specs.Cmp.Lexicographic.{nat_list_cmp_total}
 use Rattle.go_base.specs.Lists.{Has, Each}
 use Rattle.go_base.proofs.Members.{each_has}
 use Rattle.api_lines.specs.declared.line.Line.{Line}
-use Rattle.api_lines.specs.Lines.{printed, AreInOrder, HasText, IsListing}
+use Rattle.api_lines.specs.Lines.{printed, AreInOrder, HasText, IsListing, IsOfEither}
 use Rattle.api_lines.specs.inner.MergedLines.{AreBefore}
 use Rattle.api_lines.specs.inner.Joins.{IsBeforeAll, IsLeft, IsTakenFirst}
-use Rattle.api_lines.specs.inner.Shares.{IsOfEither}
 use Rattle.api_lines.proofs.Growing.{each_back, each_of, has_back, has_last, has_left}
 use Rattle.api_lines.proofs.LineOrder.{above_first, IsBelow, none_in_order, pushed_in_order, rest_in_order}
 use Rattle.api_lines.proofs.TextSets.{order, order as text_order, tie_is}

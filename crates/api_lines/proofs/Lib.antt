@@ -9,6 +9,7 @@ pub mod OrderedTexts
 pub mod PackageLines
 pub mod Parts
 pub mod PathOrder
+pub mod PlainTexts
 pub mod SharedMerge
 pub mod Shares
 pub mod Splits

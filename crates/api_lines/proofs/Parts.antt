@@ -8,7 +8,7 @@ use Rattle.go_base.specs.Growing.{Grows}
 use Rattle.go_base.proofs.Members.{each_has}
 use Rattle.go_model.specs.declared.files.platform.Platform.{Platform}
 use Rattle.api_lines.specs.declared.line.Line.{Line}
-use Rattle.api_lines.specs.Lines.{printed, in_context, AreInOrder, HasText}
+use Rattle.api_lines.specs.Lines.{printed, in_context, AreInOrder, HasText, IsListing}
 use Rattle.api_lines.specs.inner.MergedLines.{AreExactly, IsOwn, IsPlaced, IsTextOnAll}
 use Rattle.api_lines.proofs.Growing.{each_back, each_front, each_of, grows_as, grows_back, grows_nothing, has_back, has_last, has_left, taken}
 use Rattle.api_lines.proofs.LineOrder.{before_line, none_in_order, pushed_in_order}
@@ -41,6 +41,10 @@ module _ (Q : Line → Type 0) (lines : List Line) (l : Line) (back kept : List 
     complete = λ m k. elim (has_back lines l m k.0) [ inl a ↦ is.complete m (a, k.1) | inr s ↦ absurd (n (subst Q (sym s) k.1)) ];
     ordered = is.ordered;
   }
+
+-- exactly these lines in order are a listing of them
+pub exactly_listed : (P : Line → Type 0) (kept : List Line) → AreExactly P kept → IsListing P kept
+exactly_listed P kept e = record { sound = e.sound; complete = λ l p. (l, e.complete l p, refl); ordered = e.ordered }
 
 -- those that the others lack
 abbrev pub Lacks : List Line → Line → Type 0

@@ -6,9 +6,9 @@ use Rattle.go_base.proofs.Members.{each_has}
 use Rattle.go_model.specs.declared.files.platform.Platform.{Platform}
 use Rattle.go_base.specs.declared.memory.NoMemory.{NoMemory}
 use Rattle.api_lines.specs.declared.line.Line.{Line}
-use Rattle.api_lines.specs.Lines.{printed, in_context, AreInOrder, HasText, IsListing}
+use Rattle.api_lines.specs.Lines.{printed, in_context, AreInOrder, HasText, IsListing, IsOfEither}
 use Rattle.api_lines.specs.Merging.{HasNoContext, IsMerged, IsMergedIn, IsOn, IsOnAll}
-use Rattle.api_lines.specs.inner.Shares.{AreShared, IsOfEither, IsRest, whole}
+use Rattle.api_lines.specs.inner.Shares.{AreShared, IsRest, whole}
 use Rattle.api_lines.proofs.Growing.{each_of}
 use Rattle.api_lines.proofs.Merged.{itself, zip_has}
 use Rattle.api_lines.proofs.Shares.{has_whole, whole_has}

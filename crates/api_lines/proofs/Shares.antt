@@ -8,9 +8,9 @@ use Rattle.std.proofs.lemmas.List.{map-append}
 use Rattle.go_base.specs.Lists.{Has, Each}
 use Rattle.go_base.proofs.Members.{each_has}
 use Rattle.api_lines.specs.declared.line.Line.{Line}
-use Rattle.api_lines.specs.Lines.{printed, AreInOrder, HasText, IsListing}
+use Rattle.api_lines.specs.Lines.{printed, AreInOrder, HasText, IsListing, IsOfEither}
 use Rattle.api_lines.specs.inner.MergedLines.{AreExactly}
-use Rattle.api_lines.specs.inner.Shares.{AreJoined, AreShared, IsIn, IsNotIn, IsOfEither, IsRest, put, whole}
+use Rattle.api_lines.specs.inner.Shares.{AreJoined, AreShared, IsIn, IsNotIn, IsRest, put, whole}
 use Rattle.api_lines.proofs.Growing.{each_back, each_of}
 use Rattle.api_lines.proofs.LineOrder.{above_first, first_in_order, IsBelow, none_in_order, not_above, not_below_itself, one_line, rest_in_order}
 use Rattle.api_lines.proofs.TextSets.{order, tie_is}

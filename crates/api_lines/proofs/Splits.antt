@@ -10,9 +10,9 @@ use Rattle.go_base.specs.Lists.{Has}
 use Rattle.go_base.proofs.Members.{each_has}
 use Rattle.api_lines.specs.declared.line.Line.{Line}
 use Rattle.api_lines.specs.declared.split.Taken.TheVariants as taken
-use Rattle.api_lines.specs.Lines.{printed, AreInOrder}
+use Rattle.api_lines.specs.Lines.{printed, AreInOrder, IsOfEither}
 use Rattle.api_lines.specs.inner.MergedLines.{AreBefore, AreExactly}
-use Rattle.api_lines.specs.inner.Shares.{IsIn, IsNotIn, IsOfEither}
+use Rattle.api_lines.specs.inner.Shares.{IsIn, IsNotIn}
 use Rattle.api_lines.specs.inner.Splits.{IsSplitFirst, of_both, of_first, of_second}
 use Rattle.api_lines.proofs.Growing.{each_back, has_back, has_last, has_left}
 use Rattle.api_lines.proofs.Joins.{front_popped, headed, some_of}

@@ -1,6 +1,6 @@
 -- The text of a feature line, and lists of lines in the order of their texts.
 -- Public source: the lines that Go's cmd/api writes to its files api/go1.txt and later.
-use Rattle.std.specs.Prelude.{◌≡◌, ℕ, List, [], ◌++◌, codes, map, Option, Some, None}
+use Rattle.std.specs.Prelude.{◌≡◌, ◌⊎◌, ℕ, List, [], ◌++◌, codes, map, Option, Some, None}
 use Rattle.std.specs.Ordering.{nat_cmp}
 use Rattle.std.specs.Cmp.Lexicographic.{slice_cmp}
 use Rattle.std.specs.List.Sorted.{IsStrictlySortedBy}
@@ -25,6 +25,14 @@ in_context context l = record { path = l.path; context = context; rest = l.rest 
 -- one of the lines has the text
 abbrev pub HasText : List Line → List ℕ → Type 0
 HasText lines text = (l : Line) × Has lines l × (printed l ≡ text)
+
+-- a line of the list whose package has one of these paths
+abbrev pub IsLineAt : List (List ℕ) → List Line → Line → Type 0
+IsLineAt paths lines l = Has lines l × Has paths l.path
+
+-- a line of one list or the other
+abbrev pub IsOfEither : List Line → List Line → Line → Type 0
+IsOfEither first second l = Has first l ⊎ Has second l
 
 -- each text comes before those of the lines that follow it, in the order of bytes
 abbrev pub AreInOrder : List Line → Type 0

@@ -27,7 +27,7 @@ fn line_copied(line: &Line) -> Result<Line, NoMemory>
 }
 
 /// The same lines.
-pub(crate) fn lines_copied(alloc: Global, lines: &[Line]) -> Result<List<Line>, NoMemory>
+pub fn lines_copied(alloc: Global, lines: &[Line]) -> Result<List<Line>, NoMemory>
     ensures { IfOk result (λ copy. copy ≡ lines.now) }
 {
     let mut copy = List::new(alloc);

@@ -1,8 +1,7 @@
 //! One list of the lines of two.
 ghost use Rattle.std.specs.Prelude.{IfOk};
-ghost use Rattle.api_lines.specs.Lines.{AreInOrder, IsListing};
+ghost use Rattle.api_lines.specs.Lines.{AreInOrder, IsListing, IsOfEither};
 ghost use Rattle.api_lines.specs.inner.Joins.{IsTakenFirst};
-ghost use Rattle.api_lines.specs.inner.Shares.{IsOfEither};
 
 use crate::line::Line;
 use go_base::list::List;
@@ -38,7 +37,7 @@ fn take_first(
 }
 
 /// The lines of both lists in the order of their texts, each text once.
-pub(crate) fn joined(
+pub fn joined(
     alloc: Global,
     first: List<Line>,
     second: List<Line>,

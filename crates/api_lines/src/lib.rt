@@ -1,8 +1,9 @@
 //! Feature lines, and one list of them for several platforms.
 #![tactic(auto)]
 
-mod copies;
-mod join;
+pub mod at_paths;
+pub mod copies;
+pub mod join;
 pub mod line;
 pub mod lines;
 pub mod merge;

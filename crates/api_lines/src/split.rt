@@ -1,10 +1,10 @@
 //! The lines of two lists in three parts: those that both have, and the others of each.
 ghost use Rattle.std.specs.Prelude.{◌≡◌, Decides, IfOk};
 ghost use Rattle.go_base.specs.Lists.{Has};
-ghost use Rattle.api_lines.specs.Lines.{AreInOrder};
+ghost use Rattle.api_lines.specs.Lines.{AreInOrder, IsOfEither};
 ghost use Rattle.api_lines.specs.declared.line.Line.{Line as Feature};
 ghost use Rattle.api_lines.specs.inner.MergedLines.{AreExactly};
-ghost use Rattle.api_lines.specs.inner.Shares.{IsIn, IsNotIn, IsOfEither};
+ghost use Rattle.api_lines.specs.inner.Shares.{IsIn, IsNotIn};
 ghost use Rattle.api_lines.specs.inner.Splits.{IsSplitFirst, of_both, of_first, of_second};
 
 use crate::line::Line;

@@ -87,9 +87,9 @@ IsObjectLine world p o l = BeginsPassing is_upper o.name × IsLineIn (IsRest wor
 abbrev pub IsSomeObjectLine : Packages → Package → Line → Type 0
 IsSomeObjectLine world p l = (o : Object) × Has p.objects o × IsObjectLine world p o l
 
--- the same, where its path is public
-abbrev pub IsPackageLine : List (List ℕ) → Packages → Package → Line → Type 0
-IsPackageLine public world p l = Has public p.path × IsSomeObjectLine world p l
+-- the same, where its path is one of the public ones and none of the others
+abbrev pub IsPackageLine : List (List ℕ) → List (List ℕ) → Packages → Package → Line → Type 0
+IsPackageLine public except world p l = Has public p.path × (Has except p.path → ⊥) × IsSomeObjectLine world p l
 
 -- what the value of a constant gives
 abbrev pub IsValueRest : List ℕ → Value → List ℕ → Type 0

@@ -5,8 +5,7 @@ use Rattle.std.specs.Cmp.Lexicographic.{slice_cmp}
 use Rattle.std.specs.declared.cmp.Ordering.TheVariants.{Less}
 use Rattle.go_base.specs.Lists.{Each}
 use Rattle.api_lines.specs.declared.line.Line.{Line}
-use Rattle.api_lines.specs.Lines.{printed}
-use Rattle.api_lines.specs.inner.Shares.{IsOfEither}
+use Rattle.api_lines.specs.Lines.{printed, IsOfEither}
 
 -- the text of the line comes before those of all these
 abbrev pub IsBeforeAll : Line → List Line → Type 0

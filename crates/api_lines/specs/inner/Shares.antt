@@ -4,7 +4,7 @@ use Rattle.std.specs.Ordering.{nat_cmp, match_ordering}
 use Rattle.std.specs.Cmp.Lexicographic.{slice_cmp}
 use Rattle.go_base.specs.Lists.{Has, Each}
 use Rattle.api_lines.specs.declared.line.Line.{Line}
-use Rattle.api_lines.specs.Lines.{printed, AreInOrder, IsListing}
+use Rattle.api_lines.specs.Lines.{printed, AreInOrder, IsListing, IsOfEither}
 
 -- a line of the list that the others have
 abbrev pub IsIn : List Line → List Line → Line → Type 0
@@ -13,10 +13,6 @@ IsIn others lines l = Has lines l × Has others l
 -- one that they lack
 abbrev pub IsNotIn : List Line → List Line → Line → Type 0
 IsNotIn others lines l = Has lines l × (Has others l → ⊥)
-
--- a line of one list or the other
-abbrev pub IsOfEither : List Line → List Line → Line → Type 0
-IsOfEither first second l = Has first l ⊎ Has second l
 
 -- a list with a line put where its text belongs
 abbrev pub put : Line → List Line → List Line

@@ -1,0 +1,3 @@
+pub mod SharedPackages
+pub mod UnitWorlds
+pub mod inner
