@@ -1,5 +1,6 @@
 -- The defined types for which methods are declared are declared by their own names.
-use Rattle.std.proofs.Common.{◌≡◌, ℕ, suc, Bool, true, false, ◌||◌, List, [], ◌∷◌, Option, None, Some, refl, sym, ap, ◌∙◌}
+use Rattle.std.proofs.Common.{◌≡◌, ℕ, suc, Bool, true, false, ◌||◌, List, [], ◌∷◌, Option, None, Some, is_some, refl, sym, ap, ◌∙◌}
+use mathlib.Core.Bool.{true≢false}
 use Rattle.std.specs.Prelude.{if◌then◌else◌}
 use Rattle.std.specs.Cmp.Lexicographic.{bytes_decides}
 use Rattle.std.specs.Option.{option_or}
@@ -8,10 +9,11 @@ use Rattle.go_rules.specs.Asks.{texts}
 use Rattle.go_rules.specs.Expressions.{is_blank}
 use Rattle.go_syntax.specs.declared.declaration.TypeSpec.{TypeSpec}
 use Rattle.go_syntax.specs.declared.name.Name.{Name}
+use Rattle.go_syntax.specs.declared.name.QualifiedName.{QualifiedName}
 use Rattle.go_syntax.specs.declared.types.ParameterDecl.{ParameterDecl}
 use Rattle.go_declarations.proofs.go_typings_proofs.Cells.{none_some, some_once}
 use Rattle.go_declarations.specs.go_typings.Declarations.{alias, constants, declared, declared_by, declared_from, Declaration, Declared, definition, Form, function, is_init, method, names_of, place_from, variables}
-use Rattle.go_declarations.specs.go_typings.Receivers.{after_aliases, base, base_in, defined_name, definition_name, NameForm, own_definition, receiver_form}
+use Rattle.go_declarations.specs.go_typings.Receivers.{after_aliases, base, base_in, defined_name, definition_name, named_definition, NameForm, own_definition, receiver_form}
 
 pub only_name : (n q : List ℕ) (place : ℕ) → place_from 0 (n ∷ []) q ≡ Some place → n ≡ q
 only_name n q place e = by (bytes_eq n q) refl e
@@ -83,3 +85,19 @@ module _ (ds : List Declaration) (type : List ℕ) where
   -- the base type of a receiver is a defined type of its name
   pub base_defined : (receiver : ParameterDecl) → base ds receiver ≡ Some type → IsDefined ds type
   base_defined receiver e = by_written (receiver_form receiver) e
+
+-- ---- the definition of a name as it is written
+
+pub definition_qualified : (ds : List Declaration) (q : QualifiedName) → is_some q.qualifier ≡ true → named_definition ds q ≡ None
+definition_qualified ds q e = by q.qualifier e
+  where
+    by : (o : Option Name) → is_some o ≡ true → own_definition ds o q.name ≡ None
+    by None h = absurd (true≢false (sym h))
+    by (Some x) h = refl
+
+pub definition_own : (ds : List Declaration) (q : QualifiedName) → is_some q.qualifier ≡ false → named_definition ds q ≡ defined_name (declared ds q.name.text)
+definition_own ds q e = by q.qualifier e
+  where
+    by : (o : Option Name) → is_some o ≡ false → own_definition ds o q.name ≡ defined_name (declared ds q.name.text)
+    by None h = refl
+    by (Some x) h = absurd (true≢false h)

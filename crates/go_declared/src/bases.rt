@@ -2,7 +2,7 @@
 ghost use Rattle.std.specs.Prelude.{◌≡◌, ℕ, List, Some};
 ghost use Rattle.go_declarations.specs.Listings.{declarations_of};
 ghost use Rattle.go_declarations.specs.go_typings.DeclarationRules.{is_qualified};
-ghost use Rattle.go_declarations.specs.go_typings.Receivers.{after_aliases, base, base_in, name_form as form_by, named_definition, written_name as name_by};
+ghost use Rattle.go_declarations.specs.go_typings.Receivers.{after_aliases, base, base_in, defined_name, name_form as form_by, named_definition, written_name as name_by};
 ghost use Rattle.go_declarations.specs.go_typings.Declarations.{declared, Declaration as Declared};
 ghost use Rattle.go_declared.specs.AliasEnds.{AreEnds};
 ghost use Rattle.go_declared.specs.NameTables.{AreDeclared, declared_form, found_form, place_of};
@@ -88,6 +88,39 @@ fn after_aliases<'a>(
     }
 }
 
+// The defined type of the package that is declared at a place where names are declared.
+fn definition_there<'a>(declarations: &[Declaration<'a>], place: NamePlace) -> Option<&'a Text>
+    ensures { (name : List ℕ) → place_of (declared (declarations_of declarations.now) name) ≡ Some place → text_of result ≡ defined_name (declared (declarations_of declarations.now) name) }
+{
+    match form_there(declarations, place) {
+        None => None,
+        Some(form) => definition_name(form),
+    }
+}
+
+// The defined type of the package for which a name stands after the aliases of the package.
+fn definition_after<'a>(
+    declarations: &[Declaration<'a>],
+    names: &DeclaredNames,
+    ends: &[Option<&'a QualifiedName>],
+    name: &'a QualifiedName,
+) -> Option<&'a Text>
+    requires names { AreDeclared (declarations_of declarations.now) names.now }
+    requires ends { AreEnds (declarations_of declarations.now) ends.now }
+    ensures { text_of result ≡ named_definition (declarations_of declarations.now) (after_aliases (declarations_of declarations.now) name.now) }
+{
+    if name.qualifier.is_some() {
+        return None;
+    }
+    match names.get(&name.name.text) {
+        None => None,
+        Some(place) => match name_at(ends, place.number) {
+            None => definition_there(declarations, place),
+            Some(end) => definition(declarations, names, end),
+        },
+    }
+}
+
 fn base_of<'a>(
     declarations: &[Declaration<'a>],
     names: &DeclaredNames,
@@ -100,7 +133,7 @@ fn base_of<'a>(
 {
     match form {
         None => None,
-        Some(form) => definition(declarations, names, after_aliases(names, ends, form.name)),
+        Some(form) => definition_after(declarations, names, ends, form.name),
     }
 }
 
