@@ -3,7 +3,7 @@ ghost use Rattle.std.specs.Prelude.{◌≡◌, ◌<◌, ℕ, true, false, length
 ghost use Rattle.go_base.specs.Lists.{Has};
 ghost use Rattle.go_graphs.specs.Flags.{AreFlagsOf, is_flagged};
 ghost use Rattle.go_graphs.specs.Ranks.{HasRank};
-ghost use Rattle.go_graphs.specs.Walks.{LeadsBack};
+ghost use Rattle.go_graphs.specs.Walks.{LeadsBack, row_of};
 ghost use Rattle.go_typings.specs.Declarations.{declarations};
 ghost use Rattle.go_typings.specs.PackageEnvironments.{Entries};
 ghost use Rattle.go_typings.specs.Sources.{PackageSource, Setting};
@@ -79,6 +79,18 @@ fn all_ranked(alloc: Global, rows: &[List<u32>]) -> Result<bool, NoMemory>
     Ok(all_flagged(&flags))
 }
 
+// Whether there is no number in any row.
+fn are_empty(rows: &[List<u32>]) -> bool
+    ensures { result ≡ true → (n m : ℕ) → Has (row_of rows.now n) m → ⊥ }
+{
+    for number in 0..rows.len() {
+        if !row(rows, number).is_empty() {
+            return false;
+        }
+    }
+    true
+}
+
 // Whether none leads back along the first rows to the number in whose second row it stands, where their numbers are `u32`.
 fn none_back(alloc: Global, leads: &[List<u32>], lengths: &[List<u32>]) -> Result<bool, NoMemory>
     ensures yes { IfOk result (λ none. none ≡ true → (n : ℕ) → n < length leads.now → LeadsBack leads.now lengths.now n → ⊥) }
@@ -86,6 +98,10 @@ fn none_back(alloc: Global, leads: &[List<u32>], lengths: &[List<u32>]) -> Resul
 {
     if u32::try_from(leads.len()).is_err() {
         return Err(NoMemory);
+    }
+    // Few packages name a constant of their own in a length.
+    if are_empty(lengths) {
+        return Ok(true);
     }
     let back = leading_back(alloc, leads, lengths)?;
     Ok(none_flagged(&back))
