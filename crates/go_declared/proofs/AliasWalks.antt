@@ -165,7 +165,7 @@ module _ (ds : List Declaration) where
       by (Some d) h f = one_declared n.text d h
   one_aliased (Some x) n r e = absurd (none_some e)
 
-  after_own : (q : QualifiedName) (o : Option QualifiedName) → own_aliased ds q.qualifier q.name ≡ o → chosen q (ended ds o) ≡ after_aliases ds q
+  pub after_own : (q : QualifiedName) (o : Option QualifiedName) → own_aliased ds q.qualifier q.name ≡ o → chosen q (ended ds o) ≡ after_aliases ds q
   after_own q None e = sym (alias_done ds (length ds) q e)
   after_own q (Some r) e = sym (ap (λ (k : ℕ). unaliased ds k q) (one_aliased q.qualifier q.name r e) ∙ alias_more ds (length ds - 1) q r e)
 

@@ -5,6 +5,7 @@ pub mod EntryOrder
 pub mod FilledTables
 pub mod Heads
 pub mod NamesInOrder
+pub mod SameBases
 pub mod Stands
 pub mod ToldMethods
 pub mod BaseTypes

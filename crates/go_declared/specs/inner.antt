@@ -4,3 +4,4 @@ pub mod FormsAt
 pub mod NextAliases
 pub mod Heads
 pub mod EntryOrder
+pub mod LastBases

@@ -7,9 +7,10 @@ ghost use Rattle.go_declared.specs.AliasEnds.{AreEnds};
 ghost use Rattle.go_declared.specs.NameTables.{AreDeclared};
 ghost use Rattle.go_declared.specs.declared.methods.MethodRow as row;
 ghost use Rattle.go_declared.specs.inner.AddingMethods.{with_based, with_form, with_forms};
+ghost use Rattle.go_declared.specs.inner.LastBases.{IsLast};
 
 use crate::aliases::alias_ends;
-use crate::bases::base;
+use crate::last_base::{LastBase, base_in_turn, no_base};
 use crate::methods::MethodRow;
 use crate::names::DeclaredNames;
 use crate::receivers::is_pointer;
@@ -38,21 +39,24 @@ pub(crate) trait MethodTable {
 }
 
 // Adds a method, where its receiver has a base type.
-fn add_method<T: MethodTable>(
+fn add_method<'a, T: MethodTable>(
     table: &mut T,
     alloc: Global,
-    declarations: &[Declaration<'_>],
+    declarations: &[Declaration<'a>],
     names: &DeclaredNames,
-    ends: &[Option<&QualifiedName>],
+    ends: &[Option<&'a QualifiedName>],
+    last: &mut LastBase<'a>,
     number: usize,
-    receiver: &ParameterDecl,
+    receiver: &'a ParameterDecl,
     name: &Text,
 ) -> Result<(), NoMemory>
     requires names { AreDeclared (declarations_of declarations.now) names.now }
     requires ends { AreEnds (declarations_of declarations.now) ends.now }
-    ensures { OnOk result (table.new ≡ with_based T.with_method (base (declarations_of declarations.now) receiver.now) table.old name.now (record { number = number; pointer = is_pointer_form (receiver_form receiver.now) })) }
+    requires last { IsLast (declarations_of declarations.now) last.old }
+    ensures last { IsLast (declarations_of declarations.now) last.new }
+    ensures table { OnOk result (table.new ≡ with_based T.with_method (base (declarations_of declarations.now) receiver.now) table.old name.now (record { number = number; pointer = is_pointer_form (receiver_form receiver.now) })) }
 {
-    match base(declarations, names, ends, receiver) {
+    match base_in_turn(declarations, names, ends, last, receiver) {
         None => Ok(()),
         Some(type_name) => {
             let row = MethodRow {
@@ -64,18 +68,21 @@ fn add_method<T: MethodTable>(
     }
 }
 
-fn add<T: MethodTable>(
+fn add<'a, T: MethodTable>(
     table: &mut T,
     alloc: Global,
-    declarations: &[Declaration<'_>],
+    declarations: &[Declaration<'a>],
     names: &DeclaredNames,
-    ends: &[Option<&QualifiedName>],
+    ends: &[Option<&'a QualifiedName>],
+    last: &mut LastBase<'a>,
     number: usize,
-    form: Form<'_>,
+    form: Form<'a>,
 ) -> Result<(), NoMemory>
     requires names { AreDeclared (declarations_of declarations.now) names.now }
     requires ends { AreEnds (declarations_of declarations.now) ends.now }
-    ensures { OnOk result (table.new ≡ with_form T.with_method (declarations_of declarations.now) table.old number (form_of form.entry)) }
+    requires last { IsLast (declarations_of declarations.now) last.old }
+    ensures last { IsLast (declarations_of declarations.now) last.new }
+    ensures table { OnOk result (table.new ≡ with_form T.with_method (declarations_of declarations.now) table.old number (form_of form.entry)) }
 {
     match form {
         Form::Method(receiver, func) => add_method(
@@ -84,6 +91,7 @@ fn add<T: MethodTable>(
             declarations,
             names,
             ends,
+            last,
             number,
             receiver,
             &func.name.text,
@@ -103,6 +111,7 @@ pub(crate) fn fill<T: MethodTable>(
     ensures { OnOk result (table.new ≡ with_forms T.with_method (declarations_of declarations.now) table.old 0 (declarations_of declarations.now)) }
 {
     let ends = alias_ends(alloc, declarations, names)?;
+    let mut last = no_base();
     for number in 0..declarations.len() {
         add(
             table,
@@ -110,6 +119,7 @@ pub(crate) fn fill<T: MethodTable>(
             declarations,
             names,
             &ends,
+            &mut last,
             number,
             declarations[number].form,
         )?;

@@ -5,6 +5,7 @@ pub mod aliases;
 pub mod bases;
 mod filling;
 mod headed;
+mod last_base;
 pub mod methods;
 pub mod names;
 pub mod namesakes;
