@@ -23,18 +23,20 @@ module _ (world : Packages) (public except : List (List ℕ)) (all result : List
   to_feature l w =
       let o = w.2.2 in
       let r = o.2.1 in
-      let path : w.0.path ≡ l.path = ap (λ (x : Line). x.path) r.2 in
-      (record {
-        of = w.0;
-        here = w.1;
-        public = elim (p.sound w.0.path w.2.0) [ inl n ↦ absurd n | inr h ↦ h ];
-        object = o.0;
-        there = o.1;
-        exported = o.2.0;
-        path = path;
-        context = sym (ap (λ (x : Line). x.context) r.2);
-        rest = subst (IsRest world.packages w.0.path o.0.name o.0.entity) (ap (λ (x : Line). x.rest) r.2) r.1;
-      }, λ h. w.2.1 (subst (Has except) (sym path) h))
+      let path : w.0.path ≡ l.path = ap (λ (x : Line). x.path) r.2 in (
+        record {
+          of = w.0;
+          here = w.1;
+          public = elim (p.sound w.0.path w.2.0) [ inl n ↦ absurd n | inr h ↦ h ];
+          object = o.0;
+          there = o.1;
+          exported = o.2.0;
+          path = path;
+          context = sym (ap (λ (x : Line). x.context) r.2);
+          rest = subst (IsRest world.packages w.0.path o.0.name o.0.entity) (ap (λ (x : Line). x.rest) r.2) r.1;
+        },
+        λ h. w.2.1 (subst (Has except) (sym path) h),
+      )
 
   from_feature : (l : Line) → IsFeatureExcept except world l → OfSome (IsPackageLine public except world) world.packages l
   from_feature l w =

@@ -210,11 +210,7 @@ fn add_package(
 
 /// The features of the public packages of a world, without those of packages with these paths, as lines without context, each text once, in the
 /// order of bytes.
-pub fn features_except(
-    alloc: Global,
-    world: &World,
-    except: &Texts,
-) -> Result<List<Line>, NoMemory>
+pub fn features_except(alloc: Global, world: &World, except: &Texts) -> Result<List<Line>, NoMemory>
     ensures { IfOk result (IsListing (IsFeatureExcept except.now world.now)) }
 {
     let public = Texts::of(alloc, world.public())?;

@@ -102,12 +102,7 @@ pub(crate) fn next_features(
         None => features(alloc, &typed.world),
         Some(before) => {
             let (earlier, lines) = before.into_parts();
-            features_after(
-                alloc,
-                &unit_world(&earlier),
-                lines,
-                &unit_world(typed),
-            )
+            features_after(alloc, &unit_world(&earlier), lines, &unit_world(typed))
         }
     }
 }

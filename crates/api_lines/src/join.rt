@@ -37,11 +37,7 @@ fn take_first(
 }
 
 /// The lines of both lists in the order of their texts, each text once.
-pub fn joined(
-    alloc: Global,
-    first: List<Line>,
-    second: List<Line>,
-) -> Result<List<Line>, NoMemory>
+pub fn joined(alloc: Global, first: List<Line>, second: List<Line>) -> Result<List<Line>, NoMemory>
     requires first { AreInOrder first }
     requires second { AreInOrder second }
     ensures { IfOk result (IsListing (IsOfEither first second)) }
