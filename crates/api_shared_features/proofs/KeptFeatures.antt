@@ -1,17 +1,21 @@
 -- The features of packages that two worlds share stay, and with those of the other packages they are all features of the second world.
-use Rattle.std.proofs.Common.{◌≡◌, ℕ, Bool, true, false, List, [], ◌∷◌, refl, sym, ap, ◌∙◌, subst, inl, inr, ◌⊎◌}
+use Rattle.std.proofs.Common.{◌≡◌, ◌<◌, ◌+◌, ℕ, Bool, true, false, List, [], ◌∷◌, ◌++◌, length, take, get_or, refl, sym, ap, ◌∙◌, subst, inl, inr, ◌⊎◌}
 use mathlib.Core.Bool.{true≢false}
 use Rattle.api_features.specs.Features.{IsFeature, IsFeatureExcept}
+use Rattle.api_lines.proofs.Growing.{taken as taken_more}
 use Rattle.api_lines.specs.Lines.{HasText, IsLineAt, IsListing, IsOfEither, printed}
 use Rattle.api_lines.specs.declared.line.Line.{Line}
 use Rattle.api_shared_features.proofs.PlainLines.{IsSimple, one_line}
 use Rattle.api_shared_features.specs.SharedPackages.{AreShared}
-use Rattle.api_shared_features.specs.inner.KeptFeatures.{AreKept, IsPlain}
+use Rattle.api_shared_features.specs.UnitWorlds.{sources}
+use Rattle.api_shared_features.specs.inner.KeptFeatures.{AreKept, IsPlain, IsSomeTakenAndPublic}
 use Rattle.go_base.proofs.Members.{each_has}
+use Rattle.go_base.specs.Growing.{Grows}
 use Rattle.go_base.specs.Keys.{first_with}
 use Rattle.go_base.specs.Lists.{Each, Has, Passes}
 use Rattle.go_exposed.specs.OfferedWorlds.{IsWorldOf}
 use Rattle.go_model.specs.worlds.Worlds.{IsWorld, Packages, path_of}
+use Rattle.go_sources.specs.UnitSources.{source_of}
 use Rattle.go_taken_units.proofs.go_taken_packages_proofs.OverAll.{nothing_at_empty}
 use Rattle.go_taken_units.proofs.go_taken_packages_proofs.SameReach.{or_left}
 use Rattle.go_taken_units.proofs.go_taken_packages_proofs.SoFar.{SoFar, among, among_has, held, held_taken, is_held, listed_has, so_far_all, so_far_none, with_paths}
@@ -24,6 +28,7 @@ use Rattle.go_typings.proofs.Cells.{either}
 use Rattle.go_typings.proofs.HeldImports.{is_empty, with_empty}
 use Rattle.go_typings.specs.PackageWorlds.{Outcome, is_typed}
 use Rattle.go_typings.specs.Sources.{PackageSource}
+use Rattle.go_units.specs.declared.unit.«Unit».{«Unit» as PackageUnit}
 
 -- ---- what was taken is shared
 
@@ -63,6 +68,28 @@ module _ (bits : ℕ) (us vs : List PackageSource) (w v : Packages) (taken : Lis
   taken_reached path i =
       let q = t.same path i in
       or_left (all_taken path) _ (is_held taken (with_paths taken [] us) path i (subst (Has (with_paths taken [] us)) q.place (listed_has taken us [] q.source q.here)))
+
+-- the packages of taken paths that are public are kept
+pub kept_of : (bits : ℕ) (us vs : List PackageSource) (w v : Packages) (keys public kept : List (List ℕ)) → HavePathsOfTheirOwn us → HavePathsOfTheirOwn vs → AreTaken us vs (is_among keys) → IsWorldOf bits us w → IsWorldOf bits vs v
+    → Grows (Has v.publics) [] public → Grows (IsSomeTakenAndPublic keys public w.publics) [] kept → AreKept kept w v
+kept_of bits us vs w v keys public kept own other t k l p g = record {
+  before = λ path h. (let q = one path h in subst (Has w.publics) q.2.2 q.1);
+  now = λ path h. (let q = one path h in subst (Has v.publics) q.2.2 (elim (p.sound q.0 q.2.1) [ inl n ↦ absurd n | inr i ↦ i ]));
+  shared = reach bits us vs w v (is_among keys) own other t k l;
+  among = λ path h. (let q = one path h in taken_reached bits us vs w v (is_among keys) own other t k l path (subst (λ (x : List ℕ). is_among keys x ≡ true) q.2.2 q.2.0));
+  share = taken_shared bits us vs w v (is_among keys) own other t k l;
+}
+  where
+    one : (path : List ℕ) → Has kept path → IsSomeTakenAndPublic keys public w.publics path
+    one path h = elim (g.sound path h) [ inl n ↦ absurd n | inr q ↦ q ]
+
+-- the packages with one more
+pub sources_more : (us : List PackageUnit) (i : ℕ) (u : PackageUnit) → i < length us → u ≡ get_or us i u → sources (take (i + 1) us) ≡ sources (take i us) ++ source_of u ∷ []
+sources_more us i u h is = ap sources (taken_more us i u h is) ∙ behind (take i us)
+  where
+    behind : (xs : List PackageUnit) → sources (xs ++ u ∷ []) ≡ sources xs ++ source_of u ∷ []
+    behind [] = refl
+    behind (x ∷ xs) = ap (λ (ys : List PackageSource). source_of x ∷ ys) (behind xs)
 
 -- ---- the listing
 
