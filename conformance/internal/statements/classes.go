@@ -28,6 +28,7 @@ const (
 	compared  = "a switch over what can't be compared, with values"
 	inexactly = "a shift by a constant of a float or complex type, which Go's checker takes against the specification"
 	imaginary = "complex, real and imag"
+	embedding = "an interface that embeds what is none, or comparable"
 	unparsed  = "what Go's parser alone refuses: more than two names before range, a type as a value, no call behind go or defer, and signs in the path of an import"
 )
 
@@ -268,6 +269,13 @@ func faultsAt(node ast.Node, literals []*ast.FuncLit, info *types.Info) (found [
 				found = append(found, difference{name.Pos(), differences.Inexact})
 			}
 		}
+	case *ast.InterfaceType:
+		// Go takes it for a constraint
+		for _, field := range node.Methods.List {
+			if of := info.TypeOf(field.Type); len(field.Names) == 0 && of != nil && !isMethods(of) {
+				found = append(found, difference{field.Pos(), embedding})
+			}
+		}
 	case *ast.SwitchStmt:
 		// Go compares no value with a tag that can't be compared; this program compares each
 		if tag := node.Tag; tag != nil && info.TypeOf(tag) != nil && !types.Comparable(info.TypeOf(tag)) && !hasNil(info.TypeOf(tag)) {
@@ -279,6 +287,12 @@ func faultsAt(node ast.Node, literals []*ast.FuncLit, info *types.Info) (found [
 		}
 	}
 	return found
+}
+
+// isMethods says whether a type is an interface that methods alone describe.
+func isMethods(t types.Type) bool {
+	it, is := t.Underlying().(*types.Interface)
+	return is && it.IsMethodSet()
 }
 
 // hasNil says whether nil is a value of the type, with which Go then compares.
