@@ -1,6 +1,7 @@
 pub mod Alike
 pub mod AlikeFindings
 pub mod FoundOn
+pub mod KeptFindings
 pub mod LeftOutPlatforms
 pub mod ListedSides
 pub mod OneFinding

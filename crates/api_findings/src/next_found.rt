@@ -1,12 +1,15 @@
 //! What is found on one platform by one worker, which takes over what was typed on the platform before.
-ghost use Rattle.std.specs.Prelude.{◌≡◌, ◌∷◌, [], IfOk, IfSome, Some, None};
+ghost use Rattle.std.specs.Prelude.{◌≡◌, ◌∷◌, [], IfErr, IfOk, IfSome, Some, None};
 ghost use Rattle.std.specs.Option.{option_copied};
 ghost use Rattle.api_findings.specs.Checks.{CountsAtMost};
 ghost use Rattle.api_findings.specs.Findings.{IsLeftOut, IsOldTree};
 ghost use Rattle.api_findings.specs.inner.Chains.{IsChain};
-ghost use Rattle.api_findings.specs.inner.Found.{AnswersFound};
+ghost use Rattle.api_features.specs.Features.{IsFeature};
+ghost use Rattle.api_findings.specs.inner.Found.{AnswersFound, left_out_alone};
 ghost use Rattle.api_findings.specs.inner.NextLines.{AreFeatured};
 ghost use Rattle.api_findings.specs.inner.Sides.{AnswersNextListed, AreTrees, IsListedOn};
+ghost use Rattle.api_lines.specs.Lines.{IsListing};
+ghost use Rattle.api_worlds.specs.declared.error.PlatformError.TheVariants as platform_error;
 ghost use Rattle.api_worlds.specs.PlatformWorlds.{CountsAtMost as CountsAtMostOn};
 ghost use Rattle.api_worlds.specs.go_work.TypedUnits.{AreTypedUnits};
 
@@ -46,14 +49,6 @@ impl Drop for ListedUnits {
 }
 
 impl ListedUnits {
-    // Both, moved out.
-    fn into_parts(self) -> (TypedUnits, Listed)
-        ensures { result ≡ (self.typed, self.listed) }
-    {
-        let ListedUnits { typed, listed } = self;
-        (typed, listed)
-    }
-
     // The packages and their features, moved out.
     fn into_featured(self) -> FeaturedUnits
         ensures typed { result.typed ≡ self.typed }
@@ -62,6 +57,67 @@ impl ListedUnits {
         let ListedUnits { typed, listed } = self;
         let (lines, _left_out) = listed.into_parts();
         FeaturedUnits { typed, lines }
+    }
+
+    // What is found where there is no old tree. The packages are kept for further platforms.
+    fn featured_kept(self, alloc: Global, chain: &mut Chain) -> Result<Found, PlatformError>
+        requires typed { AreTypedUnits self.typed }
+        requires lines { IsListing (IsFeature self.typed.world) self.listed.lines }
+        requires chain { IsChain chain.old }
+        ensures verdict { IfOk result (λ found. found.verdict ≡ None) }
+        ensures lines { IfOk result (λ found. found.lines ≡ self.listed.lines) }
+        ensures left_out { IfOk result (λ found. found.left_out ≡ left_out_alone self.listed.left_out) }
+        ensures none { IfErr result (λ error. error ≡ platform_error.NoMemory) }
+        ensures chain { IsChain chain.new }
+    {
+        let ListedUnits { typed, listed } = self;
+        match copy_if(alloc, chain.keeps, &listed.lines) {
+            Err(NoMemory) => Err(PlatformError::NoMemory),
+            Ok(lines) => {
+                chain.of_new = with_features(typed, lines);
+                Ok(featured(listed))
+            }
+        }
+    }
+
+    // What is found where the old tree has these packages and the new one has those. The new ones are kept for further platforms.
+    fn verdict_kept(
+        self,
+        alloc: Global,
+        old_tree: &Tree,
+        trees: &RunTrees<'_>,
+        platform: Platform,
+        old: &ListedUnits,
+        chain: &mut Chain,
+    ) -> Result<Found, PlatformError>
+        requires old_tree { IsOldTree trees.now.barred.now (Some old_tree.now) }
+        requires trees { AreTrees trees.now.barred.now trees.now.tree.now trees.now.std_tree.now }
+        requires old { IsListedOn trees.now.barred.now old_tree.now trees.now.std_tree.now platform old.now.typed.world old.now.listed }
+        requires new { IsListedOn trees.now.barred.now trees.now.tree.now trees.now.std_tree.now platform self.typed.world self.listed }
+        requires typed { AreTypedUnits self.typed }
+        requires chain { IsChain chain.old }
+        ensures answer { AnswersFound trees.now.barred.now (Some old_tree.now) trees.now.tree.now trees.now.std_tree.now platform result }
+        ensures left_out { IfOk result (λ found. IsLeftOut trees.now.barred.now trees.now.std_tree.now (Some old_tree.now) trees.now.tree.now platform found.left_out) }
+        ensures chain { IsChain chain.new }
+    {
+        let ListedUnits { typed, listed } = self;
+        match copy_if(alloc, chain.keeps, &listed.lines) {
+            Err(NoMemory) => Err(PlatformError::NoMemory),
+            Ok(lines) => {
+                let found = verdict_of(
+                    alloc,
+                    old_tree,
+                    trees,
+                    platform,
+                    &old.typed.world,
+                    &old.listed,
+                    &typed.world,
+                    listed,
+                );
+                chain.of_new = with_features(typed, lines);
+                found
+            }
+        }
     }
 }
 
@@ -135,54 +191,7 @@ pub(crate) fn features_next<G: Gate, L: Copy>(
         steps,
     ) {
         Err(error) => Err(error),
-        Ok(new) => match copy_if(alloc, chain.keeps, &new.listed.lines) {
-            Err(NoMemory) => Err(PlatformError::NoMemory),
-            Ok(lines) => {
-                let (typed, listed) = new.into_parts();
-                chain.of_new = with_features(typed, lines);
-                Ok(featured(listed))
-            }
-        },
-    }
-}
-
-// What is found on a platform where both trees have these packages. Those of the new tree are kept for further platforms.
-fn verdict_kept(
-    alloc: Global,
-    old_tree: &Tree,
-    trees: &RunTrees<'_>,
-    platform: Platform,
-    old: &ListedUnits,
-    new: ListedUnits,
-    chain: &mut Chain,
-) -> Result<Found, PlatformError>
-    requires old_tree { IsOldTree trees.now.barred.now (Some old_tree.now) }
-    requires trees { AreTrees trees.now.barred.now trees.now.tree.now trees.now.std_tree.now }
-    requires old { IsListedOn trees.now.barred.now old_tree.now trees.now.std_tree.now platform old.now.typed.world old.now.listed }
-    requires new { IsListedOn trees.now.barred.now trees.now.tree.now trees.now.std_tree.now platform new.typed.world new.listed }
-    requires typed { AreTypedUnits new.typed }
-    requires chain { IsChain chain.old }
-    ensures answer { AnswersFound trees.now.barred.now (Some old_tree.now) trees.now.tree.now trees.now.std_tree.now platform result }
-    ensures left_out { IfOk result (λ found. IsLeftOut trees.now.barred.now trees.now.std_tree.now (Some old_tree.now) trees.now.tree.now platform found.left_out) }
-    ensures chain { IsChain chain.new }
-{
-    match copy_if(alloc, chain.keeps, &new.listed.lines) {
-        Err(NoMemory) => Err(PlatformError::NoMemory),
-        Ok(lines) => {
-            let (typed, listed) = new.into_parts();
-            let found = verdict_of(
-                alloc,
-                old_tree,
-                trees,
-                platform,
-                &old.typed.world,
-                &old.listed,
-                &typed.world,
-                listed,
-            );
-            chain.of_new = with_features(typed, lines);
-            found
-        }
+        Ok(new) => new.featured_kept(alloc, chain),
     }
 }
 
@@ -223,7 +232,7 @@ fn verdict_after<G: Gate, L: Copy>(
         steps,
     ) {
         Err(error) => Err(error),
-        Ok(new) => verdict_kept(alloc, old_tree, trees, platform, old, new, chain),
+        Ok(new) => new.verdict_kept(alloc, old_tree, trees, platform, old, chain),
     }
 }
 

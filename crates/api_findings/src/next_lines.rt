@@ -29,15 +29,6 @@ impl Drop for FeaturedUnits {
     }
 }
 
-impl FeaturedUnits {
-    fn into_parts(self) -> (TypedUnits, List<Line>)
-        ensures { result ≡ (self.typed, self.lines) }
-    {
-        let FeaturedUnits { typed, lines } = self;
-        (typed, lines)
-    }
-}
-
 fn unit_world(typed: &TypedUnits) -> UnitWorld<'_>
     requires { AreTypedUnits typed.now }
     ensures is { IsUnitWorld result }
@@ -47,6 +38,21 @@ fn unit_world(typed: &TypedUnits) -> UnitWorld<'_>
         units: typed.units.items(),
         bits: typed.bits,
         world: &typed.world,
+    }
+}
+
+impl FeaturedUnits {
+    // The features of packages that were typed after these.
+    fn features_of(self, alloc: Global, typed: &TypedUnits) -> Result<List<Line>, NoMemory>
+        requires before { AreFeatured self }
+        requires typed { AreTypedUnits typed.now }
+        ensures { IfOk result (IsListing (IsFeature typed.now.world)) }
+    {
+        let FeaturedUnits {
+            typed: earlier,
+            lines,
+        } = self;
+        features_after(alloc, &unit_world(&earlier), lines, &unit_world(typed))
     }
 }
 
@@ -100,9 +106,6 @@ pub(crate) fn next_features(
 {
     match before {
         None => features(alloc, &typed.world),
-        Some(before) => {
-            let (earlier, lines) = before.into_parts();
-            features_after(alloc, &unit_world(&earlier), lines, &unit_world(typed))
-        }
+        Some(before) => before.features_of(alloc, typed),
     }
 }
