@@ -2,6 +2,7 @@
 use Rattle.std.proofs.Common.{◌≡◌, inl, inr, Bool, true, false, Option, Some, None, List, [], ◌∷◌, ◌++◌, refl, sym, ap, ◌∙◌, subst}
 use mathlib.Core.Bool.{true≢false}
 use Rattle.std.specs.Prelude.{◌↔◌, IsTrue}
+use Rattle.go_base.specs.Lists.{Has}
 use Rattle.go_model.specs.types.MethodSets.{InSet, IsMethodSet, method_sel}
 use Rattle.go_model.specs.types.Terms.{pointer_to}
 use Rattle.go_model.specs.worlds.Worlds.{Packages}
@@ -49,6 +50,16 @@ module _ (w : Packages) (callable : Candidates) (m : Method) (ls : List Lost) wh
 
 -- the methods of a set
 module _ (old new : Packages) (t u : Term) where
+  pub set_empty : (ms items : List Method) (xs : List Lost) → IsMethodSet (types_of old) t ms → items ≡ ms → items ≡ [] → Tells (KeepsMethodSet old new t u) (IsLostMethod old new t u) xs xs
+  set_empty ms items xs m e n = told_kept xs (λ s g c i. absurd (none s g i)) (λ l k. none k.0 k.1 k.3)
+    where
+      none : (s : Sel) (g : Signature) → InSet (types_of old) t s g → ⊥
+      none s g i =
+          let it = roll-Method (record { sel = s; signature = g }) in
+          let same = sym (out-roll-Method (record { sel = s; signature = g })) in
+          let there = subst (λ x. InSet (types_of old) t x.sel x.signature) same i in
+          subst (λ (w : List Method). Has w it) (sym e ∙ n) (m.complete it there)
+
   pub set_lost : (ms items : List Method) (callable : Candidates) (xs ys : List Lost) → IsMethodSet (types_of old) t ms → HoldMethodSet (types_of new) u callable → items ≡ ms → Tells (KeptBy (KeepsCalled old callable) items) (AreLostIn old callable items) xs ys → Tells (KeepsMethodSet old new t u) (IsLostMethod old new t u) xs ys
   set_lost ms items callable xs ys m h e g = told_as xs ys kept to back (subst (λ (x : List Method). Tells (KeptBy (KeepsCalled old callable) x) (AreLostIn old callable x) xs ys) e g)
     where

@@ -18,7 +18,7 @@ use Rattle.api_correspond.specs.Outermost.{SameOutermost}
 use Rattle.api_correspond.specs.OwnedPairs.{are_of_module}
 use Rattle.go_type_images.specs.Levels.{struct_layer}
 use Rattle.api_correspond.specs.Publics.{types_of, IsExported}
-use Rattle.api_correspond.specs.Rules.{KeepsType, CoversField, CoversSelectable, CoversComparable, KeepsComparable, CoversInterfaceMethod, CoversOpen, CoversInSet, KeepsPair, have_structs}
+use Rattle.api_correspond.specs.Rules.{KeepsType, CoversComparable, KeepsComparable, KeepsPair, have_structs}
 use Rattle.api_correspond.specs.inner.BySel.{PlaceTable, places_at, ArePlaces}
 use Rattle.api_correspond.proofs.Selected.{placed_item, item_placed}
 use Rattle.api_correspond.proofs.Places.{at_has}

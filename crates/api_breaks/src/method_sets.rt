@@ -1,5 +1,5 @@
 //! What method sets lose.
-ghost use Rattle.std.specs.Prelude.{◌≡◌, OnOk};
+ghost use Rattle.std.specs.Prelude.{◌≡◌, [], true, OnOk};
 ghost use Rattle.go_model.specs.types.Terms.{error_type, pointer_to};
 ghost use Rattle.go_selectors.specs.Answers.{Decides};
 ghost use Rattle.go_selectors.specs.Candidates.{Candidates, HoldMethodSet};
@@ -96,6 +96,12 @@ fn push_uncalled<'a>(
     Ok(())
 }
 
+fn is_none(methods: &[Method]) -> bool
+    ensures { result ≡ true → methods.now ≡ [] }
+{
+    methods.is_empty()
+}
+
 // Adds what the method set of a type loses.
 fn push_set(
     alloc: Global,
@@ -109,8 +115,12 @@ fn push_set(
     requires { error.now ≡ error_type }
     ensures { OnOk result (Tells (KeepsMethodSet old.now new.now before.now after.now) (IsLostMethod old.now new.now before.now after.now) losses.old.items losses.new.items) }
 {
-    let methods = method_set(alloc, error, old, before)?;
-    push_uncalled(alloc, error, old, new, after, methods.items(), losses)?;
+    let set = method_set(alloc, error, old, before)?;
+    let methods = set.items();
+    if is_none(methods) {
+        return Ok(());
+    }
+    push_uncalled(alloc, error, old, new, after, methods, losses)?;
     Ok(())
 }
 

@@ -6,24 +6,22 @@ ghost use Rattle.api_correspond.specs.Rules.{KeepsPair, KeepsAmong};
 ghost use Rattle.api_breaks.specs.Breaks.{IsLoss, IsLossAmong};
 ghost use Rattle.api_breaks.specs.inner.Telling.{Tells};
 ghost use Rattle.api_further_breaks.specs.inner.Partners.{HoldShared};
-ghost use Rattle.api_further_breaks.specs.inner.Sealed.{IsIndex};
+ghost use Rattle.api_further_breaks.specs.inner.Sealed.{HoldSealed};
 ghost use Rattle.api_further_breaks.specs.inner.Losses.{HoldOwned, KeepsAll, IsSomeLoss, AreLosses};
 
 use crate::implementing::push_implementing;
 use crate::partners::{push_partners, shared};
-use crate::sealed::index_of;
+use crate::sealed::{SealedPairs, sealed_pairs};
 use api_breaks::broken::Lost;
 use api_breaks::pairs::push_pair;
 use go_base::list::List;
 use go_base::memory::NoMemory;
-use go_model::types::names::Sel;
 use go_model::types::package::Defined;
 use go_model::types::world::World;
 use go_selectors::name::Name;
 use go_type_images::pair::TypePair;
 use indexmap::IndexSet;
 use std::alloc::Global;
-use std::collections::BTreeMap;
 
 // What the types of a pair lose by the rules on two pairs.
 fn push_among<'a>(
@@ -32,7 +30,7 @@ fn push_among<'a>(
     old: &'a World,
     new: &'a World,
     pairs: &'a [TypePair],
-    index: &BTreeMap<Sel, List<usize>>,
+    sealed: &SealedPairs<'_>,
     olds: &IndexSet<Name<'a>>,
     news: &IndexSet<Name<'a>>,
     pair: &'a TypePair,
@@ -41,12 +39,12 @@ fn push_among<'a>(
     requires error { error.now ≡ error_type }
     requires owned { HoldOwned old.now new.now pairs.now }
     requires there { Has pairs.now pair.now }
-    requires index { IsIndex old.now new.now pairs.now index.now }
+    requires sealed { HoldSealed old.now new.now pairs.now sealed.now }
     requires olds { HoldShared true pairs.now olds.now.keys }
     requires news { HoldShared false pairs.now news.now.keys }
     ensures { OnOk result (Tells (KeepsAmong old.now new.now pair.now) (IsLossAmong old.now new.now pair.now) losses.old.items losses.new.items) }
 {
-    push_implementing(alloc, error, old, new, pairs, index, pair, losses)?;
+    push_implementing(alloc, error, old, new, pairs, sealed, pair, losses)?;
     push_partners(alloc, old, new, pairs, olds, news, pair, losses)?;
     Ok(())
 }
@@ -58,7 +56,7 @@ fn losses_of<'a>(
     old: &'a World,
     new: &'a World,
     pairs: &'a [TypePair],
-    index: &BTreeMap<Sel, List<usize>>,
+    sealed: &SealedPairs<'_>,
     olds: &IndexSet<Name<'a>>,
     news: &IndexSet<Name<'a>>,
     pair: &'a TypePair,
@@ -66,7 +64,7 @@ fn losses_of<'a>(
     requires error { error.now ≡ error_type }
     requires owned { HoldOwned old.now new.now pairs.now }
     requires there { Has pairs.now pair.now }
-    requires index { IsIndex old.now new.now pairs.now index.now }
+    requires sealed { HoldSealed old.now new.now pairs.now sealed.now }
     requires olds { HoldShared true pairs.now olds.now.keys }
     requires news { HoldShared false pairs.now news.now.keys }
     ensures { IfOk result (Tells (KeepsAll old.now new.now pair.now) (IsSomeLoss old.now new.now pair.now) []) }
@@ -79,7 +77,7 @@ fn losses_of<'a>(
         old,
         new,
         pairs,
-        index,
+        sealed,
         olds,
         news,
         pair,
@@ -100,12 +98,12 @@ pub(crate) fn all_losses<'a>(
     requires owned { HoldOwned old.now new.now pairs.now }
     ensures { IfOk result (λ all. AreLosses old.now new.now pairs.now all.items) }
 {
-    let index = index_of(alloc, error, old, new, pairs)?;
+    let sealed = sealed_pairs(alloc, error, old, new, pairs)?;
     let olds = shared(alloc, pairs, true)?;
     let news = shared(alloc, pairs, false)?;
     let mut all = Vec::new(alloc);
     for pair in pairs {
-        let losses = losses_of(alloc, error, old, new, pairs, &index, &olds, &news, pair)?;
+        let losses = losses_of(alloc, error, old, new, pairs, &sealed, &olds, &news, pair)?;
         all.push(losses)?;
     }
     Ok(all)

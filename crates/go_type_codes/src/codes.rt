@@ -231,11 +231,18 @@ fn put_methods(out: &mut Vec<u8>, methods: &[Method]) -> Result<(), NoMemory>
     Ok(())
 }
 
+// Room for most codes.
+fn room(alloc: Global) -> Result<Vec<u8>, NoMemory>
+    ensures { IfOk result (λ room. room.items ≡ []) }
+{
+    Ok(Vec::with_capacity(alloc, 128)?)
+}
+
 /// The bytes that tell a type apart from every other one.
 pub fn type_code(alloc: Global, term: &Term) -> Result<Text, NoMemory>
     ensures { IfOk result (λ text. text ≡ code term.now) }
 {
-    let mut out = Vec::new(alloc);
+    let mut out = room(alloc)?;
     put_term(&mut out, term)?;
     Text::from_vec(alloc, out)
 }
@@ -244,7 +251,7 @@ pub fn type_code(alloc: Global, term: &Term) -> Result<Text, NoMemory>
 pub fn pair_code(alloc: Global, pair: &TypePair) -> Result<Text, NoMemory>
     ensures { IfOk result (λ text. text ≡ code_of_pair pair.now) }
 {
-    let mut out = Vec::new(alloc);
+    let mut out = room(alloc)?;
     put_term(&mut out, &pair.old)?;
     put_term(&mut out, &pair.new)?;
     Text::from_vec(alloc, out)

@@ -1,6 +1,6 @@
 -- What interfaces of the module lose, method by method.
 -- Own: words of the contracts inside this crate.
-use Rattle.std.specs.Prelude.{◌≡◌, ◌&&◌, ℕ, Bool, true, false, List}
+use Rattle.std.specs.Prelude.{◌≡◌, ℕ, Bool, true, false, List}
 use Rattle.go_base.specs.Lists.{Has}
 use Rattle.go_model.specs.types.MethodSets.{method_sel}
 use Rattle.go_model.specs.types.Underlying.{under, methods_of}
@@ -8,7 +8,6 @@ use Rattle.go_model.specs.worlds.Worlds.{Packages}
 use Rattle.go_model.specs.declared.types.names.Sel.{Sel}
 use Rattle.go_model.specs.declared.types.term.Method.{Method}
 use Rattle.go_type_images.specs.declared.pair.TypePair.{TypePair}
-use Rattle.api_correspond.specs.OwnedPairs.{are_of_module}
 use Rattle.api_correspond.specs.Publics.{types_of}
 use Rattle.api_correspond.specs.Rules.{is_sealing, is_std_sel, Counts, CoversInterfaces}
 use Rattle.api_correspond.specs.inner.Members.{OfSome}

@@ -3,7 +3,6 @@
 use Rattle.std.specs.Prelude.{◌≡◌, ◌⊎◌, ℕ, List}
 use Rattle.go_model.specs.types.MethodSets.{Implements, method_sel}
 use Rattle.go_model.specs.types.Terms.{pointer_to}
-use Rattle.go_model.specs.types.Underlying.{under, methods_of}
 use Rattle.go_model.specs.worlds.Worlds.{Packages}
 use Rattle.go_model.specs.declared.types.term.Term.{Term}
 use Rattle.go_model.specs.declared.types.term.Method.{Method}
@@ -16,36 +15,33 @@ use Rattle.api_correspond.specs.inner.Tables.{At}
 use Rattle.api_breaks.specs.declared.broken.Lost.{Lost}
 use Rattle.api_breaks.specs.declared.broken.Lost.TheVariants as lost
 use Rattle.api_breaks.specs.inner.Telling.{KeptBy}
+use Rattle.api_further_breaks.specs.declared.sealed.SealedPair.{SealedPair}
 use Rattle.api_further_breaks.specs.inner.Sealed.{AreSealed}
 
-module _ (old new : Packages) (pairs : List TypePair) where
-  -- what was called has the methods of the old interface, and what is called those of the new one
-  abbrev pub HasOld : Candidates → TypePair → Type 0
-  HasOld callable i = AreCandidates callable (methods_of (under (types_of old) i.old))
-
-  abbrev pub HasNew : Candidates → TypePair → Type 0
-  HasNew called i = AreCandidates called (methods_of (under (types_of new) i.new))
-
-  -- the first leads to the second, or not, of the pair at a place
+-- of pairs of sealed interfaces, by what can be called on an old and on a new type
+module _ (sealed : List SealedPair) where
+  -- where what was called has the methods of the old interface of the pair at a place, what is called has those of the new one
   abbrev pub KeepsAt : Candidates → Candidates → ℕ → Type 0
-  KeepsAt callable called at = (i : TypePair) → At pairs at i → HasOld callable i → HasNew called i
+  KeepsAt callable called at = (r : SealedPair) → At sealed at r → AreCandidates callable r.old.now → AreCandidates called r.new.now
 
+  -- what was called has the methods of the old one, and what is called hasn't those of the new one
   abbrev pub IsLostAt : Candidates → Candidates → ℕ → Lost → Type 0
-  IsLostAt callable called at l = (i : TypePair) × At pairs at i × HasOld callable i × (HasNew called i → ⊥) × (lost.Implements i.old ≡ l)
+  IsLostAt callable called at l = (r : SealedPair) × At sealed at r × AreCandidates callable r.old.now × (AreCandidates called r.new.now → ⊥) × (lost.Implements r.pair.now.old ≡ l)
 
   abbrev pub IsLostOf : Candidates → Candidates → List ℕ → Lost → Type 0
   IsLostOf callable called places = OfSome (IsLostAt callable called) places
 
   -- of the pairs that stand at the selector of a method
   abbrev pub KeepsOf : PlaceTable → Candidates → Candidates → Method → Type 0
-  KeepsOf index callable called m = KeptBy (KeepsAt callable called) (places_at index (method_sel m))
+  KeepsOf places callable called m = KeptBy (KeepsAt callable called) (places_at places (method_sel m))
 
   abbrev pub IsLostBy : PlaceTable → Candidates → Candidates → Method → Lost → Type 0
-  IsLostBy index callable called m = IsLostOf callable called (places_at index (method_sel m))
+  IsLostBy places callable called m = IsLostOf callable called (places_at places (method_sel m))
 
   abbrev pub IsLostBySome : PlaceTable → Candidates → Candidates → List Method → Lost → Type 0
-  IsLostBySome index callable called ms = OfSome (IsLostBy index callable called) ms
+  IsLostBySome places callable called ms = OfSome (IsLostBy places callable called) ms
 
+module _ (old new : Packages) (pairs : List TypePair) where
   -- of all sealed pairs, for an old and a new type
   abbrev pub KeepsInterfaces : Term → Term → Type 0
   KeepsInterfaces t u = (at : ℕ) (i : TypePair) → At pairs at i → AreSealed old new i → Implements (types_of old) t i.old → Implements (types_of new) u i.new

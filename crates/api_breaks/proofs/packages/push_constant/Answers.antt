@@ -1,4 +1,4 @@
-use Rattle.std.proofs.Common.{◌∙◌, subst}
+use Rattle.std.proofs.Common.{subst}
 use Rattle.go_selectors.specs.Answers.{Decides}
 use Rattle.api_correspond.specs.Rules.{KeepsConstant}
 use Rattle.api_breaks.proofs.PackageBreaks.{constant_kept, constant_lost}

@@ -1,4 +1,4 @@
-use Rattle.std.proofs.Common.{subst, ◌∙◌}
+use Rattle.std.proofs.Common.{subst}
 use Rattle.go_model.specs.types.Members.{field_sel}
 use Rattle.go_selectors.specs.Answers.{Decides}
 use Rattle.api_correspond.specs.Publics.{IsExported}

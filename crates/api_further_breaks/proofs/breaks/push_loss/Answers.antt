@@ -1,4 +1,3 @@
-use Rattle.std.proofs.Common.{◌∙◌}
 use Rattle.api_further_breaks.proofs.AllBreaks.{one_lost}
 use Rattle.api_further_breaks.proofs.breaks.push_loss.Goals as goal
 

@@ -5,4 +5,4 @@ use Rattle.api_further_breaks.specs.inner.Implementing.{KeepsOf, IsLostBy}
 use Rattle.api_further_breaks.proofs.implementing.push_methods.Given as goal
 
 abbrev pub invariant-loop-method : goal.invariant-loop-method
-invariant-loop-method l = Tells (KeptBy (KeepsOf l.old l.new l.pairs l.index l.callable l.called) (take l.method-index l.methods)) (OfSome (IsLostBy l.old l.new l.pairs l.index l.callable l.called) (take l.method-index l.methods)) l.fn.losses.items l.losses.items
+invariant-loop-method l = Tells (KeptBy (KeepsOf l.sealed.pairs.items l.sealed.places l.callable l.called) (take l.method-index l.methods)) (OfSome (IsLostBy l.sealed.pairs.items l.sealed.places l.callable l.called) (take l.method-index l.methods)) l.fn.losses.items l.losses.items
