@@ -1,5 +1,5 @@
 -- What is found of a tree alone, where its packages are kept or memory lacks.
-use Rattle.std.proofs.Common.{◌≡◌, ℕ, List, Option, None, refl, sym, subst}
+use Rattle.std.proofs.Common.{◌≡◌, ℕ, List, None, refl, sym, subst}
 use Rattle.std.specs.Prelude.{IfErr, IfOk, Result, Ok, Err}
 use Rattle.api_features.specs.Features.{IsFeature}
 use Rattle.api_findings.proofs.FoundOn.{alone_found}

@@ -1,12 +1,10 @@
 -- The paths of packages have no comma, so that a feature line has one path and one rest.
-use Rattle.std.proofs.Common.{◌≡◌, ◌≢◌, ℕ, Bool, true, false, ◌&&◌, nat_eq, cond, None, List, [], ◌∷◌, ◌++◌, refl, sym, ap, ◌∙◌, subst, ◌⊎◌, inl, inr, arith, drop, eqb-true}
+use Rattle.std.proofs.Common.{◌≡◌, ◌≢◌, ℕ, Bool, true, false, ◌&&◌, nat_eq, cond, List, [], ◌∷◌, refl, sym, ap, ◌∙◌, subst, ◌⊎◌, inl, inr, arith, eqb-true}
 use mathlib.Core.Bool.{true≢false}
 use Rattle.std.specs.Prelude.{if◌then◌else◌}
 use Rattle.std.specs.Cmp.Lexicographic.{slice_cmp}
 use Rattle.std.specs.List.{list_all, onto_first, slice_split}
 use Rattle.std.specs.Ordering.{is_lt, nat_cmp}
-use Rattle.api_lines.specs.Lines.{printed}
-use Rattle.api_lines.specs.declared.line.Line.{Line}
 use Rattle.go_base.specs.Keys.{placed}
 use Rattle.go_base.specs.Lists.{Each, Has}
 use Rattle.go_model.specs.declared.types.package.Package.{Package}

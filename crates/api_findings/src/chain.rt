@@ -2,11 +2,14 @@
 ghost use Rattle.api_findings.specs.inner.Chains.{IsChain};
 
 use crate::next_lines::FeaturedUnits;
+use api_worlds::go_work::typed::TypedUnits;
 
-/// The packages of each tree of a run as they were typed on the platform before, where there is one, with their features, for the next platform to take over.
+/// The packages of each tree of a run as they were typed on the platform before, where there is one, for the next platform to take over.
 pub(crate) struct Chain {
-    pub of_old: Option<FeaturedUnits>,
-    pub of_new: Option<FeaturedUnits>,
+    /// Those of the tree that is looked at first, the old one or the only one, with their features.
+    pub of_first: Option<FeaturedUnits>,
+    /// Those of the new tree, where there is an old one.
+    pub of_second: Option<TypedUnits>,
     /// Whether those of a tree alone are kept, for further platforms.
     pub keeps: bool,
 }
@@ -14,8 +17,8 @@ pub(crate) struct Chain {
 impl Drop for Chain {
     fn drop(self) {
         let Chain {
-            of_old: _,
-            of_new: _,
+            of_first: _,
+            of_second: _,
             keeps: _,
         } = self;
     }
@@ -27,8 +30,8 @@ impl Chain {
         ensures { IsChain result }
     {
         Chain {
-            of_old: None,
-            of_new: None,
+            of_first: None,
+            of_second: None,
             keeps,
         }
     }

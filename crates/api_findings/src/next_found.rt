@@ -16,7 +16,9 @@ ghost use Rattle.api_worlds.specs.go_work.TypedUnits.{AreTypedUnits};
 use crate::chain::Chain;
 use crate::found::{Found, featured, verdict_of};
 use crate::listed::Listed;
-use crate::next_lines::{FeaturedUnits, copy_if, next_features, typed_of, with_features};
+use crate::next_lines::{
+    FeaturedUnits, borrowed, copy_if, features_beside, next_features, typed_of, with_features,
+};
 use crate::trees::RunTrees;
 use api_lines::line::Line;
 use api_texts::lines::Side;
@@ -74,7 +76,7 @@ impl ListedUnits {
         match copy_if(alloc, chain.keeps, &listed.lines) {
             Err(NoMemory) => Err(PlatformError::NoMemory),
             Ok(lines) => {
-                chain.of_new = with_features(typed, lines);
+                chain.of_first = with_features(typed, lines);
                 Ok(featured(listed))
             }
         }
@@ -101,23 +103,18 @@ impl ListedUnits {
         ensures chain { IsChain chain.new }
     {
         let ListedUnits { typed, listed } = self;
-        match copy_if(alloc, chain.keeps, &listed.lines) {
-            Err(NoMemory) => Err(PlatformError::NoMemory),
-            Ok(lines) => {
-                let found = verdict_of(
-                    alloc,
-                    old_tree,
-                    trees,
-                    platform,
-                    &old.typed.world,
-                    &old.listed,
-                    &typed.world,
-                    listed,
-                );
-                chain.of_new = with_features(typed, lines);
-                found
-            }
-        }
+        let found = verdict_of(
+            alloc,
+            old_tree,
+            trees,
+            platform,
+            &old.typed.world,
+            &old.listed,
+            &typed.world,
+            listed,
+        );
+        chain.of_second = Some(typed);
+        found
     }
 }
 
@@ -133,29 +130,56 @@ fn with_lines(found: NextWorld, lines: List<Line>) -> ListedUnits
     }
 }
 
-// The packages of one tree on a platform, of which others may have some, and what is listed of them. The features of packages that are taken over from those
-// of the platform before stay.
+// The packages of the tree that is looked at first on a platform, and what is listed of them. The features of packages that are taken over from those of the
+// platform before stay.
 fn listed_next<G: Gate, L: Copy>(
     alloc: Global,
     side: Side,
     trees: &PlatformTrees<'_>,
-    first: Option<&TypedUnits>,
     before: Option<FeaturedUnits>,
     gate: &G,
     steps: &mut Steps<L>,
 ) -> Result<ListedUnits, PlatformError>
     requires trees { AreTrees trees.now.barred.now trees.now.tree.now trees.now.std_tree.now }
-    requires first { IfSome (option_copied first) AreTypedUnits }
     requires before { IfSome before AreFeatured }
     ensures answer { AnswersNextListed trees.now.barred.now trees.now.tree.now trees.now.std_tree.now side trees.now.platform result }
     ensures steps { CountsAtMostOn trees.now.barred.now trees.now.tree.now trees.now.std_tree.now trees.now.platform steps.old steps.new }
 {
-    match next_world_on(alloc, side, trees, first, typed_of(&before), gate, steps) {
+    match next_world_on(alloc, side, trees, None, typed_of(&before), gate, steps) {
         Err(error) => Err(error),
         Ok(found) => match next_features(alloc, &found.typed, before) {
             Err(NoMemory) => Err(PlatformError::NoMemory),
             Ok(lines) => Ok(with_lines(found, lines)),
         },
+    }
+}
+
+// The packages of a tree on a platform where another one has some of them, and what is listed of them. The features of packages that are taken over from the other
+// tree stay.
+fn listed_beside<G: Gate, L: Copy>(
+    alloc: Global,
+    side: Side,
+    trees: &PlatformTrees<'_>,
+    other: &ListedUnits,
+    before: Option<&TypedUnits>,
+    gate: &G,
+    steps: &mut Steps<L>,
+) -> Result<ListedUnits, PlatformError>
+    requires trees { AreTrees trees.now.barred.now trees.now.tree.now trees.now.std_tree.now }
+    requires typed { AreTypedUnits other.now.typed }
+    requires lines { IsListing (IsFeature other.now.typed.world) other.now.listed.lines }
+    requires before { IfSome (option_copied before) AreTypedUnits }
+    ensures answer { AnswersNextListed trees.now.barred.now trees.now.tree.now trees.now.std_tree.now side trees.now.platform result }
+    ensures steps { CountsAtMostOn trees.now.barred.now trees.now.tree.now trees.now.std_tree.now trees.now.platform steps.old steps.new }
+{
+    match next_world_on(alloc, side, trees, Some(&other.typed), before, gate, steps) {
+        Err(error) => Err(error),
+        Ok(found) => {
+            match features_beside(alloc, &found.typed, &other.typed, &other.listed.lines) {
+                Err(NoMemory) => Err(PlatformError::NoMemory),
+                Ok(lines) => Ok(with_lines(found, lines)),
+            }
+        }
     }
 }
 
@@ -175,7 +199,7 @@ pub(crate) fn features_next<G: Gate, L: Copy>(
     ensures chain { IsChain chain.new }
     ensures steps { CountsAtMost trees.now.barred.now None trees.now.tree.now trees.now.std_tree.now (platform ∷ []) steps.old steps.new }
 {
-    let before = mem::replace(&mut chain.of_new, None);
+    let before = mem::replace(&mut chain.of_first, None);
     match listed_next(
         alloc,
         Side::New,
@@ -185,7 +209,6 @@ pub(crate) fn features_next<G: Gate, L: Copy>(
             barred: trees.barred,
             platform,
         },
-        None,
         before,
         gate,
         steps,
@@ -216,8 +239,8 @@ fn verdict_after<G: Gate, L: Copy>(
     ensures chain { IsChain chain.new }
     ensures steps { CountsAtMostOn trees.now.barred.now trees.now.tree.now trees.now.std_tree.now platform steps.old steps.new }
 {
-    let before = mem::replace(&mut chain.of_new, None);
-    match listed_next(
+    let before = mem::replace(&mut chain.of_second, None);
+    match listed_beside(
         alloc,
         Side::New,
         &PlatformTrees {
@@ -226,8 +249,8 @@ fn verdict_after<G: Gate, L: Copy>(
             barred: trees.barred,
             platform,
         },
-        Some(&old.typed),
-        before,
+        old,
+        borrowed(&before),
         gate,
         steps,
     ) {
@@ -254,7 +277,7 @@ pub(crate) fn verdict_next<G: Gate, L: Copy>(
     ensures chain { IsChain chain.new }
     ensures steps { CountsAtMost trees.now.barred.now (Some old_tree.now) trees.now.tree.now trees.now.std_tree.now (platform ∷ []) steps.old steps.new }
 {
-    let before = mem::replace(&mut chain.of_old, None);
+    let before = mem::replace(&mut chain.of_first, None);
     match listed_next(
         alloc,
         Side::Old,
@@ -264,7 +287,6 @@ pub(crate) fn verdict_next<G: Gate, L: Copy>(
             barred: trees.barred,
             platform,
         },
-        None,
         before,
         gate,
         steps,
@@ -272,7 +294,7 @@ pub(crate) fn verdict_next<G: Gate, L: Copy>(
         Err(error) => Err(error),
         Ok(old) => {
             let found = verdict_after(alloc, old_tree, trees, platform, &old, chain, gate, steps);
-            chain.of_old = Some(old.into_featured());
+            chain.of_first = Some(old.into_featured());
             found
         }
     }

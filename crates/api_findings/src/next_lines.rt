@@ -1,4 +1,4 @@
-//! The features of a tree on a platform, of which those stay that packages had on the platform before.
+//! The features of a tree on a platform, of which those stay that packages had on the platform before, or have in the old tree.
 ghost use Rattle.std.specs.Prelude.{◌≡◌, IfOk, IfSome};
 ghost use Rattle.std.specs.Option.{option_copied};
 ghost use Rattle.api_features.specs.Features.{IsFeature};
@@ -57,6 +57,17 @@ impl FeaturedUnits {
 }
 
 /// The packages, where there are any.
+pub(crate) fn borrowed(before: &Option<TypedUnits>) -> Option<&TypedUnits>
+    requires { IfSome before.now AreTypedUnits }
+    ensures { IfSome (option_copied result) AreTypedUnits }
+{
+    match before {
+        None => None,
+        Some(before) => Some(before),
+    }
+}
+
+/// The packages that stand beside features, where there are any.
 pub(crate) fn typed_of(before: &Option<FeaturedUnits>) -> Option<&TypedUnits>
     requires { IfSome before.now AreFeatured }
     ensures { IfSome (option_copied result) AreTypedUnits }
@@ -108,4 +119,20 @@ pub(crate) fn next_features(
         None => features(alloc, &typed.world),
         Some(before) => before.features_of(alloc, typed),
     }
+}
+
+/// The features of packages as they were typed beside others that have these features. Those of packages that are taken over from there stay.
+pub(crate) fn features_beside(
+    alloc: Global,
+    typed: &TypedUnits,
+    other: &TypedUnits,
+    lines: &List<Line>,
+) -> Result<List<Line>, NoMemory>
+    requires typed { AreTypedUnits typed.now }
+    requires other { AreTypedUnits other.now }
+    requires lines { IsListing (IsFeature other.now.world) lines.now }
+    ensures { IfOk result (IsListing (IsFeature typed.now.world)) }
+{
+    let stay = lines_copied(alloc, lines.items())?;
+    features_after(alloc, &unit_world(other), stay, &unit_world(typed))
 }

@@ -23,6 +23,7 @@ const BLOCK: usize = 16_384;
 pub struct HostFiles<'a, R> {
     rt: &'a R,
     faults: u64,
+    block: [u8; BLOCK],
 }
 
 impl<'a, R> Model for HostFiles<'a, R> {
@@ -115,13 +116,12 @@ fn list<R: Runtime + AllocGlobal>(
 
 // The bytes that a reader has left. Each read is into the same block, since std's `read_to_end` fills
 // with zeros, byte by byte, what it then reads into.
-fn read_all<R: Read>(alloc: Global, reader: &mut R) -> io::Result<Vec<u8>>
+fn read_all<R: Read>(alloc: Global, reader: &mut R, block: &mut [u8; BLOCK]) -> io::Result<Vec<u8>>
     ensures { IfOk result (λ bytes. IfSome (R.remaining reader.old) (λ left. bytes.items ≡ left)) }
 {
     let mut bytes = Vec::new(alloc);
-    let mut block = [0; BLOCK];
     for _ in 0..u64::MAX {
-        match reader.read(&mut block) {
+        match reader.read(block) {
             Ok(0) => return Ok(bytes),
             Ok(count) => bytes.extend_from_slice(&block[..count])?,
             Err(error) => {
@@ -135,8 +135,13 @@ fn read_all<R: Read>(alloc: Global, reader: &mut R) -> io::Result<Vec<u8>>
 }
 
 // The bytes of an open file, one more than the limit at most.
-fn read_most<F: Read + Drop>(alloc: Global, file: F, limit: u64) -> io::Result<Vec<u8>> {
-    read_all(alloc, &mut file.take(limit.saturating_add(1)))
+fn read_most<F: Read + Drop>(
+    alloc: Global,
+    file: F,
+    limit: u64,
+    block: &mut [u8; BLOCK],
+) -> io::Result<Vec<u8>> {
+    read_all(alloc, &mut file.take(limit.saturating_add(1)), block)
 }
 
 fn read<R: Runtime + AllocGlobal>(
@@ -144,6 +149,7 @@ fn read<R: Runtime + AllocGlobal>(
     rt: &R,
     path: &str,
     limit: u64,
+    block: &mut [u8; BLOCK],
 ) -> Result<Text, FilesError>
     ensures limit { IfOk result (λ text. length text ≤ limit) }
 {
@@ -151,7 +157,7 @@ fn read<R: Runtime + AllocGlobal>(
         Ok(file) => file,
         Err(error) => return Err(cause_of(error)),
     };
-    match read_most(alloc, file, limit) {
+    match read_most(alloc, file, limit, block) {
         Err(error) => Err(cause_of(error)),
         Ok(bytes) => {
             if bytes.len() as u64 > limit {
@@ -171,7 +177,11 @@ impl<'a, R: Runtime + AllocGlobal> HostFiles<'a, R> {
     pub fn new(rt: &'a R) -> HostFiles<'a, R>
         ensures { result ≡ 0 }
     {
-        HostFiles { rt, faults: 0 }
+        HostFiles {
+            rt,
+            faults: 0,
+            block: [0; BLOCK],
+        }
     }
 
     // Counts the fault, where the error is one.
@@ -206,7 +216,7 @@ impl<'a, R: Runtime + AllocGlobal> Files for HostFiles<'a, R> {
         let Ok(path) = str::from_utf8(path) else {
             return Err(self.counted(FilesError::Failed));
         };
-        match read(alloc, self.rt, path, limit) {
+        match read(alloc, self.rt, path, limit, &mut self.block) {
             Ok(text) => Ok(text),
             Err(error) => Err(self.counted(error)),
         }

@@ -1,4 +1,3 @@
-use Rattle.std.proofs.Common.{None}
 use Rattle.api_findings.proofs.FoundOn.{alone_count, alone_error}
 use Rattle.api_findings.proofs.KeptFindings.{kept_answer, kept_left_out}
 use Rattle.api_findings.proofs.next_found.features_next.Goals as goal

@@ -28,11 +28,11 @@ pub returns-in-Ok-clause-chain : goal.returns-in-Ok-clause-chain
 returns-in-Ok-clause-chain g c =
     let kept = c.into_featured.result in
     record {
-      of_old = record {
+      of_first = record {
         typed = subst AreTypedUnits (sym c.into_featured.ensures.typed) c.in-Ok.ensures.answer.1;
         lines =
             subst (λ (t : TypedUnits). IsListing (IsFeature t.world) kept.lines) (sym c.into_featured.ensures.typed)
             (subst (IsListing (IsFeature c.in-Ok.old.typed.world)) (sym c.into_featured.ensures.lines) c.in-Ok.ensures.answer.0.lines);
       };
-      of_new = c.verdict_after-found.ensures.chain.of_new;
+      of_second = c.verdict_after-found.ensures.chain.of_second;
     }
