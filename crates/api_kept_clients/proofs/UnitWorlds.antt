@@ -4,8 +4,9 @@ use Rattle.go_model.specs.worlds.Worlds.{IsWorld, Packages}
 use Rattle.go_type_images.specs.declared.pair.TypePair.{TypePair}
 use Rattle.go_typings.specs.Sources.{PackageSource}
 use Rattle.go_exposed.specs.OfferedWorlds.{IsWorldOf}
-use Rattle.api_std_types.proofs.go_std_worlds_proofs.SameStdWorlds.{same_std, written_side}
-use Rattle.api_std_types.proofs.go_std_worlds_proofs.StdWorlds as standard
+use Rattle.api_std_types.proofs.go_std_worlds_proofs.SameStdWorlds.{own_of, same_std, written_side}
+use Rattle.api_std_types.proofs.go_std_worlds_proofs.go_taken_packages_proofs.OverAll.{nothing_at_empty}
+use Rattle.api_std_types.proofs.go_std_worlds_proofs.go_taken_packages_proofs.WorldsInOrder.{in_order}
 use Rattle.api_std_types.specs.go_std_worlds.StdSources.{HavePaths, KeepStdApart}
 use Rattle.api_std_types.proofs.go_unit_worlds_proofs.JoinedInTurn.{no_world, none_there, world_in_turn}
 use Rattle.api_std_types.proofs.go_unit_worlds_proofs.SharedWorlds.{all_held}
@@ -22,7 +23,7 @@ some_paths : (us : List PackageSource) → HaveOtherPaths us → HavePaths us
 some_paths us h u i = (h u i).0
 
 no_empty : (bits : ℕ) (us : List PackageSource) (w : Packages) → KeepStdApart us → HavePaths us → IsWorldOf bits us w → package_at w [] ≡ None
-no_empty bits us w a x k = (standard.keeps_all bits us a x k.become k.all_typed (standard.all_new bits us a x) (standard.keeps_none bits us a x)).empty
+no_empty bits us w a x k = let i = in_order bits us w k in nothing_at_empty bits us i.0 w (own_of us a x) i.1
 
 is_world : (bits : ℕ) (us : List PackageSource) (w : Packages) → KeepStdApart us → HaveOtherPaths us → IsWorldOf bits us w → IsWorld w
 is_world bits us w a x k = world_in_turn bits k.become no_world a.own_paths x (none_there us)
@@ -50,7 +51,7 @@ are_compatible bits us vs bs xs old new before after pairs s t g h k c = record 
   old_world = is_world bits us old s.apart s.paths s.world;
   new_world = is_world bits vs new t.apart t.paths t.world;
   share = share_std bits us vs old new s.apart t.apart (some_paths us s.paths) (some_paths vs t.paths) g s.world t.world;
-  stay = methods_stay bits us s.apart (some_paths us s.paths) old s.world (no_empty bits us old s.apart (some_paths us s.paths) s.world);
+  stay = methods_stay bits us s.apart (some_paths us s.paths) old s.world;
   serves = serves_clients bits us bs old before s;
   serves_too = serves_clients bits vs xs new after t;
   share_too = share_std bits bs xs before after s.apart_too t.apart_too (some_paths bs s.paths_too) (some_paths xs t.paths_too) h s.world_too t.world_too;

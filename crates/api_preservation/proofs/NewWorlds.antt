@@ -103,7 +103,7 @@ module _ (p : Platform) (bits : ℕ) (barred : List (List ℕ)) (std_tree : Tree
               let new_std : u.from_std ≡ true = here.side ∙ f.std in
               let is : source_of v.0 ≡ source_of u = source_same p barred std_tree one old new fo fn oc sc v.0 u f.number m v.2 here path old_std new_std in
               let there : Has (sources_of oc.units) (source_of u) = subst (Has (sources_of oc.units)) is (has_mapped source_of oc.units.packages v.0 v.1) in
-              std_again bits (sources_of oc.units) (written front) (sources_of sc.units) (apart p barred old std_tree fo oc) front_apart (apart p barred new std_tree fn sc) oc_paths front_paths sc_paths front_among front_std before w kb k (source_of u) there
+              std_again bits (sources_of oc.units) (written front) (sources_of sc.units) (apart p barred old std_tree fo oc) front_apart (apart p barred new std_tree fn sc) oc_paths front_paths front_among front_std before w kb k (source_of u) there
               (has_mapped source_of sc.units.packages u h) new_std t
 
   middle : (front rest : List PackageUnit) (u : PackageUnit) → Has (front ++ u ∷ rest) u

@@ -4,17 +4,19 @@ use Rattle.std.specs.Prelude.{if◌then◌else◌}
 use Rattle.std.specs.Cmp.Lexicographic.{slice_cmp}
 use Rattle.std.specs.Ordering.{is_lt, nat_cmp}
 use Rattle.go_base.specs.Keys.{first_with, placed}
-use Rattle.go_base.specs.Lists.{Has, Once, Passes}
+use Rattle.go_base.specs.Lists.{Has, Passes}
+use Rattle.go_exposed.specs.OfferedPackages.{IsOfferedAs}
 use Rattle.go_exposed.specs.OfferedWorlds.{Become, IsWorldOf, become_more, become_none}
 use Rattle.go_model.proofs.MoreWorlds.{key_placed, keys_kept}
 use Rattle.go_model.specs.declared.types.package.Package.{Package}
 use Rattle.go_model.specs.worlds.Worlds.{Packages, path_of}
 use Rattle.go_rules.proofs.OneKind.{no_truth}
-use Rattle.go_std_worlds.proofs.MoreLists.{key_finds, mapped}
+use Rattle.go_std_worlds.proofs.go_taken_packages_proofs.OverAll.{StandsAs}
+use Rattle.go_std_worlds.proofs.go_taken_packages_proofs.TakenOver.{typed_in}
 use Rattle.go_std_worlds.specs.StdSources.{HaveOwnPaths, HavePaths, source_path}
-use Rattle.go_typings.specs.PackageWorlds.{Outcome, blocked, is_public, is_typed, refused, typed}
+use Rattle.go_typings.proofs.Cells.{some_once}
+use Rattle.go_typings.specs.PackageWorlds.{Outcome, blocked, is_public, is_typed, over, refused, typed}
 use Rattle.go_typings.specs.Sources.{PackageSource}
-use Rattle.api_kept_clients.proofs.go_unit_worlds_proofs.WorldsInTurn.{all_new, each_there, keeps_all, keeps_none}
 
 -- ---- texts in their places
 
@@ -88,24 +90,18 @@ module _ (bits : ℕ) where
 
 -- ---- names
 
--- those of a list with paths of their own are told by their paths
-pub source_at : (vs : List PackageSource) → Once (map source_path vs) → (u v : PackageSource) → Has vs u → Has vs v → u.path ≡ v.path → u ≡ v
-source_at [] o u v h k e = absurd h
-source_at (s ∷ vs) o u v (inl a) (inl b) e = sym a ∙ b
-source_at (s ∷ vs) o u v (inl a) (inr k) e = absurd (o.0 (subst (Has (map source_path vs)) (sym (ap source_path a ∙ e)) (mapped source_path vs v k)))
-source_at (s ∷ vs) o u v (inr h) (inl b) e = absurd (o.0 (subst (Has (map source_path vs)) (e ∙ sym (ap source_path b)) (mapped source_path vs u h)))
-source_at (s ∷ vs) o u v (inr h) (inr k) e = source_at vs o.1 u v h k e
-
 module _ (bits : ℕ) (us : List PackageSource) (own : HaveOwnPaths us) (paths : HavePaths us) (w : Packages) (k : IsWorldOf bits us w) where
+  typed_there : (s : PackageSource) → Has us s → (p : Package) × StandsAs bits w s (typed p)
+  typed_there s h = typed_in bits us w (record { once = own; named = paths }) k s h
+
   pub package_there : (s : PackageSource) → Has us s → (p : Package) × (first_with path_of w.packages s.path ≡ Some p)
-  package_there s h = key_finds path_of w.packages s.path (each_there bits us own paths k.become k.all_typed (all_new bits us own paths) (keeps_none bits us own paths) s h)
+  package_there s h = let q = typed_there s h in (q.0, q.1.1)
+
+  typed_as : (s : PackageSource) → Has us s → (p : Package) → first_with path_of w.packages s.path ≡ Some p → IsOfferedAs (over bits w) s p
+  typed_as s h p e = let q = typed_there s h in subst (IsOfferedAs (over bits w) s) (some_once q.0 p (sym q.1.1 ∙ e)) q.1.0.1
 
   pub package_name : (s : PackageSource) → Has us s → (p : Package) → first_with path_of w.packages s.path ≡ Some p → p.name ≡ s.name
-  package_name s h p e =
-      let q = (keeps_all bits us own paths k.become k.all_typed (all_new bits us own paths) (keeps_none bits us own paths)).typed s.path p e in
-      q.typed.«package».name ∙ ap (λ (z : PackageSource). z.name) (source_at us own q.source s q.among h q.place)
+  package_name s h p e = (typed_as s h p e).«package».name
 
   pub package_side : (s : PackageSource) → Has us s → (p : Package) → first_with path_of w.packages s.path ≡ Some p → p.from_std ≡ s.from_std
-  package_side s h p e =
-      let q = (keeps_all bits us own paths k.become k.all_typed (all_new bits us own paths) (keeps_none bits us own paths)).typed s.path p e in
-      q.typed.«package».from_std ∙ ap (λ (z : PackageSource). z.from_std) (source_at us own q.source s q.among h q.place)
+  package_side s h p e = (typed_as s h p e).«package».from_std

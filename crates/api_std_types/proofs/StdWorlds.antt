@@ -31,7 +31,6 @@ use Rattle.go_rules.proofs.OneKind.{no_truth}
 use Rattle.go_rules.specs.Environments.{is_exported}
 use Rattle.go_type_images.specs.Parts.{function_type, method_type, parts}
 use Rattle.go_shared_types.proofs.PartNames.{error_sel, names_of_function, selectors_of_function}
-use Rattle.go_typed_packages.proofs.Lists.{own_placed}
 use Rattle.go_typings.proofs.Cells.{either, if_false, if_true, none_some, some_once}
 use Rattle.go_typings.proofs.HeldImports.{path_found, path_missing}
 use Rattle.go_typings.proofs.ReachedRegion.{first_has}
@@ -41,9 +40,13 @@ use Rattle.go_typings.specs.Receivers.{selector}
 use Rattle.go_typings.specs.Sources.{Import, PackageSource, imports_of}
 use Rattle.go_exposed.specs.OfferedPackages.{IsOfferedAs}
 use Rattle.go_exposed.specs.OfferedWorlds.{Become, IsWorldOf, become_more, become_none}
-use Rattle.go_unit_worlds.proofs.go_std_worlds_proofs.MoreLists.{found_after, found_still, key_finds}
-use Rattle.go_unit_worlds.specs.go_std_worlds.StdSources.{HavePaths, KeepStdApart}
-use Rattle.go_unit_worlds.proofs.WorldsInTurn.{AreNew, Keeps, all_new, keeps_next, keeps_none, new_rest, or_left, or_right}
+use Rattle.go_unit_worlds.proofs.go_std_worlds_proofs.SameStdWorlds.{own_of}
+use Rattle.go_unit_worlds.proofs.go_taken_packages_proofs.KeptPaths.{key_finds, mapped, other_kept, own_found, rest_kept, same_or_other}
+use Rattle.go_unit_worlds.proofs.go_taken_packages_proofs.OverAll.{nothing_at_empty}
+use Rattle.go_unit_worlds.proofs.go_taken_packages_proofs.SameReach.{or_left, or_right}
+use Rattle.go_unit_worlds.proofs.go_taken_packages_proofs.SharedPackages.{at_path, written}
+use Rattle.go_unit_worlds.proofs.go_taken_packages_proofs.WorldsInOrder.{in_order}
+use Rattle.go_unit_worlds.specs.go_std_worlds.StdSources.{HaveOwnPaths, HavePaths, KeepStdApart, source_path}
 use Rattle.api_correspond.specs.Publics.{of_std, package_at, types_of}
 use Rattle.api_correspond.specs.Rules.{is_std_sel}
 use Rattle.api_kept_relations.specs.StdTypes.{EntityHasStdMethods, HasStdMethods, IsOfStd, StdMethodsStay, StdStandsAlone, is_open_sel, is_std_name, std_methods}
@@ -206,49 +209,36 @@ module _ (w : Packages) where
 
 -- ---- packages in turn
 
-module _ (bits : ℕ) (us : List PackageSource) (apart : KeepStdApart us) (paths : HavePaths us) (w : Packages) where
-  abbrev Whole : Packages → Type 0
-  Whole x = Keeps bits us x
-
-  abbrev New : Packages → List PackageSource → Type 0
-  New x rest = AreNew bits us apart.own_paths paths x rest
+module _ (bits : ℕ) (us : List PackageSource) (apart : KeepStdApart us) (paths : HavePaths us) (w : Packages) (world : IsWorldOf bits us w) where
+  empty : package_at w [] ≡ None
+  empty = let a = in_order bits us w world in nothing_at_empty bits us a.0 w (own_of us apart paths) a.1
 
   -- what stands in the first packages stands in the last
   abbrev Within : Packages → Type 0
   Within x = (path : List ℕ) (q : Package) → first_with path_of x.packages path ≡ Some q → first_with path_of w.packages path ≡ Some q
 
-  free_path : (x : Packages) (u : PackageSource) (rest : List PackageSource) (p : Package) → New x (u ∷ rest) → IsOfferedAs (over bits x) u p → Has (map path_of x.packages) p.path → ⊥
-  free_path x u rest p n y i = n.free u (inl refl) (subst (Has (map path_of x.packages)) y.«package».path i)
-
-  still : {x : Packages} {rest : List PackageSource} {os : List Outcome} → Become bits x rest os w → Passes is_typed os → New x rest → Whole x → Within x
-  still become_none o n k path q e = e
-  still (become_more {w = x} {u = u} {us = rest} {x = typed p} a r) o n k path q e =
-      still r o.1 (new_rest bits us apart.own_paths paths x u rest p k n a.0 a.1) (keeps_next bits us apart.own_paths paths x u rest p k n a.0 a.1) path q (found_still path_of p x.packages (free_path x u rest p n a.1) path q e)
-  still (become_more {x = refused q} a r) o n k path z e = absurd (no_truth (sym o.0))
-  still (become_more {x = blocked} a r) o n k path z e = absurd (no_truth (sym o.0))
-
   -- ---- one package
 
-  module _ (x : Packages) (u : PackageSource) (p : Package) (k : Whole x) (among : Has us u) (t : AreTyped x u) (y : IsOfferedAs (over bits x) u p) (whole : Within x) (own : first_with path_of w.packages u.path ≡ Some p) where
+  module _ (x : Packages) (u : PackageSource) (p : Package) (among : Has us u) (t : AreTyped x u) (y : IsOfferedAs (over bits x) u p) (whole : Within x) (place : first_with path_of w.packages u.path ≡ Some p) where
     std_at : (path : List ℕ) (q : Package) → first_with path_of x.packages path ≡ Some q → of_std (package_at w path) ≡ true → q.from_std ≡ true
     std_at path q e s = sym (ap of_std (whole path q e)) ∙ s
 
     here : of_std (package_at w u.path) ≡ p.from_std
-    here = ap of_std own
+    here = ap of_std place
 
     -- a package of the standard library imports such packages
     import_path : u.from_std ≡ true → (file : ℕ) (i : Import) → Has (imports_of u file) i → Imported w (had_path i)
     import_path s file i h = elim (either i.is_found) [
       | inl e ↦ (
           let q = key_finds path_of x.packages i.path (t file i h e) in
-          let v = k.typed i.path q.0 q.1 in
-          let std = apart.std_imports u v.source file i among v.among s h e v.place in
-          inl (ap (λ path. of_std (package_at w path)) (path_found i e) ∙ ap of_std (whole i.path q.0 q.1) ∙ (v.typed).«package».from_std ∙ std)
+          let v = written bits us w (own_of us apart paths) world i.path q.0 (whole i.path q.0 q.1) in
+          let std = apart.std_imports u v.0 file i among v.1 s h e v.2 in
+          inl (ap (λ path. of_std (package_at w path)) (path_found i e) ∙ ap of_std (whole i.path q.0 q.1) ∙ (v.3).1.«package».from_std ∙ std)
           )
       | inr e ↦ inr (path_missing i e)
     ]
 
-    pub std_source : p.from_std ≡ true → ((path : List ℕ) (q : Package) → first_with path_of x.packages path ≡ Some q → q.from_std ≡ true → StdPackage w q) → SourceMade (Named w) (Open w) (Declared w) (Imported w) (over bits x) u
+    std_source : p.from_std ≡ true → ((path : List ℕ) (q : Package) → first_with path_of x.packages path ≡ Some q → q.from_std ≡ true → StdPackage w q) → SourceMade (Named w) (Open w) (Declared w) (Imported w) (over bits x) u
     std_source s before = record {
       own_field = λ name. own_open w u.path name (here ∙ s);
       own_method = λ name g h. own_open w u.path name (here ∙ s);
@@ -257,14 +247,14 @@ module _ (bits : ℕ) (us : List PackageSource) (apart : KeepStdApart us) (paths
       paths = import_path (sym y.«package».from_std ∙ s);
       imports = λ path q i e. elim i [
         | inl z ↦ before path q e (std_at path q e z)
-        | inr z ↦ none_some (first_with path_of x.packages []) q k.empty (ap (first_with path_of x.packages) (sym z) ∙ e)
+        | inr z ↦ none_some (package_at w []) q empty (ap (package_at w) (sym z) ∙ whole path q e)
       ];
       others = λ n q z f g e. before n.path q e (std_at n.path q e (sym (ap (λ b. b || of_std (package_at w n.path)) f) ∙ z));
       types = λ name d c e f. or_right (is_error (record { path = u.path; name = c.name.text })) (of_std (package_at w u.path)) (here ∙ s);
     }
 
-    pub own_source : p.from_std ≡ false → ((path : List ℕ) (q : Package) → first_with path_of x.packages path ≡ Some q → StayingPackage w q) → package_at w [] ≡ None → SourceMade (AnyName w) (AnyLabel w) (Stays w) (AnyPath w) (over bits x) u
-    own_source s before empty = record {
+    own_source : p.from_std ≡ false → ((path : List ℕ) (q : Package) → first_with path_of x.packages path ≡ Some q → StayingPackage w q) → SourceMade (AnyName w) (AnyLabel w) (Stays w) (AnyPath w) (over bits x) u
+    own_source s before = record {
       own_field = λ name. tt;
       own_method = λ name g h. own_stays w empty u.path name g (here ∙ s);
       error = tt;
@@ -277,76 +267,73 @@ module _ (bits : ℕ) (us : List PackageSource) (apart : KeepStdApart us) (paths
 
   -- ---- all of them
 
-  abbrev AllStd : Packages → Type 0
-  AllStd x = (path : List ℕ) (q : Package) → first_with path_of x.packages path ≡ Some q → q.from_std ≡ true → StdPackage w q
+  -- those that come after these packages
+  record AreNew (x : Packages) (rest : List PackageSource) : Type 0 where
+    pub among : (u : PackageSource) → Has rest u → Has us u
+    pub free : (u : PackageSource) → Has rest u → first_with path_of x.packages u.path ≡ None
+    pub once : HaveOwnPaths rest
 
-  own_place : {x : Packages} {u : PackageSource} {rest : List PackageSource} {p : Package} {os : List Outcome} → Become bits (with_package x p (is_public u)) rest os w → Passes is_typed os → New x (u ∷ rest) → Whole x → AreTyped x u → IsOfferedAs (over bits x) u p → first_with path_of w.packages u.path ≡ Some p
-  own_place {x = x} {u = u} {rest = rest} {p = p} r o n k t y =
-      still r o (new_rest bits us apart.own_paths paths x u rest p k n t y) (keeps_next bits us apart.own_paths paths x u rest p k n t y) u.path p
-      (ap (first_with path_of (with_package x p (is_public u)).packages) (sym y.«package».path) ∙ own_placed path_of p x.packages (free_path x u rest p n y))
+  still : {x : Packages} {rest : List PackageSource} {os : List Outcome} → Become bits x rest os w → AreNew x rest → Within x
+  still {x = x} {rest = rest} r n path q e =
+      rest_kept bits path r (λ h. let u = at_path rest path h in none_some (first_with path_of x.packages path) q (ap (first_with path_of x.packages) (sym u.2) ∙ n.free u.0 u.1) e) ∙ e
 
-  std_made : (x : Packages) (u : PackageSource) (rest : List PackageSource) (p : Package) → New x (u ∷ rest) → Whole x → AreTyped x u → IsOfferedAs (over bits x) u p → Within x → first_with path_of w.packages u.path ≡ Some p → AllStd x → p.from_std ≡ true → StdPackage w p
-  std_made x u rest p n k t y whole own before s =
-      package_made (Named w) (Open w) (Declared w) (Imported w) (over bits x) u (std_source x u p k (n.among u (inl refl)) t y whole own s before) y.within y.entries y.kept.typing p y.«package»
+  -- what holds of each package where it holds of those before it
+  module _ (P : Package → Type 0) where
+    abbrev All : Packages → Type 0
+    All x = (path : List ℕ) (q : Package) → first_with path_of x.packages path ≡ Some q → P q
 
-  all_std : {x : Packages} {rest : List PackageSource} {os : List Outcome} → Become bits x rest os w → Passes is_typed os → New x rest → Whole x → AllStd x → AllStd w
-  all_std become_none o n k g = g
-  all_std (become_more {w = x} {u = u} {us = rest} {x = typed p} a r) o n k g =
-      all_std r o.1 (new_rest bits us apart.own_paths paths x u rest p k n a.0 a.1) (keeps_next bits us apart.own_paths paths x u rest p k n a.0 a.1)
-      (λ path q e s. elim (found_after path_of p x.packages (free_path x u rest p n a.1) path q e) [
-        | inl new ↦ subst (StdPackage w) new.1 (std_made x u rest p n k a.0 a.1 (still (become_more {x = typed p} a r) o n k) (own_place r o.1 n k a.0 a.1) g (ap (λ (z : Package). z.from_std) new.1 ∙ s))
-        | inr old ↦ g path q old s
-      ])
-  all_std (become_more {x = refused q} a r) o n k g = absurd (no_truth (sym o.0))
-  all_std (become_more {x = blocked} a r) o n k g = absurd (no_truth (sym o.0))
+    abbrev Step : Type 0
+    Step = (x : Packages) (u : PackageSource) (p : Package) → Has us u → AreTyped x u → IsOfferedAs (over bits x) u p → Within x → first_with path_of w.packages u.path ≡ Some p → All x → P p
 
-  abbrev AllStay : Packages → Type 0
-  AllStay x = (path : List ℕ) (q : Package) → first_with path_of x.packages path ≡ Some q → StayingPackage w q
-
-  module _ (std : AllStd w) (empty : package_at w [] ≡ None) where
-    one_stays : (x : Packages) (u : PackageSource) (rest : List PackageSource) (p : Package) → New x (u ∷ rest) → Whole x → AreTyped x u → IsOfferedAs (over bits x) u p → Within x → first_with path_of w.packages u.path ≡ Some p → AllStay x → (b : Bool) → p.from_std ≡ b → StayingPackage w p
-    one_stays x u rest p n k t y whole own before true s = staying_package w p (std u.path p own s)
-    one_stays x u rest p n k t y whole own before false s =
-        package_made (AnyName w) (AnyLabel w) (Stays w) (AnyPath w) (over bits x) u (own_source x u p k (n.among u (inl refl)) t y whole own s before empty) y.within y.entries y.kept.typing p y.«package»
-
-    all_stay : {x : Packages} {rest : List PackageSource} {os : List Outcome} → Become bits x rest os w → Passes is_typed os → New x rest → Whole x → AllStay x → AllStay w
-    all_stay become_none o n k g = g
-    all_stay (become_more {w = x} {u = u} {us = rest} {x = typed p} a r) o n k g =
-        all_stay r o.1 (new_rest bits us apart.own_paths paths x u rest p k n a.0 a.1) (keeps_next bits us apart.own_paths paths x u rest p k n a.0 a.1)
-        (λ path q e. elim (found_after path_of p x.packages (free_path x u rest p n a.1) path q e) [
-          | inl new ↦ subst (StayingPackage w) new.1 (one_stays x u rest p n k a.0 a.1 (still (become_more {x = typed p} a r) o n k) (own_place r o.1 n k a.0 a.1) g p.from_std refl)
-          | inr old ↦ g path q old
+    in_turn : Step → {x : Packages} {rest : List PackageSource} {os : List Outcome} → Become bits x rest os w → Passes is_typed os → AreNew x rest → All x → All w
+    in_turn step become_none o n g = g
+    in_turn step (become_more {w = x} {u = u} {us = rest} {x = typed p} a r) o n g =
+        let mine = own_found bits x u (typed p) a (n.free u (inl refl)) in
+        let next : AreNew (with_package x p (is_public u)) rest = record {
+          among = λ v h. n.among v (inr h);
+          free = λ v h. other_kept bits x u (typed p) v.path a (λ e. n.once.0 (subst (Has (map source_path rest)) (sym e) (mapped source_path rest v h))) ∙ n.free v (inr h);
+          once = n.once.1;
+        } in
+        in_turn step r o.1 next (λ path q e. elim (same_or_other u.path path) [
+          | inl s ↦ subst P (some_once p q (sym mine ∙ ap (first_with path_of (with_package x p (is_public u)).packages) s ∙ e))
+              (step x u p (n.among u (inl refl)) a.0 a.1 (still (become_more {x = typed p} a r) n) (rest_kept bits u.path r n.once.0 ∙ mine) g)
+          | inr d ↦ g path q (sym (other_kept bits x u (typed p) path a d) ∙ e)
         ])
-    all_stay (become_more {x = refused q} a r) o n k g = absurd (no_truth (sym o.0))
-    all_stay (become_more {x = blocked} a r) o n k g = absurd (no_truth (sym o.0))
+    in_turn step (become_more {x = refused q} a r) o n g = absurd (no_truth (sym o.0))
+    in_turn step (become_more {x = blocked} a r) o n g = absurd (no_truth (sym o.0))
+
+    all_in : Step → All w
+    all_in step = in_turn step world.become world.all_typed (record { among = λ u h. h; free = λ u h. refl; once = apart.own_paths }) (λ path q e. none_some (first_with path_of no_packages.packages path) q refl e)
 
   -- ---- both premises
 
-  module _ (world : IsWorldOf bits us w) where
-    all_in : AllStd w
-    all_in = all_std world.become world.all_typed (all_new bits us apart.own_paths paths) (keeps_none bits us apart.own_paths paths) (λ path q e s. none_some (first_with path_of no_packages.packages path) q refl e)
+  all_std : (path : List ℕ) (q : Package) → first_with path_of w.packages path ≡ Some q → q.from_std ≡ true → StdPackage w q
+  all_std = all_in (λ q. q.from_std ≡ true → StdPackage w q) (λ x u p h t y whole place before s.
+      package_made (Named w) (Open w) (Declared w) (Imported w) (over bits x) u (std_source x u p h t y whole place s before) y.within y.entries y.kept.typing p y.«package»)
 
-    pub stands_alone : StdStandsAlone w
-    stands_alone = record { names = λ path p e s. names_pass w p (all_in path p e s); selectors = λ path p e s. selectors_pass w p (all_in path p e s) }
+  all_stay : (path : List ℕ) (q : Package) → first_with path_of w.packages path ≡ Some q → StayingPackage w q
+  all_stay = all_in (StayingPackage w) (λ x u p h t y whole place before. elim (either p.from_std) [
+    | inl s ↦ staying_package w p (all_std u.path p place s)
+    | inr s ↦ package_made (AnyName w) (AnyLabel w) (Stays w) (AnyPath w) (over bits x) u (own_source x u p h t y whole place s before) y.within y.entries y.kept.typing p y.«package»
+  ])
 
-    module _ (empty : package_at w [] ≡ None) where
-      stay_in : AllStay w
-      stay_in = all_stay all_in empty world.become world.all_typed (all_new bits us apart.own_paths paths) (keeps_none bits us apart.own_paths paths) (λ path q e. none_some (first_with path_of no_packages.packages path) q refl e)
+  pub stands_alone : StdStandsAlone w
+  stands_alone = record { names = λ path p e s. names_pass w p (all_std path p e s); selectors = λ path p e s. selectors_pass w p (all_std path p e s) }
 
-      object_stays : (path : List ℕ) (c : Option Package) (o : Object) → package_at w path ≡ c → object_in c o.name ≡ Some o → EntityHasStdMethods w o.entity
-      object_stays path None o f e = none_some (object_in None o.name) o refl e
-      object_stays path (Some p) o f e = entity_methods w o.entity ((stay_in path p f).entities o (first_has object_name p.objects o.name o e))
+  object_stays : (path : List ℕ) (c : Option Package) (o : Object) → package_at w path ≡ c → object_in c o.name ≡ Some o → EntityHasStdMethods w o.entity
+  object_stays path None o f e = none_some (object_in None o.name) o refl e
+  object_stays path (Some p) o f e = entity_methods w o.entity ((all_stay path p f).entities o (first_has object_name p.objects o.name o e))
 
-      type_stays : (n : TypeName) (d : Defined) → entry (types_of w) n ≡ Some d → DefinedMade (AnyName w) (AnyLabel w) (Stays w) d
-      type_stays n d e = elim (either (is_error n)) [
-        | inl q ↦ subst (DefinedMade (AnyName w) (AnyLabel w) (Stays w)) (some_once error_type d (sym (if_true (is_error n) (Some error_type) (types_of w n) q) ∙ e))
-            (error_kept (AnyName w) (AnyLabel w) (Stays w) (AnyPath w) (exported_stays w empty (method_sel error_method) (out-Method error_method).signature error_sel))
-        | inr q ↦ found_defined (AnyName w) (AnyLabel w) (Stays w) (AnyPath w) (first_with path_of w.packages n.path) n.name d (λ p f. stay_in n.path p f) (sym (if_false (is_error n) (Some error_type) (types_of w n) q) ∙ e)
-      ]
+  type_stays : (n : TypeName) (d : Defined) → entry (types_of w) n ≡ Some d → DefinedMade (AnyName w) (AnyLabel w) (Stays w) d
+  type_stays n d e = elim (either (is_error n)) [
+    | inl q ↦ subst (DefinedMade (AnyName w) (AnyLabel w) (Stays w)) (some_once error_type d (sym (if_true (is_error n) (Some error_type) (types_of w n) q) ∙ e))
+        (error_kept (AnyName w) (AnyLabel w) (Stays w) (AnyPath w) (exported_stays w empty (method_sel error_method) (out-Method error_method).signature error_sel))
+    | inr q ↦ found_defined (AnyName w) (AnyLabel w) (Stays w) (AnyPath w) (first_with path_of w.packages n.path) n.name d (λ p f. all_stay n.path p f) (sym (if_false (is_error n) (Some error_type) (types_of w n) q) ∙ e)
+  ]
 
-      pub methods_stay : StdMethodsStay w
-      methods_stay = record {
-        objects = λ path o x. object_stays path (package_at w path) o refl x.there;
-        beneath = λ n d e. with_methods w d.underlying (type_stays n d e).beneath;
-        declared = λ n d m e k. (let x = (type_stays n d e).methods m k in (with_methods w (function_type m.signature) x.0, x.1));
-      }
+  pub methods_stay : StdMethodsStay w
+  methods_stay = record {
+    objects = λ path o x. object_stays path (package_at w path) o refl x.there;
+    beneath = λ n d e. with_methods w d.underlying (type_stays n d e).beneath;
+    declared = λ n d m e k. (let x = (type_stays n d e).methods m k in (with_methods w (function_type m.signature) x.0, x.1));
+  }

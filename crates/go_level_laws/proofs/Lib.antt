@@ -3,6 +3,7 @@ pub use Rattle.go_unit_worlds.proofs.go_typed_packages_proofs as go_typed_packag
 pub mod Places
 pub mod KnownWorlds
 pub mod SameSkipped
+pub mod Standing
 pub mod LowerWorlds
 pub mod Turns
 pub mod Orders

@@ -14,7 +14,9 @@ use Rattle.go_model.specs.declared.types.package.Package.{Package}
 use Rattle.go_model.specs.types.Terms.{is_error}
 use Rattle.go_model.specs.worlds.PackageTypes.{package_names}
 use Rattle.go_model.specs.worlds.Worlds.{Packages, path_of}
-use Rattle.go_unit_worlds.proofs.go_std_worlds_proofs.MoreLists.{has_key, key_finds, passes_two}
+use Rattle.go_unit_worlds.proofs.go_taken_packages_proofs.KeptPaths.{has_key, key_finds}
+use Rattle.go_unit_worlds.proofs.go_taken_packages_proofs.SameReach.{or_right}
+use Rattle.go_unit_worlds.proofs.go_taken_packages_proofs.SoFar.{both, first_of as left_of, or_more, second_of as right_of}
 use Rattle.go_unit_worlds.proofs.go_taken_packages_proofs.TypedNames.{typed_names}
 use Rattle.go_unit_worlds.specs.go_std_worlds.StdSources.{HaveOwnPaths, HavePaths}
 use Rattle.go_typings.proofs.Cells.{either, if_false, if_true, maybe, none_some, some_once}
@@ -23,12 +25,12 @@ use Rattle.go_typings.proofs.ReachedRegion.{or_second, weaker}
 use Rattle.go_typings.specs.PackageWorlds.{AreTyped, Outcome, typed, refused, blocked, no_packages, over}
 use Rattle.go_typings.specs.ReachedPackages.{AreReached, HoldImports, ReachesSame, is_reached}
 use Rattle.go_typings.specs.Sources.{Import, PackageSource, imports_of}
-use Rattle.go_unit_worlds.proofs.WorldsInTurn.{or_right, stands_at, stands_either, stands_found, stands_in, stands_nowhere}
 use Rattle.go_level_laws.specs.ByLevels.{BecomeByLevels, Outcomes, world_below, world_of}
 use Rattle.go_level_laws.specs.Levels.{Needs, NeedsOther, Rises}
 use Rattle.go_level_laws.proofs.KnownWorlds.{HavePathsOf, TypedAt, found_from, found_in, held_from, one_number}
 use Rattle.go_level_laws.proofs.Places.{HasPath}
 use Rattle.go_level_laws.proofs.SameSkipped.{skipped_as_same}
+use Rattle.go_level_laws.proofs.Standing.{passes_two, stands_at, stands_either, stands_found, stands_in, stands_nowhere}
 
 -- what became of these alone
 abbrev pub only : (ℕ → Bool) → Outcomes → Outcomes
@@ -57,21 +59,6 @@ pub outcome_path : (bits : ℕ) (w : Packages) (u : PackageSource) (x : Outcome)
 outcome_path bits w u (typed p) b = b.1.«package».path
 outcome_path bits w u (refused r) b = tt
 outcome_path bits w u blocked b = tt
-
-both : (a b : Bool) → a ≡ true → b ≡ true → (a && b) ≡ true
-both a b e f = ap (λ z. z && b) e ∙ f
-
-left_of : (a b : Bool) → (a && b) ≡ true → a ≡ true
-left_of true b e = refl
-left_of false b e = e
-
-right_of : (a b : Bool) → (a && b) ≡ true → b ≡ true
-right_of true b e = e
-right_of false b e = let g : false ≡ true = e in absurd (cc)
-
-or_more : (a b c : Bool) → (b ≡ true → c ≡ true) → (a || b) ≡ true → (a || c) ≡ true
-or_more true b c h e = refl
-or_more false b c h e = h e
 
 or_both : (a b c : Bool) → (a || b) ≡ true → (a || c) ≡ true → (a || (b && c)) ≡ true
 or_both true b c e f = refl

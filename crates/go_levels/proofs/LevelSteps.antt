@@ -9,7 +9,7 @@ use Rattle.go_base.specs.Lists.{Has}
 use Rattle.go_rules.proofs.NamedEntries.{put_is}
 use Rattle.go_rules.specs.Names.{Named, value_at, with_value}
 use Rattle.go_sources.specs.UnitSources.{file_of, import_of, source_of}
-use Rattle.go_level_laws.proofs.go_std_worlds_proofs.MoreLists.{mapped}
+use Rattle.go_level_laws.proofs.go_std_worlds_proofs.go_taken_packages_proofs.KeptPaths.{mapped}
 use Rattle.go_level_laws.specs.go_std_worlds.StdSources.{HaveOwnPaths}
 use Rattle.go_typings.proofs.Cells.{either, none_some, some_once}
 use Rattle.go_typings.specs.Sources.{PackageSource, SourceFile, imports_in}

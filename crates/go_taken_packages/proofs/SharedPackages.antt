@@ -11,25 +11,26 @@ use Rattle.go_model.specs.worlds.Worlds.{Packages, path_of}
 use Rattle.go_rules.proofs.OneKind.{no_truth}
 use Rattle.go_typings.proofs.Cells.{either, none_some, some_once}
 use Rattle.go_typings.proofs.ReachedRegion.{or_second}
-use Rattle.go_typings.specs.PackageWorlds.{ComeAfterImports, over, typed}
+use Rattle.go_typings.specs.PackageWorlds.{AreTyped, ComeAfterImports, over, typed}
 use Rattle.go_typings.specs.Sources.{Import, PackageSource, imports_of}
+use Rattle.go_exposed.specs.OfferedPackages.{IsOfferedAs}
 use Rattle.go_exposed.specs.OfferedWorlds.{Becomes, IsWorldOf}
-use Rattle.go_taken_packages.proofs.KeptPaths.{once_at, rest_kept}
+use Rattle.go_taken_packages.proofs.KeptPaths.{key_finds, once_at, rest_kept}
 use Rattle.go_taken_packages.proofs.SameReach.{or_left, or_right}
 use Rattle.go_taken_packages.proofs.SoFar.{among, among_has, both, first_of, second_of}
-use Rattle.go_taken_packages.proofs.TakenOver.{packages, typed_in}
+use Rattle.go_taken_packages.proofs.TakenOver.{offered, packages, typed_in}
 use Rattle.go_taken_packages.proofs.WorldsInOrder.{in_order}
 use Rattle.go_taken_packages.specs.InOrder.{HavePathsOfTheirOwn, source_path}
-use Rattle.go_taken_packages.specs.TakenPaths.{AreTaken}
+use Rattle.go_taken_packages.specs.TakenPaths.{AreTaken, ImportsAreOf}
 use Rattle.go_taken_packages.specs.ToldPackages.{is_among}
 
 -- ---- packages of a list by their paths
 
 -- a package of the list that has the path
-abbrev IsAt : List PackageSource → List ℕ → Type 0
+abbrev pub IsAt : List PackageSource → List ℕ → Type 0
 IsAt us path = (u : PackageSource) × Has us u × (u.path ≡ path)
 
-at_path : (us : List PackageSource) (path : List ℕ) → Has (map source_path us) path → IsAt us path
+pub at_path : (us : List PackageSource) (path : List ℕ) → Has (map source_path us) path → IsAt us path
 at_path [] path h = absurd h
 at_path (u ∷ us) path (inl e) = (u, inl refl, e)
 at_path (u ∷ us) path (inr h) = let q = at_path us path h in (q.0, inr q.1, q.2)
@@ -48,7 +49,7 @@ module _ (bits : ℕ) (us : List PackageSource) (w : Packages) (own : HavePathsO
   imported u h file i has found = let a = in_order bits us w k in elim (listed_import us [] (a.1).after u h file i has found) [ inl n ↦ absurd n | inr j ↦ at_path us i.path j ]
 
   -- what stands at a path is typed as one of the list
-  written : (path : List ℕ) (p : Package) → first_with path_of w.packages path ≡ Some p → (u : PackageSource) × Has us u × (u.path ≡ path) × Becomes (over bits w) u (typed p)
+  pub written : (path : List ℕ) (p : Package) → first_with path_of w.packages path ≡ Some p → (u : PackageSource) × Has us u × (u.path ≡ path) × Becomes (over bits w) u (typed p)
   written path p e = elim (either (is_among (map source_path us) path)) [
     | inl f ↦ (
         let q = at_path us path (among_has (map source_path us) path f) in
@@ -58,6 +59,9 @@ module _ (bits : ℕ) (us : List PackageSource) (w : Packages) (own : HavePathsO
         )
     | inr f ↦ none_some (first_with path_of w.packages path) p (rest_kept bits path k.become (λ h. no_truth (sym (among (map source_path us) path h) ∙ f))) e
   ]
+
+  listed : (path : List ℕ) → Has (map path_of w.packages) path → IsAt us path
+  listed path h = let f = key_finds path_of w.packages path h in let u = written path f.0 f.1 in (u.0, u.1, u.2)
 
 -- ---- packages that count
 
@@ -91,6 +95,9 @@ module _ (counts : PackageSource → Bool) where
   import_counts bits us w own k c u h sure file i has found = let q = imported bits us w own k u h file i has found in has_at us i.path q.0 q.1 q.2 (c u q.0 file i h q.1 sure has found q.2)
 
   module _ (bits : ℕ) (us vs : List PackageSource) (w v : Packages) (own : HavePathsOfTheirOwn us) (other : HavePathsOfTheirOwn vs) (here : ImportsCount us) (there : ImportsCount vs) (same : (u z : PackageSource) → Has us u → Has vs z → u.path ≡ z.path → counts u ≡ true → u ≡ z) (k : IsWorldOf bits us w) (l : IsWorldOf bits vs v) where
+    imports_shared : (u : PackageSource) → Has us u → counts u ≡ true → ((file : ℕ) (i : Import) → Has (imports_of u file) i → i.is_found ≡ true → counts_at vs i.path ≡ true) → ImportsAreOf (in_both us vs) u
+    imports_shared u h c yonder file i has found = both (counts_at us i.path) (counts_at vs i.path) (import_counts bits us w own k here u h c file i has found) (yonder file i has found)
+
     pub shared_paths : AreTaken us vs (in_both us vs)
     shared_paths = record {
       same = λ path e. (
@@ -103,7 +110,7 @@ module _ (counts : PackageSource → Bool) where
           let b = at_has vs u.path (second_of (counts_at us u.path) (counts_at vs u.path) e) in
           let sure : counts u ≡ true = ap counts (sym (once_at us own.once a.0 u a.1 h a.2)) ∙ a.3 in
           let g = subst (Has vs) (sym (same u b.0 h b.1 (sym b.2) sure)) b.1 in
-          both (counts_at us i.path) (counts_at vs i.path) (import_counts bits us w own k here u h sure file i has found) (import_counts bits vs v other l there u g sure file i has found)
+          imports_shared u h sure (import_counts bits vs v other l there u g sure) file i has found
           );
     }
 
@@ -114,6 +121,13 @@ module _ (counts : PackageSource → Bool) where
         let there_too = has_at vs path z.0 z.1 z.2 (ap counts (sym is) ∙ c) in
         let r = packages bits us vs w v (in_both us vs) own other shared_paths k l path (both (counts_at us path) (counts_at vs path) (has_at us path u h e c) there_too) in
         some_once p q (sym f ∙ r.1 ∙ sym r.2 ∙ g)
+
+    -- one that counts is offered over the second world, too, where its imports are typed there and count
+    pub offered_too : (u : PackageSource) → Has us u → counts u ≡ true → AreTyped v u → ((z : PackageSource) (file : ℕ) (i : Import) → Has vs z → Has (imports_of u file) i → i.is_found ≡ true → z.path ≡ i.path → counts z ≡ true) → (p : Package) × IsOfferedAs (over bits v) u p
+    offered_too u h c t sure =
+        let q = typed_in bits us w own k u h in
+        let imports = imports_shared u h c (λ file i has found. (let z = listed bits vs v other l i.path (t file i has found) in has_at vs i.path z.0 z.1 z.2 (sure z.0 file i z.1 has found z.2))) in
+        (q.0, (offered bits us vs w v (in_both us vs) own other shared_paths k l u q.0 h imports q.1.1).1)
 
 -- ---- the cases
 

@@ -3,4 +3,3 @@ pub use Rattle.go_std_worlds.proofs.go_taken_packages_proofs as go_taken_package
 pub use Rattle.go_std_worlds.proofs.go_typed_packages_proofs as go_typed_packages_proofs
 pub mod JoinedInTurn
 pub mod SharedWorlds
-pub mod WorldsInTurn

@@ -8,7 +8,7 @@ use Rattle.go_model.specs.declared.types.package.Package.{Package}
 use Rattle.go_model.specs.types.Terms.{client_path}
 use Rattle.go_model.specs.worlds.Worlds.{IsWorld, Packages, path_of, with_package}
 use Rattle.go_sources.specs.UnitSources.{source_of}
-use Rattle.go_levels.proofs.go_std_worlds_proofs.MoreLists.{has_key}
+use Rattle.go_levels.proofs.go_std_worlds_proofs.go_taken_packages_proofs.KeptPaths.{has_key}
 use Rattle.go_levels.specs.go_std_worlds.StdSources.{source_path}
 use Rattle.go_levels.proofs.go_typed_packages_proofs.JoinedWorlds.{offered_joins}
 use Rattle.go_typings.proofs.Cells.{either, maybe, none_some}
