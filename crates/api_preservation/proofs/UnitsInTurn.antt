@@ -8,7 +8,8 @@ use Rattle.go_existence.proofs.FiniteSets.{without}
 use Rattle.go_existence.specs.Existence.{NotNone}
 use Rattle.go_imports.proofs.Members.{has_back, has_last, has_left}
 use Rattle.go_load.proofs.FolderOrder.{before_trans, not_before_itself}
-use Rattle.go_reading.proofs.ListFacts.{map_more, mapped_from}
+use Rattle.go_reading.proofs.ListFacts.{mapped_from}
+use Rattle.go_std_worlds.proofs.OwnPaths.{in_order as once_paths, unit_path}
 use Rattle.go_typings.proofs.Cells.{either}
 use Rattle.go_units.specs.UnitOrders.{AreInOrder, InOrder, IsMet, Stands, next, none}
 use Rattle.go_units.specs.declared.unit.«Unit».{«Unit» as PackageUnit}
@@ -145,10 +146,6 @@ module _ (all : List PackageUnit) where
 -- ---- how many there are
 
 module _ {A : Type 0} where
-  once_last : (xs : List A) (x : A) → Once xs → (Has xs x → ⊥) → Once (xs ++ x ∷ [])
-  once_last [] x o fresh = ((λ h. h), tt)
-  once_last (y ∷ xs) x o fresh = ((λ h. elim (has_back xs x y h) [ inl k ↦ o.0 k | inr e ↦ fresh (inl (sym e)) ]), once_last xs x o.1 (λ h. fresh (inr h)))
-
   -- things that each stand once and are among others are no more than these
   short : (xs ys : List A) → Once xs → ((x : A) → Has xs x → Has ys x) → length xs ≤ length ys
   short [] ys once f = omega arith
@@ -157,19 +154,11 @@ module _ {A : Type 0} where
       let l = short xs rest.0 once.1 (λ z h. elim (rest.2 z (f z (inr h))) [ inl e ↦ absurd (once.0 (subst (Has xs) (sym e) h)) | inr k ↦ k ]) in
       let e = rest.1 in omega (arith, l, e)
 
-abbrev unit_path : PackageUnit → List ℕ
-unit_path u = u.path
-
-once_paths : {among : PackageUnit → Type 0} {us : List PackageUnit} → InOrder among us → Once (map unit_path us)
-once_paths none = tt
-once_paths (next {standing = s} {u = u} o n) =
-    subst Once (sym (map_more unit_path s (u ∷ []))) (once_last (map unit_path s) (unit_path u) (once_paths o) (λ h. let q = mapped_from unit_path s (unit_path u) h in n.fresh (q.0, q.1, q.2)))
-
 length_paths : (us : List PackageUnit) → length (map unit_path us) ≡ length us
 length_paths [] = refl
 length_paths (u ∷ us) = ap suc (length_paths us)
 
 pub fewer_units : {among : PackageUnit → Type 0} {us : List PackageUnit} → InOrder among us → (paths : List (List ℕ)) → ((u : PackageUnit) → Has us u → Has paths u.path) → length us ≤ length paths
-fewer_units {us = us} o paths f =
-    let l = short (map unit_path us) paths (once_paths o) (λ path h. (let q = mapped_from unit_path us path h in subst (Has paths) q.2 (f q.0 q.1))) in
+fewer_units {among = among} {us = us} o paths f =
+    let l = short (map unit_path us) paths (once_paths among o) (λ path h. (let q = mapped_from unit_path us path h in subst (Has paths) q.2 (f q.0 q.1))) in
     let e = length_paths us in omega (arith, l, e)

@@ -2,7 +2,6 @@ pub use Rattle.go_unit_worlds.proofs.go_std_worlds_proofs as go_std_worlds_proof
 pub use Rattle.go_unit_worlds.proofs.go_typed_packages_proofs as go_typed_packages_proofs
 pub mod Places
 pub mod KnownWorlds
-pub mod SameSkipped
 pub mod Standing
 pub mod LowerWorlds
 pub mod Turns

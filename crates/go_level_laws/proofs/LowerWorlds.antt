@@ -1,5 +1,5 @@
 -- Over two worlds of typed packages that both hold all that a package needs, the same becomes of it.
-use Rattle.std.proofs.Common.{◌≡◌, ◌<◌, ℕ, zero, suc, Bool, true, false, ◌&&◌, ◌||◌, List, [], ◌∷◌, Some, None, slice_get, refl, sym, ap, ◌∙◌, subst, inl, inr, if◌then◌else◌, arith}
+use Rattle.std.proofs.Common.{◌≡◌, ◌<◌, ℕ, zero, suc, Bool, true, false, ◌&&◌, ◌||◌, List, [], Some, None, slice_get, refl, sym, ap, ◌∙◌, subst, inl, inr, if◌then◌else◌, arith}
 use Rattle.std.specs.Prelude.{nat_lt}
 use Rattle.std.specs.Str.{bytes_eq}
 use Rattle.std.proofs.lemmas.Bool.Decides.{nat_tests}
@@ -15,7 +15,9 @@ use Rattle.go_model.specs.types.Terms.{is_error}
 use Rattle.go_model.specs.worlds.PackageTypes.{package_names}
 use Rattle.go_model.specs.worlds.Worlds.{Packages, path_of}
 use Rattle.go_unit_worlds.proofs.go_taken_packages_proofs.KeptPaths.{has_key, key_finds}
+use Rattle.go_unit_worlds.proofs.go_taken_packages_proofs.OverAll.{has_place}
 use Rattle.go_unit_worlds.proofs.go_taken_packages_proofs.SameReach.{or_right}
+use Rattle.go_unit_worlds.proofs.go_taken_packages_proofs.SameSkipped.{skipped_same}
 use Rattle.go_unit_worlds.proofs.go_taken_packages_proofs.SoFar.{both, first_of as left_of, or_more, second_of as right_of}
 use Rattle.go_unit_worlds.proofs.go_taken_packages_proofs.TypedNames.{typed_names}
 use Rattle.go_unit_worlds.specs.go_std_worlds.StdSources.{HaveOwnPaths, HavePaths}
@@ -29,7 +31,6 @@ use Rattle.go_level_laws.specs.ByLevels.{BecomeByLevels, Outcomes, world_below, 
 use Rattle.go_level_laws.specs.Levels.{Needs, NeedsOther, Rises}
 use Rattle.go_level_laws.proofs.KnownWorlds.{HavePathsOf, TypedAt, found_from, found_in, held_from, one_number}
 use Rattle.go_level_laws.proofs.Places.{HasPath}
-use Rattle.go_level_laws.proofs.SameSkipped.{skipped_as_same}
 use Rattle.go_level_laws.proofs.Standing.{passes_two, stands_at, stands_either, stands_found, stands_in, stands_nowhere}
 
 -- what became of these alone
@@ -116,14 +117,9 @@ module _ (bits : ℕ) (us : List PackageSource) (own : HaveOwnPaths us) (some : 
 
   nothing_empty : (S : ℕ → Bool) → found_in (world S) [] ≡ None
   nothing_empty S = elim (maybe (found_in (world S) [])) [
-    | inl q ↦ (let t = found S [] q.0 q.1 in absurd (some t.source (source_there us t.number t.source t.is) t.place))
+    | inl q ↦ (let t = found S [] q.0 q.1 in absurd (some t.source (has_place us t.number t.source t.is) t.place))
     | inr n ↦ n
   ]
-    where
-      source_there : (us : List PackageSource) (n : ℕ) (u : PackageSource) → slice_get us n ≡ Some u → Has us u
-      source_there [] n u e = none_some (slice_get [] n) u refl e
-      source_there (v ∷ us) zero u e = inl (some_once v u e)
-      source_there (v ∷ us) (suc n) u e = inr (source_there us n u e)
 
   abbrev shared : (ℕ → Bool) → (ℕ → Bool) → List ℕ → Bool
   shared S T path = stands_in (world S) path && stands_in (world T) path
@@ -266,6 +262,6 @@ module _ (bits : ℕ) (us : List PackageSource) (own : HaveOwnPaths us) (some : 
       becomes_there blocked b = λ t. b (typed_there T S u needs_here t)
 
       pub skips_there : (x : Outcome) (xs : List Skipped) → Becomes (over bits (world S)) u x → IsSkippedAs (over bits (world S)) u x xs → IsSkippedAs (over bits (world T)) u x xs
-      skips_there (typed p) xs b k = let t = typed_there S T u needs_yonder b.0 in skipped_as_same u (over bits (world S)) (over bits (world T)) (reaches_same b.0 t) (held_imports S T u b.0 t) (typed p) xs k
+      skips_there (typed p) xs b k = let t = typed_there S T u needs_yonder b.0 in skipped_same u (over bits (world S)) (over bits (world T)) (reaches_same b.0 t) (held_imports S T u b.0 t) xs k
       skips_there (refused r) xs b k = k
       skips_there blocked xs b k = k

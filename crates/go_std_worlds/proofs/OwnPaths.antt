@@ -23,10 +23,10 @@ module _ {A : Type 0} where
   once_once [] a b = refl
   once_once (x ∷ xs) a b = let e = never a.0 b.0 in let f = once_once xs a.1 b.1 in λ i. (e i, f i)
 
-abbrev unit_path : PackageUnit → List ℕ
+abbrev pub unit_path : PackageUnit → List ℕ
 unit_path u = u.path
 
-in_order : (among : PackageUnit → Type 0) {units : List PackageUnit} → InOrder among units → Once (map unit_path units)
+pub in_order : (among : PackageUnit → Type 0) {units : List PackageUnit} → InOrder among units → Once (map unit_path units)
 in_order among none = tt
 in_order among (next {standing = s} {u = u} o n) =
     subst Once (sym (map_more unit_path s (u ∷ []))) (once_last (map unit_path s) (unit_path u) (in_order among o) (λ h. let q = mapped_from unit_path s (unit_path u) h in n.fresh (q.0, q.1, q.2)))
